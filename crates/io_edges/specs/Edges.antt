@@ -1,0 +1,40 @@
+-- What the calls on files, sources and sinks do.
+use Rattle.std.specs.Prelude.{◌≡◌, ℕ, ◌+◌, ◌<◌, ◌≤◌, List, ◌++◌, length, take, Option, Some, None}
+use Rattle.std.specs.Io.{StartsWith}
+use Rattle.std.specs.Io.KnownBytes.{Appends, Consumes, Keeps, IsAtEnd}
+use Rattle.io_edges.specs.declared.Fetched.{Fetched}
+use Rattle.io_edges.specs.declared.Fetched.TheVariants.{Found, Absent, Failed, NoMemory}
+use Rattle.io_edges.specs.declared.Got.{Got}
+use Rattle.io_edges.specs.declared.Got.TheVariants as got
+use Rattle.io_edges.specs.declared.Put.{Put}
+use Rattle.io_edges.specs.declared.Put.TheVariants as put
+
+-- as many bytes of a file as are taken: one more than a layer may have
+abbrev pub most : ℕ
+most = 67108865
+
+-- what a fetch leaves in the buffer, whatever the file has
+abbrev pub FetchLeaves : Fetched → List ℕ → List ℕ → Type 0
+FetchLeaves Found old new = StartsWith new old × (length new ≤ length old + most)
+FetchLeaves Absent old new = new ≡ old
+FetchLeaves Failed old new = StartsWith new old
+FetchLeaves NoMemory old new = StartsWith new old
+
+-- what a fetch tells of this file, or of none of that name
+abbrev pub FetchTells : Fetched → Option (List ℕ) → List ℕ → List ℕ → Type 0
+FetchTells Found file old new = (bytes : List ℕ) × (file ≡ Some bytes) × (new ≡ old ++ take most bytes)
+FetchTells Absent file old new = file ≡ None
+FetchTells Failed file old new = Unit {0}
+FetchTells NoMemory file old new = Unit {0}
+
+-- what a read takes from the bytes that are left and puts at the front of the buffer
+abbrev pub ReadTakes : Got → Option (List ℕ) → Option (List ℕ) → List ℕ → Type 0
+ReadTakes (got.Bytes n) old new buf = (0 < n) × (n ≤ length buf) × Consumes old new (take n buf)
+ReadTakes got.End old new buf = IsAtEnd old × Keeps old new
+ReadTakes got.Failed old new buf = Keeps old new
+
+-- what a write adds to the bytes taken
+abbrev pub WriteTakes : Put → Option (List ℕ) → Option (List ℕ) → List ℕ → Type 0
+WriteTakes (put.Took n) old new piece = (0 < n) × (n ≤ length piece) × Appends old new (take n piece)
+WriteTakes put.Failed old new piece = Keeps old new
+WriteTakes put.NoMemory old new piece = Keeps old new

@@ -1,0 +1,4 @@
+pub mod Causes
+pub mod Edges
+pub mod Plans
+pub mod Stores

@@ -1,0 +1,13 @@
+-- Which calls of an object in memory are to fail.
+use Rattle.std.specs.Prelude.{ℕ, Bool, List, if◌then◌else◌}
+use Rattle.io_edges.specs.Causes.{one_more}
+
+-- the numbers of the calls that are to fail, how many calls there were, and how many of them failed
+pub record Plan : Type 0 where
+  pub failing : List ℕ
+  pub calls : ℕ
+  pub faults : ℕ
+
+-- the plan after one more call, which failed or not
+abbrev pub after_call : Plan → Bool → Plan
+after_call p failed = record { failing = p.failing; calls = one_more p.calls; faults = if failed then one_more p.faults else p.faults }

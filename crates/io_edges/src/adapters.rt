@@ -1,0 +1,196 @@
+//! The files of the working folder, standard input and standard output.
+//!
+//! What these hold is not told: they are the trusted edge of the program.
+
+ghost use Rattle.std.specs.Prelude.{◌≡◌, ◌≢◌, None};
+ghost use Rattle.io_edges.specs.Edges.{FetchLeaves};
+
+use crate::{Fetched, Got, LayerFiles, MOST_BYTES, Put, Sink, Source};
+use std::fs;
+use std::io::{self, ErrorKind, Read, Write};
+use std::marker::Model;
+use std::rt::Files;
+
+// How many bytes of a file are read at once.
+const PIECE: usize = 65_536;
+
+/// The files of the machine, a relative name being taken from the working folder. Contracts see the count of faults.
+#[derive(Drop)]
+pub struct FolderFiles<R: Files + Drop> {
+    rt: R,
+    faults: u64,
+}
+
+impl<R: Files + Drop> Model for FolderFiles<R> {
+    ghost use Rattle.std.specs.Prelude.{ℕ};
+
+    ghost Value = { ℕ };
+
+    ghost view = { λ s. s.faults };
+}
+
+impl<R: Files + Drop> FolderFiles<R> {
+    /// The files that this runtime reaches.
+    pub fn new(rt: R) -> FolderFiles<R>
+        ensures { result ≡ 0 }
+    {
+        FolderFiles { rt, faults: 0 }
+    }
+}
+
+// What a file that could not be opened is: a missing one is no fault.
+fn fault_of(e: &io::Error) -> Fetched
+    ensures { result ≢ Fetched.Found }
+{
+    match e.kind() {
+        ErrorKind::NotFound => Fetched::Absent,
+        ErrorKind::OutOfMemory => Fetched::NoMemory,
+        _ => Fetched::Failed,
+    }
+}
+
+// Adds what a reader gives, at most `MOST_BYTES`.
+fn append_all<T: Read>(reader: &mut T, into: &mut Vec<u8>) -> Fetched
+    ensures leaves { FetchLeaves result into.old.items into.new.items }
+    ensures present { result ≢ Fetched.Absent }
+{
+    let mut piece = [0u8; PIECE];
+    let mut left = MOST_BYTES;
+    for _ in 0..u64::MAX {
+        let room = left.min(PIECE);
+        if room == 0 {
+            return Fetched::Found;
+        }
+        match reader.read(&mut piece[..room]) {
+            Ok(0) => return Fetched::Found,
+            Ok(n) => {
+                if into.extend_from_slice(&piece[..n]).is_err() {
+                    return Fetched::NoMemory;
+                }
+                left = left - n;
+            }
+            Err(e) => match e.kind() {
+                ErrorKind::Interrupted => {}
+                ErrorKind::OutOfMemory => return Fetched::NoMemory,
+                _ => return Fetched::Failed,
+            },
+        }
+    }
+    Fetched::Failed
+}
+
+impl<R: Files + Drop> LayerFiles for FolderFiles<R> {
+    ghost files = { λ _. None };
+
+    ghost faults = { λ count. count };
+
+    fn fetch(&mut self, name: &str, into: &mut Vec<u8>) -> Fetched {
+        let fetched = match fs::open(&self.rt, name) {
+            Ok(mut file) => append_all(&mut file, into),
+            Err(e) => fault_of(&e),
+        };
+        if fetched == Fetched::Failed {
+            self.faults = self.faults.saturating_add(1);
+        }
+        fetched
+    }
+}
+
+/// A source over a reader, as standard input. Contracts see the count of faults.
+#[derive(Drop)]
+pub struct StdSource<T: Read + Drop> {
+    inner: T,
+    faults: u64,
+}
+
+impl<T: Read + Drop> Model for StdSource<T> {
+    ghost use Rattle.std.specs.Prelude.{ℕ};
+
+    ghost Value = { ℕ };
+
+    ghost view = { λ s. s.faults };
+}
+
+impl<T: Read + Drop> StdSource<T> {
+    /// A source of what this reader gives.
+    pub fn new(inner: T) -> StdSource<T>
+        ensures { result ≡ 0 }
+    {
+        StdSource { inner, faults: 0 }
+    }
+}
+
+impl<T: Read + Drop> Source for StdSource<T> {
+    ghost left = { λ _. None };
+
+    ghost faults = { λ count. count };
+
+    fn read(&mut self, into: &mut [u8]) -> Got {
+        for _ in 0..u64::MAX {
+            match self.inner.read(into) {
+                Ok(0) => return Got::End,
+                Ok(n) => return Got::Bytes(n),
+                Err(e) => {
+                    self.faults = self.faults.saturating_add(1);
+                    if e.kind() != ErrorKind::Interrupted {
+                        return Got::Failed;
+                    }
+                }
+            }
+        }
+        self.faults = self.faults.saturating_add(1);
+        Got::Failed
+    }
+}
+
+/// A sink over a writer, as standard output. Contracts see the count of faults.
+#[derive(Drop)]
+pub struct StdSink<W: Write + Drop> {
+    inner: W,
+    faults: u64,
+}
+
+impl<W: Write + Drop> Model for StdSink<W> {
+    ghost use Rattle.std.specs.Prelude.{ℕ};
+
+    ghost Value = { ℕ };
+
+    ghost view = { λ s. s.faults };
+}
+
+impl<W: Write + Drop> StdSink<W> {
+    /// A sink that hands on to this writer.
+    pub fn new(inner: W) -> StdSink<W>
+        ensures { result ≡ 0 }
+    {
+        StdSink { inner, faults: 0 }
+    }
+}
+
+impl<W: Write + Drop> Sink for StdSink<W> {
+    ghost taken = { λ _. None };
+
+    ghost faults = { λ count. count };
+
+    fn write(&mut self, piece: &[u8]) -> Put {
+        for _ in 0..u64::MAX {
+            match self.inner.write(piece) {
+                Ok(0) => {
+                    self.faults = self.faults.saturating_add(1);
+                    return Put::Failed;
+                }
+                Ok(n) => return Put::Took(n),
+                Err(e) => {
+                    self.faults = self.faults.saturating_add(1);
+                    match e.kind() {
+                        ErrorKind::Interrupted => {}
+                        ErrorKind::OutOfMemory => return Put::NoMemory,
+                        _ => return Put::Failed,
+                    }
+                }
+            }
+        }
+        self.faults = self.faults.saturating_add(1);
+        Put::Failed
+    }
+}

@@ -1,0 +1,349 @@
+//! Files, sources and sinks in memory: the ones that never fail, and the same with faults at calls of given numbers.
+
+ghost use Rattle.std.specs.Prelude.{◌≡◌, ◌+◌, ◌++◌, ◌<◌, ◌≤◌, [], Some, length, take, drop, map, OnOk, OnErr};
+ghost use Rattle.std.specs.Option.{option_copied};
+ghost use Rattle.io_edges.specs.Edges.{most, FetchTells, FetchLeaves, WriteTakes};
+ghost use Rattle.io_edges.specs.Stores.{entry_of, file_named};
+
+use crate::faults::FaultPlan;
+use crate::{Fetched, Gate, GatePoint, Got, LayerFiles, MOST_BYTES, Put, Sink, Source};
+use std::alloc::{AllocError, Global};
+use std::marker::Model;
+
+// Adds a file's first bytes.
+fn append_file(file: &[u8], into: &mut Vec<u8>) -> Result<(), AllocError>
+    ensures ok { OnOk result (into.new.items ≡ into.old.items ++ take most file.now) }
+    ensures err { OnErr result (into.new.items ≡ into.old.items) }
+{
+    let len = file.len().min(MOST_BYTES);
+    into.extend_from_slice(&file[..len])
+}
+
+// The first file of this name.
+fn find_file<'f>(files: &'f [(String, Vec<u8>)], name: &str) -> Option<&'f [u8]>
+    ensures { option_copied result ≡ file_named (map entry_of files.now) name.now }
+{
+    for (key, bytes) in files {
+        if key.as_str() == name {
+            return Some(bytes.as_slice());
+        }
+    }
+    None
+}
+
+fn fetch_from(files: &[(String, Vec<u8>)], name: &str, into: &mut Vec<u8>) -> Fetched
+    ensures tells { FetchTells result (file_named (map entry_of files.now) name.now) into.old.items into.new.items }
+    ensures leaves { FetchLeaves result into.old.items into.new.items }
+    ensures sure { result ≡ Fetched.Failed → ⊥ }
+{
+    match find_file(files, name) {
+        None => Fetched::Absent,
+        Some(file) => match append_file(file, into) {
+            Ok(()) => Fetched::Found,
+            Err(_) => Fetched::NoMemory,
+        },
+    }
+}
+
+/// Files that are always there. Of a name that is given twice, the first counts.
+#[derive(Drop)]
+pub struct SureFiles {
+    files: Vec<(String, Vec<u8>)>,
+}
+
+impl Model for SureFiles {
+    ghost use Rattle.std.specs.Prelude.{List, map};
+    ghost use Rattle.io_edges.specs.Stores.{Entry, entry_of};
+
+    ghost Value = { List Entry };
+
+    ghost view = { λ s. map entry_of s.files.items };
+}
+
+impl SureFiles {
+    /// These files, each a name and its bytes.
+    pub fn new(files: Vec<(String, Vec<u8>)>) -> SureFiles
+        ensures { result ≡ map entry_of files.items }
+    {
+        SureFiles { files }
+    }
+}
+
+impl LayerFiles for SureFiles {
+    ghost files = { λ s. Some (file_named s) };
+
+    ghost faults = { λ _. 0 };
+
+    fn fetch(&mut self, name: &str, into: &mut Vec<u8>) -> Fetched {
+        fetch_from(&self.files, name, into)
+    }
+}
+
+/// Files of which some fetches fail.
+#[derive(Drop)]
+pub struct MemoryFiles {
+    files: SureFiles,
+    plan: FaultPlan,
+}
+
+impl Model for MemoryFiles {
+    ghost use Rattle.io_edges.specs.Stores.{FailingFiles};
+
+    ghost Value = { FailingFiles };
+
+    ghost view = { λ s. record { files = s.files; plan = s.plan } };
+}
+
+impl MemoryFiles {
+    /// These files, of which the fetches of these numbers fail, counted from 1.
+    pub fn new(files: Vec<(String, Vec<u8>)>, failing: Vec<u64>) -> MemoryFiles
+        ensures files { result.files ≡ map entry_of files.items }
+        ensures plan { result.plan ≡ record { failing = failing.items; calls = 0; faults = 0 } }
+    {
+        MemoryFiles {
+            files: SureFiles::new(files),
+            plan: FaultPlan::new(failing),
+        }
+    }
+}
+
+impl LayerFiles for MemoryFiles {
+    ghost files = { λ s. Some (file_named s.files) };
+
+    ghost faults = { λ s. s.plan.faults };
+
+    fn fetch(&mut self, name: &str, into: &mut Vec<u8>) -> Fetched {
+        if self.plan.fails_now() {
+            return Fetched::Failed;
+        }
+        self.files.fetch(name, into)
+    }
+}
+
+/// A source of bytes that never fails.
+#[derive(Drop)]
+pub struct SureSource {
+    bytes: Vec<u8>,
+    step: usize,
+    at: usize,
+}
+
+impl Model for SureSource {
+    ghost use Rattle.std.specs.Prelude.{◌<◌, ◌≤◌, drop, length};
+    ghost use Rattle.io_edges.specs.Stores.{Stream};
+
+    ghost Value = { Stream };
+
+    ghost view = { λ s. record { left = drop s.at s.bytes.items; step = s.step } };
+
+    ghost invariant = { λ s. (s.at ≤ length s.bytes.items) × (0 < s.step) };
+}
+
+impl SureSource {
+    /// A source of these bytes, which moves at most `step` of them a read.
+    pub fn new(bytes: Vec<u8>, step: usize) -> SureSource
+        requires { 0 < step }
+        ensures { result ≡ record { left = bytes.items; step = step } }
+    {
+        SureSource { bytes, step, at: 0 }
+    }
+}
+
+// The bytes from a place on.
+fn rest_of(bytes: &[u8], at: usize) -> &[u8]
+    requires { at ≤ length bytes.now }
+    ensures { result.now ≡ drop at bytes.now }
+{
+    &bytes[at..]
+}
+
+// Puts the first bytes of a text at the front of the buffer, and says how many.
+fn give(text: &[u8], step: usize, into: &mut [u8]) -> usize
+    ensures within { result ≤ length text.now }
+    ensures room { result ≤ length into.new }
+    ensures front { take result into.new ≡ take result text.now }
+    ensures some { 0 < step → 0 < length text.now → 0 < length into.old → 0 < result }
+{
+    let len = text.len().min(step).min(into.len());
+    into[..len].copy_from_slice(&text[..len]);
+    len
+}
+
+impl Source for SureSource {
+    ghost left = { λ s. Some s.left };
+
+    ghost faults = { λ _. 0 };
+
+    fn read(&mut self, into: &mut [u8]) -> Got {
+        let text = rest_of(&self.bytes, self.at);
+        if text.is_empty() {
+            return Got::End;
+        }
+        let len = give(text, self.step, into);
+        self.at = self.at + len;
+        Got::Bytes(len)
+    }
+}
+
+/// A source of bytes, of which some reads fail.
+#[derive(Drop)]
+pub struct MemorySource {
+    source: SureSource,
+    plan: FaultPlan,
+}
+
+impl Model for MemorySource {
+    ghost use Rattle.io_edges.specs.Stores.{FailingStream};
+
+    ghost Value = { FailingStream };
+
+    ghost view = { λ s. record { stream = s.source; plan = s.plan } };
+}
+
+impl MemorySource {
+    /// A source of these bytes, which moves at most `step` of them a read. The reads of these numbers fail, counted
+    /// from 1.
+    pub fn new(bytes: Vec<u8>, step: usize, failing: Vec<u64>) -> MemorySource
+        requires { 0 < step }
+        ensures stream { result.stream ≡ record { left = bytes.items; step = step } }
+        ensures plan { result.plan ≡ record { failing = failing.items; calls = 0; faults = 0 } }
+    {
+        MemorySource {
+            source: SureSource::new(bytes, step),
+            plan: FaultPlan::new(failing),
+        }
+    }
+}
+
+impl Source for MemorySource {
+    ghost left = { λ s. Some s.stream.left };
+
+    ghost faults = { λ s. s.plan.faults };
+
+    fn read(&mut self, into: &mut [u8]) -> Got {
+        if self.plan.fails_now() {
+            return Got::Failed;
+        }
+        self.source.read(into)
+    }
+}
+
+/// A sink that keeps what it takes and never fails.
+#[derive(Drop)]
+pub struct SureSink {
+    bytes: Vec<u8>,
+    step: usize,
+}
+
+impl Model for SureSink {
+    ghost use Rattle.std.specs.Prelude.{◌<◌};
+    ghost use Rattle.io_edges.specs.Stores.{Store};
+
+    ghost Value = { Store };
+
+    ghost view = { λ s. record { taken = s.bytes.items; step = s.step } };
+
+    ghost invariant = { λ s. 0 < s.step };
+}
+
+impl SureSink {
+    /// A sink that has taken nothing, and takes at most `step` bytes a write.
+    pub fn new(alloc: Global, step: usize) -> SureSink
+        requires { 0 < step }
+        ensures { result ≡ record { taken = []; step = step } }
+    {
+        SureSink {
+            bytes: Vec::new(alloc),
+            step,
+        }
+    }
+
+    /// The bytes taken so far.
+    pub fn taken(&self) -> &[u8]
+        ensures { result.now ≡ self.now.taken }
+    {
+        self.bytes.as_slice()
+    }
+}
+
+// Keeps the first bytes of a piece.
+fn keep(bytes: &mut Vec<u8>, step: usize, piece: &[u8]) -> Put
+    requires some { 0 < length piece.now }
+    requires moves { 0 < step }
+    ensures takes { WriteTakes result (Some bytes.old.items) (Some bytes.new.items) piece.now }
+    ensures sure { result ≡ Put.Failed → ⊥ }
+{
+    let len = piece.len().min(step);
+    match bytes.extend_from_slice(&piece[..len]) {
+        Ok(()) => Put::Took(len),
+        Err(_) => Put::NoMemory,
+    }
+}
+
+impl Sink for SureSink {
+    ghost taken = { λ s. Some s.taken };
+
+    ghost faults = { λ _. 0 };
+
+    fn write(&mut self, piece: &[u8]) -> Put {
+        keep(&mut self.bytes, self.step, piece)
+    }
+}
+
+/// A sink that keeps what it takes, at which some writes fail.
+#[derive(Drop)]
+pub struct MemorySink {
+    sink: SureSink,
+    plan: FaultPlan,
+}
+
+impl Model for MemorySink {
+    ghost use Rattle.io_edges.specs.Stores.{FailingStore};
+
+    ghost Value = { FailingStore };
+
+    ghost view = { λ s. record { store = s.sink; plan = s.plan } };
+}
+
+impl MemorySink {
+    /// A sink that has taken nothing, and takes at most `step` bytes a write. The writes of these numbers fail, counted
+    /// from 1.
+    pub fn new(alloc: Global, step: usize, failing: Vec<u64>) -> MemorySink
+        requires { 0 < step }
+        ensures store { result.store ≡ record { taken = []; step = step } }
+        ensures plan { result.plan ≡ record { failing = failing.items; calls = 0; faults = 0 } }
+    {
+        MemorySink {
+            sink: SureSink::new(alloc, step),
+            plan: FaultPlan::new(failing),
+        }
+    }
+
+    /// The bytes taken so far.
+    pub fn taken(&self) -> &[u8]
+        ensures { result.now ≡ self.now.store.taken }
+    {
+        self.sink.taken()
+    }
+}
+
+impl Sink for MemorySink {
+    ghost taken = { λ s. Some s.store.taken };
+
+    ghost faults = { λ s. s.plan.faults };
+
+    fn write(&mut self, piece: &[u8]) -> Put {
+        if self.plan.fails_now() {
+            return Put::Failed;
+        }
+        self.sink.write(piece)
+    }
+}
+
+/// A gate that holds nobody.
+#[derive(Clone, Copy, Debug)]
+pub struct FreeGate;
+
+impl Gate for FreeGate {
+    fn pass(&self, _point: GatePoint, _ticket: u64) {}
+}
