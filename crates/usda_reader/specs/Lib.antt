@@ -1,0 +1,10 @@
+pub mod Sets
+pub mod Statements
+pub mod Grammar
+pub mod Reading
+pub mod Open
+pub mod Views
+pub mod Answers
+pub mod Bodies
+pub mod Builders
+pub mod Steps

@@ -1,0 +1,85 @@
+-- A layer of the first form flattens to itself.
+use Rattle.std.proofs.Common.{◌≡◌, ℕ, zero, suc, ◌+◌, ◌<◌, ◌≤◌, Bool, true, false, cond, ◌||◌, List, [], ◌∷◌, ◌++◌, length, Option, Some, None, refl, ap, sym, subst, ◌∙◌, arith}
+use Rattle.std.specs.Str.{bytes_eq}
+use Rattle.std.proofs.lemmas.Slice.Eq.{bytes_eq-Decides}
+use Rattle.sdf_specs.specs.declared.FirstAttr.{FirstAttr}
+use Rattle.sdf_specs.specs.Forest.{Forest, empty, prim, join, prim_names, nesting}
+use Rattle.sdf_specs.specs.Names.{is_among, AreNew}
+use Rattle.sdf_specs.proofs.Joins.{join_assoc, prim_names-join}
+use Rattle.usda_reader.specs.Grammar.{Items, none, attr, def, attrs_of, prims_in, IsWithin, IsFirstBody, IsFirstForm}
+use Rattle.usdstage.specs.Stage.{Spec, find, below, children_at, flat_prim, flat_all, flat_below, flattened}
+
+-- at most so many levels, and in each body different names
+abbrev IsTidy : Forest → ℕ → Type 0
+IsTidy empty levels = Unit {0}
+IsTidy (prim ty n attrs children others) zero = ⊥
+IsTidy (prim ty n attrs children others) (suc levels) = AreNew [] (prim_names children) × IsTidy children levels × IsTidy others (suc levels)
+
+tidy_within : (items : Items) (depth path levels : ℕ) → depth + levels ≡ 64 → IsWithin depth path items → IsTidy (prims_in items) levels
+tidy_within none depth path levels e within = tt
+tidy_within (attr n z others) depth path levels e within = tidy_within others depth path levels e within
+tidy_within (def ty n body others) depth path zero e within = absurd (omega (arith, within.0))
+tidy_within (def ty n body others) depth path (suc levels) e within =
+    (within.3, tidy_within body (suc depth) (path + 1 + length n) levels (omega arith) within.4, tidy_within others depth path (suc levels) e within.5)
+
+abbrev spec : Option (List ℕ) → List FirstAttr → Forest → Spec
+spec ty attrs children = record { type_name = ty; attrs = attrs; children = children }
+
+nor : (a b : Bool) → (a || b) ≡ false → (a ≡ false) × (b ≡ false)
+nor true b e = absurd cc
+nor false b e = (refl, e)
+
+find_here : (before : Forest) (ty : Option (List ℕ)) (n : List ℕ) (attrs : List FirstAttr) (children others : Forest) → is_among n (prim_names before) ≡ false → find n (join before (prim ty n attrs children others)) ≡ Some (spec ty attrs children)
+find_here empty ty n attrs children others fresh = rw ((bytes_eq-Decides n n).1 refl) refl
+find_here (prim uy m more kids rest) ty n attrs children others fresh =
+    let t = nor (bytes_eq m n) (is_among n (prim_names rest)) fresh in
+    rw t.0 (find_here rest ty n attrs children others t.1)
+
+children_at-snoc : (layer : Forest) (path : List (List ℕ)) (n : List ℕ) → children_at layer (path ++ n ∷ []) ≡ below (find n (children_at layer path))
+children_at-snoc layer [] n = refl
+children_at-snoc layer (m ∷ path) n = children_at-snoc (below (find m layer)) path n
+
+tidy_zero : (f : Forest) → IsTidy f zero → empty ≡ f
+tidy_zero empty tidy = refl
+tidy_zero (prim ty n attrs children others) tidy = absurd tidy
+
+abbrev Flattens : (List (List ℕ) → Forest) → Forest → ℕ → Type 0
+Flattens flat layer levels = (path : List (List ℕ)) → IsTidy (children_at layer path) levels → AreNew [] (prim_names (children_at layer path)) → flat path ≡ children_at layer path
+
+all_is : (levels : ℕ) (layer : Forest) (path : List (List ℕ)) (flat : List (List ℕ) → Forest) (before g : Forest) → children_at layer path ≡ join before g → AreNew (prim_names before) (prim_names g) → IsTidy g (suc levels)
+    → Flattens flat layer levels → flat_all flat layer path (prim_names g) ≡ g
+all_is levels layer path flat before empty e new tidy deeper = refl
+all_is levels layer path flat before (prim ty n attrs children others) e new tidy deeper =
+    let here : find n (children_at layer path) ≡ Some (spec ty attrs children) = ap (find n) e ∙ find_here before ty n attrs children others new.0 in
+    let kids : children_at layer (path ++ n ∷ []) ≡ children = children_at-snoc layer path n ∙ ap below here in
+    let inner : flat (path ++ n ∷ []) ≡ children = deeper (path ++ n ∷ []) (subst (λ (f : Forest). IsTidy f levels) (sym kids) tidy.1) (subst (λ (f : Forest). AreNew [] (prim_names f)) (sym kids) tidy.0) ∙ kids in
+    let rest : flat_all flat layer path (prim_names others) ≡ others =
+    all_is levels layer path flat (join before (prim ty n attrs children empty)) others (e ∙ sym (join_assoc before (prim ty n attrs children empty) others))
+    (subst (λ (ns : List (List ℕ)). AreNew ns (prim_names others)) (sym (prim_names-join before (prim ty n attrs children empty))) new.1) tidy.2 deeper in
+    rw (here, inner, rest) refl
+
+below_is : (levels : ℕ) (layer : Forest) (path : List (List ℕ)) → IsTidy (children_at layer path) levels → AreNew [] (prim_names (children_at layer path)) → flat_below levels layer path ≡ children_at layer path
+unfolding flat_below
+below_is zero layer path tidy new = tidy_zero (children_at layer path) tidy
+below_is (suc levels) layer path tidy new = all_is levels layer path (flat_below levels layer) empty (children_at layer path) refl new tidy (λ p t n. below_is levels layer p t n)
+
+flattened_is : (layer : Forest) → IsTidy layer 64 → AreNew [] (prim_names layer) → flattened layer ≡ layer
+unfolding flattened
+flattened_is layer tidy new = below_is 64 layer [] tidy new
+
+-- a layer of the first form flattens to itself
+pub flattened_form : (bytes : List ℕ) (layer : Forest) → IsFirstForm bytes layer → flattened layer ≡ layer
+flattened_form bytes layer form =
+    let b = form.body in
+    flattened_is layer (subst (λ (f : Forest). IsTidy f 64) b.prims (tidy_within b.items 0 0 64 (omega arith) b.within)) (subst (λ (f : Forest). AreNew [] (prim_names f)) b.prims b.different)
+
+nesting_within : (items : Items) (depth path levels : ℕ) → depth + levels ≡ 64 → IsWithin depth path items → nesting (prims_in items) ≤ levels
+nesting_within none depth path levels e within = omega arith
+nesting_within (attr n z others) depth path levels e within = nesting_within others depth path levels e within
+nesting_within (def ty n body others) depth path zero e within = absurd (omega (arith, within.0))
+nesting_within (def ty n body others) depth path (suc levels) e within =
+    omega (arith, nesting_within body (suc depth) (path + 1 + length n) levels (omega arith) within.4, nesting_within others depth path (suc levels) e within.5)
+
+-- in a layer of the first form at most 64 prims stand one in the other
+pub nesting_form : (bytes : List ℕ) (layer : Forest) → IsFirstForm bytes layer → nesting layer ≤ 64
+nesting_form bytes layer form = let b = form.body in subst (λ (f : Forest). nesting f ≤ 64) b.prims (nesting_within b.items 0 0 64 (omega arith) b.within)

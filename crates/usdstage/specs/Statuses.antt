@@ -1,0 +1,23 @@
+-- The exit status and the line of each way to end.
+use Rattle.std.specs.Prelude.{ℕ, List, [], ◌++◌, codes}
+use Rattle.usdstage.specs.declared.status.Status.{Status}
+use Rattle.usdstage.specs.declared.status.Status.TheVariants.{Done, Usage, ReadFault, WriteFault, RootRefused, NotYet, NoMemory}
+
+abbrev pub exit_code : Status → ℕ
+exit_code Done = 0
+exit_code Usage = 2
+exit_code ReadFault = 3
+exit_code WriteFault = 4
+exit_code (RootRefused name) = 5
+exit_code NoMemory = 9
+exit_code (NotYet name) = 10
+
+-- the line on standard error, without its line feed
+abbrev pub status_line : Status → List ℕ
+status_line Done = []
+status_line Usage = codes "usdstage: not a command"
+status_line ReadFault = codes "usdstage: reading failed"
+status_line WriteFault = codes "usdstage: writing failed"
+status_line (RootRefused name) = codes "usdstage: " ++ name ++ codes ": absent"
+status_line (NotYet name) = codes "usdstage: " ++ name ++ codes ": not yet"
+status_line NoMemory = codes "usdstage: out of memory"

@@ -1,0 +1,56 @@
+#!/usr/bin/env bash
+# Runs the built program as a person does, and compares what it writes, what it says and how it ends.
+set -u
+top=$(cd "$(dirname "${BASH_SOURCE[0]}")/.." && pwd)
+folder=$(mktemp -d)
+trap 'rm -rf "$folder"' EXIT
+passed=0
+failed=0
+
+# expect NAME STATUS OUTPUT LINE WORDS...: the exit status, standard output and standard error of a run
+expect() {
+    local name=$1 status=$2 output=$3 line=$4
+    shift 4
+    (cd "$folder" && "$top/usdstage" "$@" >out.txt 2>err.txt </dev/null)
+    local got=$?
+    if [ "$got" = "$status" ] && [ "$(cat "$folder/out.txt")" = "$output" ] && [ "$(cat "$folder/err.txt")" = "$line" ]; then
+        passed=$((passed + 1))
+    else
+        failed=$((failed + 1))
+        echo "$name: status $got (wanted $status)"
+        echo "  written: $(head -c 200 "$folder/out.txt")"
+        echo "  said:    $(cat "$folder/err.txt") (wanted $line)"
+    fi
+}
+
+# the first run may prove and build the program, which it says
+(cd "$folder" && "$top/usdstage" >/dev/null 2>&1 </dev/null)
+
+printf '#usda 1.0\n' >"$folder/empty.usda"
+printf '#usda 1.0\ndef "A" { int x = 007 } # the end' >"$folder/a.usda"
+printf '#usda 1.0\nover "A" {}\n' >"$folder/over.usda"
+mkdir "$folder/folder.usda"
+
+expect "an empty layer" 0 '#usda 1.0' '' flatten empty.usda
+expect "a prim" 0 $'#usda 1.0\n\ndef "A"\n{\n    int x = 7\n}' '' flatten a.usda
+expect "no words" 2 '' 'usdstage: not a command'
+expect "another word" 2 '' 'usdstage: not a command' flat a.usda
+expect "a word too many" 2 '' 'usdstage: not a command' flatten a.usda a.usda
+expect "an option" 2 '' 'usdstage: not a command' flatten --help
+expect "a root in a folder" 2 '' 'usdstage: not a command' flatten ./a.usda
+expect "a folder as the root" 3 '' 'usdstage: reading failed' flatten folder.usda
+expect "an absent root" 5 '' 'usdstage: none.usda: absent' flatten none.usda
+expect "another form" 10 '' 'usdstage: over.usda: not yet' flatten over.usda
+
+if [ -w /dev/full ]; then
+    said=$(cd "$folder" && "$top/usdstage" flatten a.usda 2>&1 >/dev/full </dev/null)
+    if [ $? = 4 ] && [ "$said" = 'usdstage: writing failed' ]; then
+        passed=$((passed + 1))
+    else
+        failed=$((failed + 1))
+        echo "a full device: $said"
+    fi
+fi
+
+echo "$passed passed, $failed failed"
+[ "$failed" = 0 ]
