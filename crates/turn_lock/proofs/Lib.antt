@@ -1,0 +1,4 @@
+pub mod Owned
+pub mod Seats
+pub mod Steps
+pub mod Sums
