@@ -1,0 +1,5 @@
+pub mod Complete
+pub mod NameRuns
+pub mod ParseExact
+pub mod Shapes
+pub mod Sound

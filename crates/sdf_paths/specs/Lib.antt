@@ -1,0 +1,7 @@
+pub mod DerivedOrder
+pub mod Names
+pub mod Order
+pub mod Paths
+pub mod PathOrder
+pub mod Reader
+pub mod Refusal

@@ -1,0 +1,29 @@
+-- The derived comparisons of paths are the readable ones.
+use Rattle.std.specs.Prelude.{◌≡◌, List, true}
+use Rattle.std.proofs.Common.{sym, ◌∙◌}
+use Rattle.std.specs.declared.cmp.Ordering.{Ordering}
+use Rattle.std.specs.declared.cmp.Ordering.TheVariants.{Equal}
+use Rattle.std.proofs.Common.{rules}
+use Rattle.plain_data.specs.Exact.{pointwise_same}
+use Rattle.sdf_paths.specs.Order.{path_cmp}
+use Rattle.sdf_paths.specs.DerivedOrder.{path_cmp_same, path_order_is}
+use Rattle.sdf_paths.specs.contracts.element.ElementPartialEq.TheImpl.{ghosts as element_eq}
+use Rattle.sdf_paths.specs.contracts.path.PathPartialEq.TheImpl.{ghosts as path_eq}
+use Rattle.sdf_paths.specs.contracts.path.PathOrd.TheImpl.{ghosts as path_order}
+use Rattle.sdf_paths.specs.declared.element.Element.{Element}
+
+element_equal : (x y : Element) → element_eq.eq x y ≡ true → x ≡ y
+element_equal = search rules
+
+pub path_equal : (x y : List Element) → path_eq.eq x y ≡ true → x ≡ y
+path_equal x y h = pointwise_same element_eq.eq element_equal x y h
+
+pub path_cmp_is : (x y : List Element) → path_order.cmp x y ≡ path_cmp x y
+path_cmp_is x y = λ i. path_order_is i x y
+
+-- maps whose keys are paths are ordered by `path_cmp`
+pub order_is : ◌≡◌ {A = List Element → List Element → Ordering} path_order.cmp path_cmp
+order_is = path_order_is
+
+pub path_tie : (x y : List Element) → path_order.cmp x y ≡ Equal → x ≡ y
+path_tie x y h = path_cmp_same x y (sym (path_cmp_is x y) ∙ h)

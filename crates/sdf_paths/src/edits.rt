@@ -1,0 +1,149 @@
+// Lists of elements made of other lists.
+ghost use Rattle.std.specs.Prelude.{◌≡◌, ◌≤◌, ◌<◌, ◌+◌, ◌^◌, ◌&&◌, ◌↔◌, ◌++◌, ◌∷◌, [], IfOk, IfErr, OnOk, IsTrue, false, length, cond};
+ghost use Rattle.sdf_paths.specs.Names.{is_identifier};
+ghost use Rattle.sdf_paths.specs.Paths.{written, written_all, is_selection, is_property, is_property_part, ends_selected, depth, plain, owner, IsPath};
+
+use crate::element::Element;
+use crate::fault::PathFault;
+use crate::looks::{depth, is_property_part, is_selection};
+use crate::names::is_identifier;
+use crate::reader::{MAX_BYTES, MAX_NAMES};
+use plain_data::{Items, Text, copy};
+use std::alloc::{AllocError, Global};
+
+/// Appends copies.
+fn push_all(out: &mut Items<Element>, elements: &[Element]) -> Result<(), AllocError>
+    ensures { OnOk result (out.new ≡ out.old ++ elements.now) }
+{
+    for element in elements {
+        out.push(copy(element)?)?;
+    }
+    Ok(())
+}
+
+/// A copy of the elements.
+pub fn copied(alloc: Global, elements: &[Element]) -> Result<Items<Element>, AllocError>
+    ensures { IfOk result (λ out. out ≡ elements.now) }
+{
+    let mut out = Items::new(alloc);
+    push_all(&mut out, elements)?;
+    Ok(out)
+}
+
+/// The elements, and then those of `rest`.
+pub fn joined(by: &Items<Element>, rest: &[Element]) -> Result<Items<Element>, PathFault>
+    ensures err { IfErr result (λ e. e ≡ PathFault.NoMemory) }
+    ensures ok { IfOk result (λ out. out ≡ by.now ++ rest.now) }
+{
+    let mut out = by.copy()?;
+    push_all(&mut out, rest)?;
+    Ok(out)
+}
+
+/// The elements, and then a prim's name.
+pub fn appended(elements: &Items<Element>, name: &str) -> Result<Items<Element>, PathFault>
+    ensures err { IfErr result (λ e. e ≡ PathFault.NoMemory) }
+    ensures ok { IfOk result (λ out. out ≡ elements.now ++ Element.Prim name.now ∷ []) }
+{
+    let mut out = elements.copy()?;
+    out.push(Element::Prim(Text::of(elements.allocator(), name)?))?;
+    Ok(out)
+}
+
+/// The elements but for the selections.
+pub fn plain(alloc: Global, elements: &[Element]) -> Result<Items<Element>, AllocError>
+    ensures { IfOk result (λ out. out ≡ plain elements.now) }
+{
+    let mut out = Items::new(alloc);
+    for element in elements {
+        if !is_selection(element) {
+            out.push(copy(element)?)?;
+        }
+    }
+    Ok(out)
+}
+
+/// The elements but for the property.
+pub fn owner(alloc: Global, elements: &[Element]) -> Result<Items<Element>, AllocError>
+    ensures { IfOk result (λ out. out ≡ owner elements.now) }
+{
+    let mut out = Items::new(alloc);
+    for element in elements {
+        if !is_property_part(element) {
+            out.push(copy(element)?)?;
+        }
+    }
+    Ok(out)
+}
+
+/// How many bytes an element has in print.
+fn element_len(after: bool, element: &Element) -> usize
+    requires { length (written after element.now) ≤ 8192 }
+    ensures { result ≡ length (written after element.now) }
+{
+    match element {
+        Element::Prim(name) => { if after { name.len() } else { name.len() + 1 } }
+        Element::Property(name) => name.len() + 1,
+        Element::Selection { set, variant } => set.len() + variant.len() + 3,
+    }
+}
+
+/// How many bytes the elements have in print, and whether a selection stands last.
+fn measure(start: bool, elements: &[Element]) -> (usize, bool)
+    requires { length (written_all start elements.now) ≤ 8192 }
+    ensures bytes { result.0 ≡ length (written_all start elements.now) }
+    ensures small { result.0 ≤ 8192 }
+    ensures last { result.1 ≡ ends_selected start elements.now }
+{
+    let mut bytes = 0;
+    let mut after = start;
+    for element in elements {
+        bytes += element_len(after, element);
+        after = is_selection(element);
+    }
+    (bytes, after)
+}
+
+/// Whether a prim's name may follow the elements of a prim's path.
+pub fn may_append(elements: &[Element], name: &str) -> bool
+    requires path { IsPath elements.now }
+    requires prim { is_property elements.now ≡ false }
+    ensures { IsTrue result ↔ IsPath (elements.now ++ Element.Prim name.now ∷ []) }
+{
+    if !is_identifier(name) {
+        return false;
+    }
+    if depth(elements) >= MAX_NAMES {
+        return false;
+    }
+    if name.len() > MAX_BYTES {
+        return false;
+    }
+    let (bytes, after) = measure(false, elements);
+    let slash = slash_len(after);
+    bytes + slash + name.len() <= MAX_BYTES
+}
+
+/// How many bytes stand before a prim's name.
+fn slash_len(after: bool) -> usize
+    ensures { result ≡ cond after 0 1 }
+{
+    if after { 0 } else { 1 }
+}
+
+/// Whether `rest` may follow `by` within the limits.
+pub fn fits(by: &[Element], rest: &[Element]) -> bool
+    requires by { length (written_all false by.now) ≤ 4096 }
+    requires rest { length (written_all false rest.now) ≤ 4096 + 1 }
+    requires names { depth by.now + depth rest.now < 2 ^ 32 }
+    ensures few { IsTrue result → depth by.now + depth rest.now ≤ 64 }
+    ensures short { IsTrue result → length (written_all false (by.now ++ rest.now)) ≤ 4096 }
+    ensures fits { depth by.now + depth rest.now ≤ 64 → length (written_all false (by.now ++ rest.now)) ≤ 4096 → IsTrue result }
+{
+    if depth(by) + depth(rest) > MAX_NAMES {
+        return false;
+    }
+    let (bytes, after) = measure(false, by);
+    let (more, _) = measure(after, rest);
+    bytes + more <= MAX_BYTES
+}

@@ -1,0 +1,20 @@
+//! Paths to prims and properties of a scene, with variant selections.
+//!
+//! A path is a list of elements from the root down: names of prims, selections of variants, and at
+//! last perhaps the name of a property. `/World/chair{size=big}leg.radius` has five.
+#![tactic(auto)]
+
+mod edits;
+mod element;
+mod fault;
+mod looks;
+mod names;
+mod path;
+mod reader;
+#[cfg(test)]
+mod tests;
+
+pub use element::Element;
+pub use fault::PathFault;
+pub use path::Path;
+pub use reader::{MAX_BYTES, MAX_NAMES};

@@ -1,0 +1,230 @@
+ghost use Rattle.std.specs.Prelude.{List, ◌≡◌, ◌⊎◌, [], ◌∷◌, ◌++◌, Ok, Err, IfOk, IfErr, OnOk, IfSome, IsSomeAnd, false, string_bytes, IsTrue, ◌↔◌};
+ghost use Rattle.std.specs.Option.{option_copied, ForSome};
+ghost use Rattle.sdf_paths.specs.Paths.{IsPath, IsReadAs, printed, is_property, is_plain, depth, last_name, has_prefix, HasPrefix};
+ghost use Rattle.sdf_paths.specs.Refusal.{IsFaultOf};
+ghost use Rattle.sdf_paths.specs.Paths.{parent, IsRefusal, rest_after, replaced, MayFollow, plain, owner};
+ghost use Rattle.sdf_paths.specs.declared.element.Element.{Element};
+
+use crate::element::Element;
+use crate::fault::PathFault;
+use crate::{edits, looks, reader};
+use plain_data::{ExactClone, ExactEq, ExactOrd, Items};
+use std::alloc::{AllocError, Global};
+use std::marker::Model;
+
+/// A path from the root to a prim or to a property, with the variants that are selected on the way.
+///
+/// Contracts see it as the list of its elements, from the root down; `/` is the empty list.
+#[derive(Debug, Drop, PartialEq, Eq, PartialOrd, Ord)]
+pub struct Path {
+    elements: Items<Element>,
+}
+
+impl Model for Path {
+    ghost use Rattle.std.specs.Prelude.{List};
+    ghost use Rattle.sdf_paths.specs.declared.element.Element.{Element};
+
+    ghost Value = { List Element };
+
+    ghost use Rattle.sdf_paths.specs.Paths.{IsPath};
+
+    ghost view = { λ p. p.elements };
+
+    ghost invariant = { λ p. IsPath p.elements };
+
+    ghost inverse = { λ es. record { elements = es } };
+}
+
+impl Clone for Path {
+    ghost use Rattle.std.specs.Prelude.{◌≡◌};
+
+    ghost is_clone = { λ p q. q ≡ p };
+
+    fn clone(&self) -> Result<Path, AllocError> {
+        Ok(Path {
+            elements: self.elements.copy()?,
+        })
+    }
+}
+
+impl ExactClone for Path {
+    ghost copy_is_same = { λ x y h. h };
+}
+
+impl ExactEq for Path {
+    ghost use Rattle.sdf_paths.specs.PathOrder.{path_equal};
+
+    ghost equal_is_same = { path_equal };
+}
+
+impl ExactOrd for Path {
+    ghost use Rattle.sdf_paths.specs.PathOrder.{path_tie};
+
+    ghost tie_is_same = { path_tie };
+}
+
+impl Path {
+    /// The path `/`.
+    pub fn root(alloc: Global) -> Path
+        ensures { result ≡ [] }
+    {
+        Path {
+            elements: Items::new(alloc),
+        }
+    }
+
+    /// The path that a text is read as.
+    ///
+    /// A name directly after a selection may be written with its `/` or without it. `Bad` comes
+    /// exactly where the text is no path, at the first byte with which none goes on; past 4,096 bytes
+    /// at byte 4,096, and past 64 names of prims where the name too many begins with its `/`.
+    pub fn parse(alloc: Global, text: &str) -> Result<Path, PathFault>
+        ensures ok { IfOk result (λ path. IsReadAs text.now path) }
+        ensures read { (path : List Element) → IsReadAs text.now path → (result ≡ Ok path) ⊎ (result ≡ Err PathFault.NoMemory) }
+        ensures bad { IfErr result (λ e. IsFaultOf text.now e) }
+    {
+        match reader::read(alloc, text) {
+            Ok(elements) => Ok(Path { elements }),
+            Err(fault) => Err(fault),
+        }
+    }
+
+    /// The elements of the path, from the root down.
+    pub fn elements(&self) -> &[Element]
+        ensures same { result.now ≡ self.now }
+        ensures path { IsPath self.now }
+    {
+        self.elements.as_slice()
+    }
+
+    /// The printed text, which is read as this path again.
+    pub fn print(&self) -> Result<String, AllocError>
+        ensures text { IfOk result (λ s. string_bytes s ≡ printed self.now) }
+        ensures read { IfOk result (λ s. IsReadAs (string_bytes s) self.now) }
+    {
+        looks::print(self.elements.allocator(), self.elements.as_slice())
+    }
+
+    /// Whether the path is `/`.
+    pub fn is_root(&self) -> bool
+        ensures { IsTrue result ↔ (self.now ≡ []) }
+    {
+        self.elements.is_empty()
+    }
+
+    /// Whether the path is that of a property.
+    pub fn is_property(&self) -> bool
+        ensures { result ≡ is_property self.now }
+    {
+        looks::is_property(self.elements.as_slice())
+    }
+
+    /// Whether the path has no variant selection.
+    pub fn is_plain(&self) -> bool
+        ensures { result ≡ is_plain self.now }
+    {
+        looks::is_plain(self.elements.as_slice())
+    }
+
+    /// How many names of prims there are; 0 for `/`.
+    pub fn depth(&self) -> usize
+        ensures { result ≡ depth self.now }
+    {
+        looks::depth(self.elements.as_slice())
+    }
+
+    /// The name of the last element: of a prim, of a property or of a variant. `None` for `/`.
+    pub fn last(&self) -> Option<&str>
+        ensures { option_copied result ≡ last_name self.now }
+    {
+        looks::last_name(self.elements.as_slice())
+    }
+
+    /// Whether the path begins with all elements of `front`.
+    pub fn has_prefix(&self, front: &Path) -> bool
+        ensures value { result ≡ has_prefix front.now self.now }
+        ensures prefix { IsTrue result ↔ HasPrefix front.now self.now }
+    {
+        looks::rest_after(front.elements.as_slice(), self.elements.as_slice()).is_some()
+    }
+
+    /// Whether the path without its variant selections begins with `front` without those of it.
+    pub fn has_plain_prefix(&self, front: &Path) -> bool
+        ensures { result ≡ has_prefix (plain front.now) (plain self.now) }
+    {
+        looks::has_plain_prefix(front.elements.as_slice(), self.elements.as_slice())
+    }
+
+    /// The path without its last element. `None` for `/`.
+    pub fn parent(&self) -> Result<Option<Path>, AllocError>
+        ensures { IfOk result (λ above. above ≡ parent self.now) }
+    {
+        let elements = self.elements.as_slice();
+        if elements.is_empty() {
+            return Ok(None);
+        }
+        let above = &elements[..elements.len() - 1];
+        Ok(Some(Path {
+            elements: edits::copied(self.elements.allocator(), above)?,
+        }))
+    }
+
+    /// The path of a prim below this one.
+    ///
+    /// `Bad` with `at` 0 comes exactly where the name is no identifier or a limit is passed.
+    pub fn append(&self, name: &str) -> Result<Path, PathFault>
+        requires { is_property self.now ≡ false }
+        ensures ok { IfOk result (λ path. path ≡ self.now ++ Element.Prim name.now ∷ []) }
+        ensures path { OnOk result (IsPath (self.now ++ Element.Prim name.now ∷ [])) }
+        ensures bad { IfErr result (λ e. IsRefusal (self.now ++ Element.Prim name.now ∷ []) e) }
+    {
+        if !edits::may_append(self.elements.as_slice(), name) {
+            return Err(PathFault::Bad { at: 0 });
+        }
+        match edits::appended(&self.elements, name) {
+            Ok(elements) => Ok(Path { elements }),
+            Err(fault) => Err(fault),
+        }
+    }
+
+    /// The path with `by` in place of its prefix `front`. `None` exactly where it does not begin with
+    /// `front`.
+    ///
+    /// `Bad` with `at` 0 comes exactly where a limit is passed.
+    pub fn replace_prefix(&self, front: &Path, by: &Path) -> Result<Option<Path>, PathFault>
+        requires { ForSome (rest_after front.now self.now) (λ rest. MayFollow by.now rest) }
+        ensures ok { IfOk result (λ path. path ≡ replaced front.now by.now self.now) }
+        ensures bad { IfErr result (λ e. IsSomeAnd (replaced front.now by.now self.now) (λ path. IsRefusal path e)) }
+    {
+        let elements = self.elements.as_slice();
+        let Some(rest) = looks::rest_after(front.elements.as_slice(), elements) else {
+            return Ok(None);
+        };
+        if !edits::fits(by.elements.as_slice(), rest) {
+            return Err(PathFault::Bad { at: 0 });
+        }
+        match edits::joined(&by.elements, rest) {
+            Ok(elements) => Ok(Some(Path { elements })),
+            Err(fault) => Err(fault),
+        }
+    }
+
+    /// The path without its variant selections.
+    pub fn plain(&self) -> Result<Path, AllocError>
+        ensures ok { IfOk result (λ path. path ≡ plain self.now) }
+        ensures path { IsPath (plain self.now) }
+    {
+        Ok(Path {
+            elements: edits::plain(self.elements.allocator(), self.elements.as_slice())?,
+        })
+    }
+
+    /// The path of the prim: without the name of the property, if there is one.
+    pub fn owner(&self) -> Result<Path, AllocError>
+        ensures { IfOk result (λ path. path ≡ owner self.now) }
+    {
+        Ok(Path {
+            elements: edits::owner(self.elements.allocator(), self.elements.as_slice())?,
+        })
+    }
+}
