@@ -1,0 +1,11 @@
+//! Edits of lists: what opinions that replace, delete, add, prepend, append and reorder make of a
+//! list.
+#![tactic(auto)]
+
+mod edits;
+mod op;
+mod places;
+#[cfg(test)]
+mod tests;
+
+pub use op::{ListOp, fold, fold_ordered, reorder, reorder_ordered};

@@ -1,0 +1,97 @@
+ghost use Rattle.std.specs.Prelude.{◌≡◌, IfOk, OnOk, OnErr};
+ghost use Rattle.list_ops.specs.ListEdits.{folded, reordered};
+
+use crate::edits;
+use crate::places::{Scanned, Sorted};
+use plain_data::{ExactClone, ExactEq, ExactOrd, Items};
+use std::alloc::{AllocError, Global};
+
+/// An opinion on a list. An explicit list replaces what weaker opinions made; else the other lists
+/// edit it: delete, add, prepend, append and reorder, in this order.
+#[derive(Clone, Debug, Drop, PartialEq, Eq)]
+pub struct ListOp<T> {
+    pub explicit: Option<Items<T>>,
+    pub deleted: Items<T>,
+    pub added: Items<T>,
+    pub prepended: Items<T>,
+    pub appended: Items<T>,
+    pub ordered: Items<T>,
+}
+
+impl<T: ExactEq + ExactClone + Drop> ListOp<T> {
+    ghost use Rattle.list_ops.specs.ListEdits.{applied};
+
+    /// Makes of the list what the opinion makes of it. The time grows with the product of the
+    /// lengths of the lists; `apply_ordered` is faster.
+    pub fn apply(&self, list: &mut Vec<T>) -> Result<(), AllocError>
+        ensures ok { OnOk result (list.new.items ≡ applied T.eq self.now list.old.items) }
+        ensures err { OnErr result (list.new.items ≡ list.old.items) }
+    {
+        let next = edits::applied::<Scanned<T>, T>(*list.allocator(), self, list.as_slice())?;
+        *list = next.into_vec();
+        Ok(())
+    }
+}
+
+impl<T: ExactEq + ExactOrd + ExactClone + Drop> ListOp<T> {
+    ghost use Rattle.list_ops.specs.ListEdits.{applied};
+
+    /// Like `apply`, by an order of the items: with `n` items in all it makes `n log n` comparisons.
+    pub fn apply_ordered(&self, list: &mut Vec<T>) -> Result<(), AllocError>
+        ensures ok { OnOk result (list.new.items ≡ applied T.eq self.now list.old.items) }
+        ensures err { OnErr result (list.new.items ≡ list.old.items) }
+    {
+        let next = edits::applied::<Sorted<T>, T>(*list.allocator(), self, list.as_slice())?;
+        *list = next.into_vec();
+        Ok(())
+    }
+}
+
+/// What the opinions, the weakest first, make of the empty list. The time grows with the product of
+/// the lengths of the lists; `fold_ordered` is faster.
+pub fn fold<T: ExactEq + ExactClone + Drop>(
+    alloc: Global,
+    ops: &[ListOp<T>],
+) -> Result<Vec<T>, AllocError>
+    ensures { IfOk result (λ list. list.items ≡ folded T.eq ops.now) }
+{
+    Ok(edits::fold::<Scanned<T>, T>(alloc, ops)?.into_vec())
+}
+
+/// Like `fold`, by an order of the items.
+pub fn fold_ordered<T: ExactEq + ExactOrd + ExactClone + Drop>(
+    alloc: Global,
+    ops: &[ListOp<T>],
+) -> Result<Vec<T>, AllocError>
+    ensures { IfOk result (λ list. list.items ≡ folded T.eq ops.now) }
+{
+    Ok(edits::fold::<Sorted<T>, T>(alloc, ops)?.into_vec())
+}
+
+/// Puts the groups of the listed items into listed order. A group is a listed item and the unlisted
+/// ones that follow it; unlisted items before the first group stay in front. The time grows with the
+/// product of the lengths; `reorder_ordered` is faster.
+pub fn reorder<T: ExactEq + ExactClone + Drop>(
+    list: &mut Vec<T>,
+    order: &[T],
+) -> Result<(), AllocError>
+    ensures ok { OnOk result (list.new.items ≡ reordered T.eq order.now list.old.items) }
+    ensures err { OnErr result (list.new.items ≡ list.old.items) }
+{
+    let next = edits::reordered::<Scanned<T>, T>(*list.allocator(), order, list.as_slice())?;
+    *list = next.into_vec();
+    Ok(())
+}
+
+/// Like `reorder`, by an order of the items.
+pub fn reorder_ordered<T: ExactEq + ExactOrd + ExactClone + Drop>(
+    list: &mut Vec<T>,
+    order: &[T],
+) -> Result<(), AllocError>
+    ensures ok { OnOk result (list.new.items ≡ reordered T.eq order.now list.old.items) }
+    ensures err { OnErr result (list.new.items ≡ list.old.items) }
+{
+    let next = edits::reordered::<Sorted<T>, T>(*list.allocator(), order, list.as_slice())?;
+    *list = next.into_vec();
+    Ok(())
+}
