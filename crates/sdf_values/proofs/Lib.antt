@@ -1,0 +1,10 @@
+pub mod Powers
+pub mod Parts
+pub mod Digits
+pub mod Texts
+pub mod Times
+pub mod Escapes
+pub mod Chains
+pub mod Elements
+pub mod Offsets
+pub mod Fractions

@@ -1,0 +1,5 @@
+use Rattle.std.proofs.Common.{◌≡◌, ◌++◌, replicate, string_bytes}
+use Rattle.sdf_values.proofs.numeral.push_zeros.Given as goal
+
+abbrev pub invariant-loop-zero : goal.invariant-loop-zero
+invariant-loop-zero l = string_bytes l.out ≡ string_bytes l.fn.out ++ replicate l._zero 48

@@ -1,0 +1,10 @@
+pub mod Numbers
+pub mod NumberTexts
+pub mod Scales
+pub mod TypeNames
+pub mod Names
+pub mod Conforms
+pub mod Print
+pub mod Proper
+pub mod Places
+pub mod Equality

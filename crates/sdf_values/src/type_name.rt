@@ -1,0 +1,257 @@
+ghost use Rattle.std.specs.Prelude.{◌≡◌, ◌≢◌, All, IfSome, IsNone};
+ghost use Rattle.sdf_values.specs.TypeNames.{element_name};
+ghost use Rattle.sdf_values.specs.declared.type_name.ElementType.{ElementType};
+
+/// How finely a floating-point number is meant to be kept. Numbers are kept exactly whichever it is.
+#[derive(Clone, Copy, Debug, PartialEq, Eq, PartialOrd, Ord)]
+pub enum Precision {
+    Half,
+    Float,
+    Double,
+}
+
+/// How many numbers a tuple has.
+#[derive(Clone, Copy, Debug, PartialEq, Eq, PartialOrd, Ord)]
+pub enum Width {
+    Two,
+    Three,
+    Four,
+}
+
+/// What a tuple of numbers means.
+#[derive(Clone, Copy, Debug, PartialEq, Eq, PartialOrd, Ord)]
+pub enum Role {
+    Point3,
+    Vector3,
+    Normal3,
+    Color3,
+    Color4,
+    TexCoord2,
+    TexCoord3,
+    Quat,
+}
+
+/// A square of numbers, as a tuple of rows.
+#[derive(Clone, Copy, Debug, PartialEq, Eq, PartialOrd, Ord)]
+pub enum Matrix {
+    Matrix2,
+    Matrix3,
+    Matrix4,
+    Frame4,
+}
+
+/// The type of one value that is no array.
+#[derive(Clone, Copy, Debug, PartialEq, Eq, PartialOrd, Ord)]
+pub enum ElementType {
+    Bool,
+    Uchar,
+    Int,
+    Uint,
+    Int64,
+    Uint64,
+    /// `half`, `float` or `double`.
+    Real(Precision),
+    Timecode,
+    String,
+    Token,
+    Asset,
+    /// Two to four whole numbers, as `int3`.
+    Ints(Width),
+    /// Two to four numbers, as `double3`.
+    Reals(Precision, Width),
+    /// Numbers with a meaning, as `color3f`.
+    Role(Role, Precision),
+    /// A square of numbers, as `matrix4d`.
+    Matrix(Matrix),
+}
+
+/// The type of a value: that of one element, or of an array of them.
+#[derive(Clone, Copy, Debug, PartialEq, Eq, PartialOrd, Ord)]
+pub struct TypeName {
+    pub element: ElementType,
+    pub array: bool,
+}
+
+impl ElementType {
+    /// The name that a layer writes.
+    pub fn name(self) -> &'static str
+        ensures { result.now ≡ element_name self }
+    {
+        match self {
+            ElementType::Bool => "bool",
+            ElementType::Uchar => "uchar",
+            ElementType::Int => "int",
+            ElementType::Uint => "uint",
+            ElementType::Int64 => "int64",
+            ElementType::Uint64 => "uint64",
+            ElementType::Real(Precision::Half) => "half",
+            ElementType::Real(Precision::Float) => "float",
+            ElementType::Real(Precision::Double) => "double",
+            ElementType::Timecode => "timecode",
+            ElementType::String => "string",
+            ElementType::Token => "token",
+            ElementType::Asset => "asset",
+            ElementType::Ints(Width::Two) => "int2",
+            ElementType::Ints(Width::Three) => "int3",
+            ElementType::Ints(Width::Four) => "int4",
+            ElementType::Reals(precision, width) => reals_name(precision, width),
+            ElementType::Role(role, precision) => role_name(role, precision),
+            ElementType::Matrix(Matrix::Matrix2) => "matrix2d",
+            ElementType::Matrix(Matrix::Matrix3) => "matrix3d",
+            ElementType::Matrix(Matrix::Matrix4) => "matrix4d",
+            ElementType::Matrix(Matrix::Frame4) => "frame4d",
+        }
+    }
+}
+
+fn reals_name(precision: Precision, width: Width) -> &'static str
+    ensures { result.now ≡ element_name (ElementType.Reals precision width) }
+{
+    match (precision, width) {
+        (Precision::Half, Width::Two) => "half2",
+        (Precision::Half, Width::Three) => "half3",
+        (Precision::Half, Width::Four) => "half4",
+        (Precision::Float, Width::Two) => "float2",
+        (Precision::Float, Width::Three) => "float3",
+        (Precision::Float, Width::Four) => "float4",
+        (Precision::Double, Width::Two) => "double2",
+        (Precision::Double, Width::Three) => "double3",
+        (Precision::Double, Width::Four) => "double4",
+    }
+}
+
+fn role_name(role: Role, precision: Precision) -> &'static str
+    ensures { result.now ≡ element_name (ElementType.Role role precision) }
+{
+    match precision {
+        Precision::Half => half_role_name(role),
+        Precision::Float => float_role_name(role),
+        Precision::Double => double_role_name(role),
+    }
+}
+
+fn half_role_name(role: Role) -> &'static str
+    ensures { result.now ≡ element_name (ElementType.Role role Precision.Half) }
+{
+    match role {
+        Role::Point3 => "point3h",
+        Role::Vector3 => "vector3h",
+        Role::Normal3 => "normal3h",
+        Role::Color3 => "color3h",
+        Role::Color4 => "color4h",
+        Role::TexCoord2 => "texCoord2h",
+        Role::TexCoord3 => "texCoord3h",
+        Role::Quat => "quath",
+    }
+}
+
+fn float_role_name(role: Role) -> &'static str
+    ensures { result.now ≡ element_name (ElementType.Role role Precision.Float) }
+{
+    match role {
+        Role::Point3 => "point3f",
+        Role::Vector3 => "vector3f",
+        Role::Normal3 => "normal3f",
+        Role::Color3 => "color3f",
+        Role::Color4 => "color4f",
+        Role::TexCoord2 => "texCoord2f",
+        Role::TexCoord3 => "texCoord3f",
+        Role::Quat => "quatf",
+    }
+}
+
+fn double_role_name(role: Role) -> &'static str
+    ensures { result.now ≡ element_name (ElementType.Role role Precision.Double) }
+{
+    match role {
+        Role::Point3 => "point3d",
+        Role::Vector3 => "vector3d",
+        Role::Normal3 => "normal3d",
+        Role::Color3 => "color3d",
+        Role::Color4 => "color4d",
+        Role::TexCoord2 => "texCoord2d",
+        Role::TexCoord3 => "texCoord3d",
+        Role::Quat => "quatd",
+    }
+}
+
+impl TypeName {
+    /// The type of that name, or of arrays of it; `None` exactly where there is no type of that name.
+    pub fn find(name: &str, array: bool) -> Option<TypeName>
+        ensures found { IfSome result (λ t. (element_name t.element ≡ name.now) × (t.array ≡ array)) }
+        // `None` only where no type has the name
+        ensures none { IsNone result → (e : ElementType) → element_name e ≢ name.now }
+    {
+        let element = find_element(&ELEMENTS, name)?;
+        Some(TypeName { element, array })
+    }
+}
+
+fn find_element(elements: &[ElementType], name: &str) -> Option<ElementType>
+    ensures found { IfSome result (λ e. element_name e ≡ name.now) }
+    ensures none { IsNone result → All (λ e. element_name e ≢ name.now) elements.now }
+{
+    for element in elements {
+        if element.name() == name {
+            return Some(*element);
+        }
+    }
+    None
+}
+
+/// Every type of one element.
+pub static ELEMENTS: [ElementType; 53] = [
+    ElementType::Bool,
+    ElementType::Uchar,
+    ElementType::Int,
+    ElementType::Uint,
+    ElementType::Int64,
+    ElementType::Uint64,
+    ElementType::Real(Precision::Half),
+    ElementType::Real(Precision::Float),
+    ElementType::Real(Precision::Double),
+    ElementType::Timecode,
+    ElementType::String,
+    ElementType::Token,
+    ElementType::Asset,
+    ElementType::Ints(Width::Two),
+    ElementType::Ints(Width::Three),
+    ElementType::Ints(Width::Four),
+    ElementType::Reals(Precision::Half, Width::Two),
+    ElementType::Reals(Precision::Half, Width::Three),
+    ElementType::Reals(Precision::Half, Width::Four),
+    ElementType::Reals(Precision::Float, Width::Two),
+    ElementType::Reals(Precision::Float, Width::Three),
+    ElementType::Reals(Precision::Float, Width::Four),
+    ElementType::Reals(Precision::Double, Width::Two),
+    ElementType::Reals(Precision::Double, Width::Three),
+    ElementType::Reals(Precision::Double, Width::Four),
+    ElementType::Role(Role::Point3, Precision::Half),
+    ElementType::Role(Role::Point3, Precision::Float),
+    ElementType::Role(Role::Point3, Precision::Double),
+    ElementType::Role(Role::Vector3, Precision::Half),
+    ElementType::Role(Role::Vector3, Precision::Float),
+    ElementType::Role(Role::Vector3, Precision::Double),
+    ElementType::Role(Role::Normal3, Precision::Half),
+    ElementType::Role(Role::Normal3, Precision::Float),
+    ElementType::Role(Role::Normal3, Precision::Double),
+    ElementType::Role(Role::Color3, Precision::Half),
+    ElementType::Role(Role::Color3, Precision::Float),
+    ElementType::Role(Role::Color3, Precision::Double),
+    ElementType::Role(Role::Color4, Precision::Half),
+    ElementType::Role(Role::Color4, Precision::Float),
+    ElementType::Role(Role::Color4, Precision::Double),
+    ElementType::Role(Role::TexCoord2, Precision::Half),
+    ElementType::Role(Role::TexCoord2, Precision::Float),
+    ElementType::Role(Role::TexCoord2, Precision::Double),
+    ElementType::Role(Role::TexCoord3, Precision::Half),
+    ElementType::Role(Role::TexCoord3, Precision::Float),
+    ElementType::Role(Role::TexCoord3, Precision::Double),
+    ElementType::Role(Role::Quat, Precision::Half),
+    ElementType::Role(Role::Quat, Precision::Float),
+    ElementType::Role(Role::Quat, Precision::Double),
+    ElementType::Matrix(Matrix::Matrix2),
+    ElementType::Matrix(Matrix::Matrix3),
+    ElementType::Matrix(Matrix::Matrix4),
+    ElementType::Matrix(Matrix::Frame4),
+];
