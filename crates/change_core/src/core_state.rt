@@ -1,0 +1,155 @@
+//! The core: its calls keep a legal history and the world after it.
+
+ghost use Rattle.std.specs.Prelude.{◌≡◌, [], ◌<◌, ◌+◌, Ok, Err, IfOk, OnErr};
+ghost use Rattle.change_core.specs.History.{edit_count, batch_count};
+
+use crate::history::{EditReply, HistoryEntry, MOST_EDITS};
+use crate::publish::{Items, PublishReply};
+use compose_api::{ApplyRefused, Composer, stage_items};
+use plain_data::copy;
+use std::alloc::{AllocError, Global};
+use std::marker::Model;
+use std::snapshot::Snapshot;
+
+/// A world with the history of all calls on it.
+#[derive(Drop)]
+pub struct Core<C: Composer> {
+    alloc: Global,
+    composer: C,
+    world: C::World,
+    opened: Snapshot<C::World>,
+    history: plain_data::Items<HistoryEntry<C::Batch, C::Fault>>,
+    edits: usize,
+    batches: u64,
+    versions: u64,
+}
+
+impl<C: Composer> Model for Core<C> {
+    ghost use Rattle.change_core.specs.Cores.{Session};
+    ghost use Rattle.change_core.specs.History.{IsKept};
+
+    ghost Value = { Session C.World C.Batch C.Fault };
+
+    ghost view = { λ core. record { opened = core.opened.value; history = core.history } };
+
+    ghost invariant = { λ core. IsKept C.applied core.opened.value core.world core.history core.edits core.batches core.versions };
+}
+
+impl<C: Composer> Core<C> {
+    ghost use Rattle.change_core.specs.Cores.{AnswersEdit, NotesEdit, world_of};
+    ghost use Rattle.change_core.specs.Publishes.{NotesPublish};
+
+    /// A core on a world that was just opened, with an empty history. It composes so many places at the same time as are named, at least one.
+    pub fn new(
+        alloc: Global,
+        composer: C,
+        world: C::World,
+        _flights: u32,
+    ) -> Result<Core<C>, AllocError>
+        requires { 0 < _flights }
+        ensures world { IfOk result (λ core. core.opened ≡ world) }
+        ensures empty { IfOk result (λ core. core.history ≡ []) }
+    {
+        let opened = Snapshot::of(&world);
+        Ok(Core {
+            alloc,
+            composer,
+            world,
+            opened,
+            history: plain_data::Items::new(alloc),
+            edits: 0,
+            batches: 0,
+            versions: 0,
+        })
+    }
+
+    /// Tries a batch: it is accepted, or refused whole, and noted with this seat and its reply.
+    /// A core whose history has 65,536 edit calls notes no more. After want of memory all is as before.
+    pub fn edit(&mut self, seat: u64, batch: C::Batch) -> Result<EditReply<C::Fault>, AllocError>
+        ensures answer { IfOk result (λ reply. AnswersEdit C.applied self.old self.new seat batch reply) }
+        ensures refused { OnErr result (self.new ≡ self.old) }
+    {
+        if self.edits == MOST_EDITS {
+            return Ok(EditReply::JournalFull);
+        }
+        match self.composer.apply(&self.world, &batch) {
+            Ok(after) => self.note_accepted(seat, batch, after),
+            Err(ApplyRefused::Op { op, fault }) => self.note_refused(seat, batch, op, fault),
+            Err(ApplyRefused::NoMemory) => Err(AllocError),
+        }
+    }
+
+    // Notes an accepted batch, after which the world is this one.
+    fn note_accepted(
+        &mut self,
+        seat: u64,
+        batch: C::Batch,
+        after: C::World,
+    ) -> Result<EditReply<C::Fault>, AllocError>
+        requires room { edit_count self.old.history < 65536 }
+        requires after { C.applied (world_of C.applied self.old) batch ≡ Ok after }
+        ensures answer { IfOk result (λ reply. NotesEdit C.applied self.old self.new seat batch reply) }
+        ensures kind { IfOk result (λ reply. reply ≡ EditReply.Accepted (batch_count self.old.history + 1)) }
+        ensures refused { OnErr result (self.new ≡ self.old) }
+    {
+        let number = self.batches + 1;
+        self.history.push(HistoryEntry::Edit {
+            seat,
+            batch,
+            reply: EditReply::Accepted { number },
+        })?;
+        self.world = after;
+        self.batches = number;
+        self.edits += 1;
+        Ok(EditReply::Accepted { number })
+    }
+
+    // Notes a refused batch.
+    fn note_refused(
+        &mut self,
+        seat: u64,
+        batch: C::Batch,
+        op: u32,
+        fault: C::Fault,
+    ) -> Result<EditReply<C::Fault>, AllocError>
+        requires room { edit_count self.old.history < 65536 }
+        requires fault { C.applied (world_of C.applied self.old) batch ≡ Err (op, fault) }
+        ensures answer { IfOk result (λ reply. NotesEdit C.applied self.old self.new seat batch reply) }
+        ensures kind { IfOk result (λ reply. reply ≡ EditReply.Refused op fault) }
+        ensures refused { OnErr result (self.new ≡ self.old) }
+    {
+        let noted = copy(&fault)?;
+        self.history.push(HistoryEntry::Edit {
+            seat,
+            batch,
+            reply: EditReply::Refused { op, fault: noted },
+        })?;
+        self.edits += 1;
+        Ok(EditReply::Refused { op, fault })
+    }
+
+    /// Composes the stage of the world from scratch, notes the publish with this seat, and hands the stage out.
+    /// Versions are counted from 0. After want of memory all is as before.
+    pub fn publish(&mut self, seat: u64) -> Result<PublishReply<C>, AllocError>
+        ensures answer { IfOk result (λ reply. (edition : _) × (reply ≡ PublishReply.Published edition) × NotesPublish ⟦<C as Composer>⟧ self.old self.new seat edition.version edition.batches edition.items) }
+        ensures refused { OnErr result (self.new ≡ self.old) }
+    {
+        let items = stage_items(self.alloc, &self.composer, &self.world)?;
+        let version = self.versions;
+        let batches = self.batches;
+        self.history.push(HistoryEntry::Publish {
+            seat,
+            version,
+            batches,
+        })?;
+        let _room = self.history.len();
+        self.versions = version + 1;
+        Ok(PublishReply::Published {
+            edition: Items {
+                version,
+                batches,
+                items,
+            },
+        })
+    }
+}

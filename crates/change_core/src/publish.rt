@@ -1,0 +1,20 @@
+//! The answer of a publish.
+
+use compose_api::Composer;
+
+/// A published stage: its version, the number of batches accepted before it, and its places with their entries, depth first from the root place.
+#[derive(Drop)]
+pub struct Items<C: Composer> {
+    pub version: u64,
+    pub batches: u64,
+    pub items: plain_data::Items<(C::Place, C::Entry)>,
+}
+
+/// What a publish answers.
+#[derive(Drop)]
+pub enum PublishReply<C: Composer> {
+    /// The stage was published.
+    Published { edition: Items<C> },
+    /// This place has no current entry. A core that composes each place anew never answers it.
+    NotClean { place: C::Place },
+}

@@ -1,0 +1,8 @@
+//! What the incremental core asks of a composer: places with entries, worlds, and batches that change worlds.
+#![tactic(auto)]
+
+mod composer;
+mod walk;
+
+pub use composer::{ApplyRefused, Composer};
+pub use walk::stage_items;

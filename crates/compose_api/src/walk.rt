@@ -1,0 +1,66 @@
+//! All places of a world with their entries, composed from scratch.
+
+ghost use Rattle.std.specs.Prelude.{◌≡◌, ◌++◌, OnOk, IfOk, None, option_and_then, slice_get};
+ghost use Rattle.std.specs.Option.{option_map, option_copied};
+ghost use Rattle.compose_api.specs.Stage.{walked, stage_of};
+ghost use Rattle.compose_api.specs.Pairs.{second};
+
+use crate::Composer;
+use plain_data::{Items, copy};
+use std::alloc::{AllocError, Global};
+
+// The entry of the item of this number, where one is named.
+fn entry_at<P, E>(items: &Items<(P, E)>, at: Option<usize>) -> Option<&E>
+    ensures { option_copied result ≡ option_map second (option_and_then (slice_get items.now) at) }
+{
+    match at {
+        None => None,
+        Some(at) => match items.get(at) {
+            None => None,
+            Some(item) => Some(&item.1),
+        },
+    }
+}
+
+// Composes a place and all below it. The parent's entry is that of the item of this number.
+fn push_walked<C: Composer>(
+    composer: &C,
+    world: &C::World,
+    parent: Option<usize>,
+    place: C::Place,
+    levels: u32,
+    items: &mut Items<(C::Place, C::Entry)>,
+) -> Result<(), AllocError>
+    requires { option_map second (option_and_then (slice_get items.old) parent) ≡ option_map (C.entry_of world.now) (C.parent_of place) }
+    ensures { OnOk result (items.new ≡ items.old ++ walked C.entry_of C.listed levels world.now place) }
+{
+    if levels == 0 {
+        return Ok(());
+    }
+    let entry = composer.compose(world, entry_at(items, parent), &place)?;
+    let count = composer.child_count(&entry);
+    let at = items.len();
+    items.push((copy(&place)?, entry))?;
+    for i in 0..count {
+        let child = match items.get(at) {
+            None => return Ok(()),
+            Some(item) => composer.child_at(&place, &item.1, i)?,
+        };
+        push_walked(composer, world, Some(at), child, levels - 1, items)?;
+    }
+    Ok(())
+}
+
+/// All populated places with their entries, depth first from the root place.
+pub fn stage_items<C: Composer>(
+    alloc: Global,
+    composer: &C,
+    world: &C::World,
+) -> Result<Items<(C::Place, C::Entry)>, AllocError>
+    ensures { IfOk result (λ items. items ≡ stage_of C.entry_of C.listed world.now C.root_place) }
+{
+    let mut items = Items::new(alloc);
+    let root = composer.top()?;
+    push_walked(composer, world, None, root, 65, &mut items)?;
+    Ok(items)
+}

@@ -1,0 +1,39 @@
+-- A world that is a number.
+use Rattle.std.specs.Prelude.{◌≡◌, ◌≢◌, ◌+◌, ◌≤◌, ℕ, zero, suc, List, [], ◌∷◌, Option, Some, None, Result, Ok, Err, ◌<◌, Contains, AllPairs, slice_index_or}
+use Rattle.std.proofs.Common.{refl, arith, sym, lit≤}
+
+-- the root has the world as its entry, any other place has 0
+abbrev pub entry : ℕ → ℕ → ℕ
+entry w zero = w
+entry w (suc p) = 0
+
+-- a place whose entry is not 0 has one child
+abbrev pub children : ℕ → List ℕ
+children zero = []
+children (suc e) = 1 ∷ []
+
+abbrev pub after : ℕ → Option ℕ → Result ℕ (ℕ × ℕ)
+after w None = Err (1, 7)
+after w (Some n) = Ok n
+
+abbrev pub parent : ℕ → Option ℕ
+parent zero = None
+parent (suc p) = Some 0
+
+abbrev pub depth : ℕ → ℕ
+depth zero = 0
+depth (suc p) = 1
+
+pub are_different : (w p : ℕ) → AllPairs (λ x y. x ≢ y) (children (entry w p))
+are_different zero zero = λ i j d below within. absurd (omega arith)
+are_different (suc w) zero = λ i j d below within. absurd (omega arith)
+are_different w (suc p) = λ i j d below within. absurd (omega arith)
+
+pub only_one : (k q : ℕ) → k < 1 → slice_index_or (1 ∷ []) k q ≡ q → q ≡ 1
+only_one zero q within is = sym is
+only_one (suc k) q within is = absurd (omega arith)
+
+pub are_below : (w p q : ℕ) → Contains (children (entry w p)) q → (parent q ≡ Some p) × (depth q ≡ depth p + 1) × (depth q ≤ 64)
+are_below zero zero q has = absurd (omega (arith, has.1))
+are_below (suc w) zero q has = let e = only_one has.0 q has.1 has.2 in rw e (refl, refl, lit≤ tt)
+are_below w (suc p) q has = absurd (omega (arith, has.1))
