@@ -75,6 +75,10 @@ impl<T: ExactOrd> ExactOrd for Option<T> {
     ghost tie_is_same = { λ x y h. option_tie T.cmp T.tie_is_same x y h };
 }
 
+impl ExactClone for u8 {
+    ghost copy_is_same = { λ x y h. h };
+}
+
 impl ExactClone for u64 {
     ghost copy_is_same = { λ x y h. h };
 }

@@ -1,6 +1,7 @@
 //! A list over `Vec`.
 
 ghost use Rattle.std.specs.Prelude.{◌≡◌, [], ◌∷◌, ◌++◌, ◌<◌, ◌^◌, length, slice_get, slice_set, remove, ◌↔◌, IsTrue, IfOk, MatchOption, OnOk, OnErr, OnSome};
+ghost use Rattle.plain_data.specs.Ends.{last, front};
 ghost use Rattle.std.specs.Option.{option_copied};
 ghost use Rattle.std.specs.Slice.Iter.{iter_rest};
 ghost use Rattle.std.specs.Iterator.Adapters.{IterYieldsInOrder, IterYieldsInReverse};
@@ -115,6 +116,14 @@ impl<T: Drop> Items<T> {
     {
         self.items.push(item)?;
         Ok(())
+    }
+
+    /// Takes the last element out; nothing where there is none. Takes no memory.
+    pub fn pop(&mut self) -> Option<T>
+        ensures value { result ≡ last self.old }
+        ensures left { self.new ≡ front self.old }
+    {
+        self.items.pop()
     }
 }
 

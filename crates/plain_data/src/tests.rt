@@ -19,6 +19,11 @@ fn a_list_keeps_its_items_in_order(rt: HostRuntime) -> Result<(), Fail> {
     assert!(rt; same(&list, &copy(&again)?));
     let roomy: Items<u64> = Items::with_room_of(&list)?;
     assert!(rt; !list.same(&roomy));
+    let mut shorter = again.copy()?;
+    assert!(rt; shorter.pop() == Some(5));
+    assert!(rt; shorter.as_slice() == [3].as_slice());
+    assert!(rt; shorter.pop() == Some(3));
+    assert!(rt; shorter.pop().is_none());
     assert!(rt; again.into_vec().len() == 2);
     Ok(())
 }

@@ -2,11 +2,11 @@
 use Rattle.std.proofs.Common.{◌≡◌, ℕ, zero, suc, ◌+◌, ◌<◌, ◌≤◌, Bool, true, false, cond, ◌||◌, List, [], ◌∷◌, ◌++◌, length, Option, Some, None, refl, ap, sym, subst, ◌∙◌, arith}
 use Rattle.std.specs.Str.{bytes_eq}
 use Rattle.std.proofs.lemmas.Slice.Eq.{bytes_eq-Decides}
-use Rattle.sdf_specs.specs.declared.FirstAttr.{FirstAttr}
-use Rattle.sdf_specs.specs.Forest.{Forest, empty, prim, join, prim_names, nesting}
-use Rattle.sdf_specs.specs.Names.{is_among, AreNew}
-use Rattle.sdf_specs.proofs.Joins.{join_assoc, prim_names-join}
-use Rattle.usda_reader.specs.Grammar.{Items, none, attr, def, attrs_of, prims_in, IsWithin, IsFirstBody, IsFirstForm}
+use Rattle.first_layer.specs.declared.FirstAttr.{FirstAttr}
+use Rattle.first_layer.specs.Forest.{Forest, empty, prim, join, prim_names, nesting}
+use Rattle.first_layer.specs.Names.{is_among, AreNew}
+use Rattle.first_layer.proofs.Joins.{join_assoc, prim_names-join}
+use Rattle.first_reader.specs.Grammar.{Items, none, attr, def, attrs_of, prims_in, IsWithin, IsFirstBody, IsFirstForm}
 use Rattle.usdstage.specs.Stage.{Spec, find, below, children_at, flat_prim, flat_all, flat_below, flattened}
 
 -- at most so many levels, and in each body different names

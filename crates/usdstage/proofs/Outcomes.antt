@@ -5,9 +5,9 @@ use Rattle.std.specs.Global.{Vec}
 use Rattle.std.specs.Io.KnownBytes.{Appends}
 use Rattle.std.proofs.lemmas.List.{take_all, length-take, append-nil, take-append-drop}
 use Rattle.std.proofs.Math.Seq.{take-add}
-use Rattle.sdf_specs.specs.Forest.{Forest}
-use Rattle.usda_reader.specs.Grammar.{IsFirstForm}
-use Rattle.usda_writer.specs.Canonical.{canonical}
+use Rattle.first_layer.specs.Forest.{Forest}
+use Rattle.first_reader.specs.Grammar.{IsFirstForm}
+use Rattle.first_writer.specs.Canonical.{canonical}
 use Rattle.io_edges.specs.Edges.{most, FetchTells}
 use Rattle.io_edges.specs.declared.Fetched.TheVariants.{Found}
 use Rattle.usdstage.specs.Command.{command_of}

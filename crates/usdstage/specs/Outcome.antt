@@ -1,9 +1,9 @@
 -- What the program answers and writes.
 use Rattle.std.specs.Prelude.{◌≡◌, ℕ, ◌⊎◌, List, [], ◌++◌, Option, Some, None, Result, Ok, Err}
 use Rattle.std.specs.Global.{Vec}
-use Rattle.sdf_specs.specs.Forest.{Forest}
-use Rattle.usda_reader.specs.Grammar.{IsFirstForm}
-use Rattle.usda_writer.specs.Canonical.{canonical}
+use Rattle.first_layer.specs.Forest.{Forest}
+use Rattle.first_reader.specs.Grammar.{IsFirstForm}
+use Rattle.first_writer.specs.Canonical.{canonical}
 use Rattle.usdstage.specs.Command.{command_of}
 use Rattle.usdstage.specs.Stage.{flattened}
 use Rattle.usdstage.specs.declared.status.Status.{Status}

@@ -2,8 +2,8 @@
 -- From the AOUSD Core Specification, composition and flattening, for one layer without composition arcs: each populated prim is what the layer says at its path.
 use Rattle.std.specs.Prelude.{ℕ, zero, suc, List, [], ◌∷◌, ◌++◌, Option, Some, None, if◌then◌else◌}
 use Rattle.std.specs.Str.{bytes_eq}
-use Rattle.sdf_specs.specs.declared.FirstAttr.{FirstAttr}
-use Rattle.sdf_specs.specs.Forest.{Forest, empty, prim, prim_names}
+use Rattle.first_layer.specs.declared.FirstAttr.{FirstAttr}
+use Rattle.first_layer.specs.Forest.{Forest, empty, prim, prim_names}
 
 -- what a layer says of a prim, and the prims below it
 pub record Spec : Type 0 where

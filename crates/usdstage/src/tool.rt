@@ -15,8 +15,8 @@ use io_edges::{
 };
 use plain_data::Text;
 use std::alloc::Global;
-use usda_reader::{FirstFault, read_first};
-use usda_writer::write_first;
+use first_reader::{FirstFault, read_first};
+use first_writer::write_first;
 
 // The root is absent.
 fn refused(alloc: Global, root: &str) -> Status

@@ -1,5 +1,5 @@
 use Rattle.std.proofs.Common.{◌≡◌}
-use Rattle.sdf_specs.specs.Layer.{layer_of}
+use Rattle.first_layer.specs.Layer.{layer_of}
 use Rattle.usdstage.proofs.Flat.{nesting_form}
 use Rattle.usdstage.proofs.Outcomes.{told_ok, told_not_yet}
 use Rattle.usdstage.proofs.tool.text_of.Goals as goal
