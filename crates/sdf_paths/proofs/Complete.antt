@@ -6,7 +6,7 @@ use Rattle.std.specs.Str.{encode_utf8_all}
 use Rattle.std.proofs.lemmas.Bool.{and_parts}
 use Rattle.std.proofs.lemmas.List.Sums.{sum_by-cons}
 use Rattle.std.proofs.lemmas.Str.{encodes-append, encode_ascii}
-use Rattle.sdf_paths.specs.Names.{is_start, spells_identifier, is_identifier, is_variant, is_property_name}
+use Rattle.usd_names.specs.Names.{is_start, spells_identifier, is_identifier, is_variant, is_property_name}
 use Rattle.unicode_ident.specs.Ident.{is_xid_continue}
 use Rattle.sdf_paths.specs.Paths.{is_prim_name, is_well_named, is_ordered, depth, written, Spells, IsTextOf, IsWellFormed}
 use Rattle.sdf_paths.specs.Reader.{reader, start, step, finish, after_all}

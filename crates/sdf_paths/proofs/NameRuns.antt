@@ -7,7 +7,7 @@ use Rattle.std.proofs.lemmas.Bool.{and_parts, cases_Bool, eqb-true}
 use Rattle.std.proofs.lemmas.Str.{encodes-chars, IsUtf8-from_is_utf8}
 use Rattle.unicode_ident.specs.Ident.{is_xid_continue}
 use Rattle.unicode_ident.proofs.IdentLemmas.{is_xid_start-ascii, is_xid_continue-ascii}
-use Rattle.sdf_paths.specs.Names.{is_start, is_variant_character, goes_on, spells_identifier, spells_joined, spells_run, spells_variant, is_identifier, is_variant, is_property_name}
+use Rattle.usd_names.specs.Names.{is_start, is_variant_character, goes_on, spells_identifier, spells_joined, spells_run, spells_variant, is_identifier, is_variant, is_property_name}
 use Rattle.sdf_paths.specs.Reader.{reader, step, after_all}
 use Rattle.sdf_paths.specs.declared.element.Element.{Element}
 use Rattle.sdf_paths.specs.declared.reader.Reader.{Reader}

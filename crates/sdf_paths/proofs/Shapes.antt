@@ -8,7 +8,7 @@ use Rattle.std.proofs.lemmas.Slice.Eq.{bytes_eq-Decides}
 use Rattle.std.specs.Str.{bytes_eq}
 use Rattle.std.specs.Option.{is_some}
 use Rattle.sdf_paths.specs.Paths.{same_element, rest_after, has_prefix, HasPrefix, MayFollow, is_selection, is_well_named, is_ordered, is_empty, is_property, is_prim_name, depth, written, written_all, printed, ends_selected, plain, owner, IsPath}
-use Rattle.sdf_paths.specs.Names.{is_identifier}
+use Rattle.usd_names.specs.Names.{is_identifier}
 use Rattle.sdf_paths.specs.declared.element.Element.{Element}
 use Rattle.sdf_paths.specs.declared.element.Element.TheVariants.{Prim, Property, Selection}
 

@@ -9,7 +9,7 @@ use Rattle.std.proofs.lemmas.List.Folds.{list_all-append, list_any-append}
 use Rattle.std.proofs.lemmas.List.Sums.{sum_by_push}
 use Rattle.std.proofs.lemmas.Str.{encodes-append, encode_ascii, chars-encodes, is_utf8-from_IsUtf8}
 use Rattle.unicode_ident.specs.Ident.{is_xid_continue}
-use Rattle.sdf_paths.specs.Names.{is_start, is_variant_character, goes_on, spells_identifier, identifier_rest, spells_joined, spells_run, spells_variant, is_identifier, is_variant, is_property_name}
+use Rattle.usd_names.specs.Names.{is_start, is_variant_character, goes_on, spells_identifier, identifier_rest, spells_joined, spells_run, spells_variant, is_identifier, is_variant, is_property_name}
 use Rattle.sdf_paths.specs.Paths.{is_selection, is_prim_name, is_well_named, is_ordered, is_empty, is_property, is_property_part, depth, written, Spells, IsTextOf, IsWellFormed, ends_selected}
 use Rattle.sdf_paths.specs.Reader.{reader, start, step, finish, begins, step_name, step_set, step_after_set, step_variant, step_selected, step_property, step_nothing, step_open, finish_name, finish_open, after_all}
 use Rattle.sdf_paths.specs.declared.element.Element.{Element}

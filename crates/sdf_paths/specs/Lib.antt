@@ -1,5 +1,4 @@
 pub mod DerivedOrder
-pub mod Names
 pub mod Order
 pub mod Paths
 pub mod PathOrder

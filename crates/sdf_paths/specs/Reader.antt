@@ -1,7 +1,7 @@
 -- A reader of paths as a machine over characters: what each character adds to what has been read.
 use Rattle.std.specs.Prelude.{◌≡◌, ℕ, ◌+◌, nat_lt, Bool, true, false, ◌==◌, List, [], ◌∷◌, ◌++◌, Option, Some, None, if◌then◌else◌, encode_utf8, length, ◌≤◌, ◌<◌, ◌⊎◌}
 use Rattle.std.specs.Str.{chars, encode_utf8_all}
-use Rattle.sdf_paths.specs.Names.{is_start, is_variant_character, goes_on}
+use Rattle.usd_names.specs.Names.{is_start, is_variant_character, goes_on}
 use Rattle.sdf_paths.specs.declared.element.Element.{Element}
 use Rattle.sdf_paths.specs.declared.element.Element.TheVariants.{Prim, Property, Selection}
 use Rattle.sdf_paths.specs.declared.fault.PathFault.{PathFault}

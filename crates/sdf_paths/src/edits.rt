@@ -1,15 +1,15 @@
 // Lists of elements made of other lists.
 ghost use Rattle.std.specs.Prelude.{◌≡◌, ◌≤◌, ◌<◌, ◌+◌, ◌^◌, ◌&&◌, ◌↔◌, ◌++◌, ◌∷◌, [], IfOk, IfErr, OnOk, IsTrue, false, length, cond};
-ghost use Rattle.sdf_paths.specs.Names.{is_identifier};
+ghost use Rattle.usd_names.specs.Names.{is_identifier};
 ghost use Rattle.sdf_paths.specs.Paths.{written, written_all, is_selection, is_property, is_property_part, ends_selected, depth, plain, owner, IsPath};
 
 use crate::element::Element;
 use crate::fault::PathFault;
 use crate::looks::{depth, is_property_part, is_selection};
-use crate::names::is_identifier;
 use crate::reader::{MAX_BYTES, MAX_NAMES};
 use plain_data::{Items, Text, copy};
 use std::alloc::{AllocError, Global};
+use usd_names::is_identifier;
 
 /// Appends copies.
 fn push_all(out: &mut Items<Element>, elements: &[Element]) -> Result<(), AllocError>

@@ -8,7 +8,6 @@ mod edits;
 mod element;
 mod fault;
 mod looks;
-mod names;
 mod path;
 mod reader;
 #[cfg(test)]

@@ -4,9 +4,9 @@ ghost use Rattle.sdf_paths.specs.Reader.{step, finish, start, begins, step_nothi
 
 use crate::element::Element;
 use crate::fault::PathFault;
-use crate::names::{goes_on, is_start, is_variant_character};
 use plain_data::{Items, Text};
 use std::alloc::{AllocError, Global};
+use usd_names::{goes_on, is_start, is_variant_character};
 
 /// The most names of prims in a path.
 pub const MAX_NAMES: usize = 64;

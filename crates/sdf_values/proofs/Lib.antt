@@ -4,7 +4,6 @@ pub mod Digits
 pub mod Texts
 pub mod Times
 pub mod Escapes
-pub mod Chains
 pub mod Elements
 pub mod Offsets
 pub mod Fractions

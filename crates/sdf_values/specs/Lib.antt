@@ -2,7 +2,6 @@ pub mod Numbers
 pub mod NumberTexts
 pub mod Scales
 pub mod TypeNames
-pub mod Names
 pub mod Conforms
 pub mod Print
 pub mod Proper

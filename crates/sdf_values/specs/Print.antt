@@ -3,7 +3,7 @@ use Rattle.std.specs.Prelude.{ℕ, zero, suc, Bool, true, false, if◌then◌els
 use Rattle.std.specs.List.{list_any}
 use Rattle.std.specs.Fmt.{decimal}
 use Rattle.sdf_values.specs.Numbers.{DecimalNumber}
-use Rattle.sdf_values.specs.Names.{is_name}
+use Rattle.usd_names.specs.Names.{is_name}
 use Rattle.sdf_values.specs.TypeNames.{type_text}
 use Rattle.sdf_values.specs.declared.decimal.Num.{Num}
 use Rattle.sdf_values.specs.declared.decimal.Num.TheVariants as num

@@ -6,7 +6,6 @@ mod conform;
 mod copy;
 mod decimal;
 mod exact;
-mod name;
 mod numeral;
 mod offset;
 mod parse;
@@ -20,7 +19,6 @@ mod value;
 
 pub use conform::conforms;
 pub use decimal::{Decimal, Num, NumberFault};
-pub use name::is_name;
 pub use numeral::{push_num, push_time};
 pub use offset::{LayerOffset, OffsetRange};
 pub use print::{print_value, push_asset, push_string, push_value};

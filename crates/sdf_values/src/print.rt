@@ -4,11 +4,11 @@ ghost use Rattle.sdf_values.specs.Print.{print, print_item, listed, lines, dict_
 ghost use Rattle.sdf_values.specs.TypeNames.{type_text};
 ghost use Rattle.sdf_values.specs.declared.value.DictItem.{out-DictItem};
 
-use crate::name::is_name;
 use crate::numeral::{push_num, push_time, push_whole};
 use crate::type_name::TypeName;
 use crate::value::{DictItem, DictType, Value};
 use std::alloc::{AllocError, Global};
+use usd_names::is_name;
 
 /// The canonical text of a value. The entries of a dictionary stand on lines of their own, `indent` levels of four
 /// blanks and one more in.

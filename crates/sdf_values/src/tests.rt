@@ -396,15 +396,3 @@ fn dictionaries_print_on_lines(rt: HostRuntime) -> Result<(), Fail> {
     assert!(rt; value != Value::Block);
     Ok(())
 }
-
-#[test]
-fn names_are_identifiers_and_colons(rt: HostRuntime) {
-    for name in ["a", "_", "a:b", "inf:a", "nana", "é", "a1:_2"] {
-        assert!(rt; is_name(name), "{name}");
-    }
-    for text in [
-        "", ":", "a:", ":a", "a::b", "1a", "a b", "inf", "nan", "a-b", "a:1",
-    ] {
-        assert!(rt; !is_name(text), "{text}");
-    }
-}

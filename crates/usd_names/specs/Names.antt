@@ -1,7 +1,8 @@
--- The names in paths.
-use Rattle.std.specs.Prelude.{ℕ, Bool, true, false, ◌&&◌, ◌||◌, ◌==◌, if◌then◌else◌, List, [], ◌∷◌}
+-- Names: identifiers, alone or joined by colons, and the names of variants.
+use Rattle.std.specs.Prelude.{ℕ, Bool, true, false, not, ◌&&◌, ◌||◌, ◌==◌, if◌then◌else◌, List, [], ◌∷◌, codes}
 use Rattle.std.specs.List.{list_all}
 use Rattle.std.specs.Str.{chars, is_utf8}
+use Rattle.std.specs.Cmp.Lexicographic.{pointwise}
 use Rattle.unicode_ident.specs.Ident.{is_xid_start, is_xid_continue}
 
 -- a character that an identifier may begin with
@@ -54,3 +55,11 @@ is_variant bytes = is_utf8 bytes && spells_variant (chars bytes)
 -- the bytes are the name of a property
 unfoldable pub is_property_name : List ℕ → Bool
 is_property_name bytes = is_utf8 bytes && spells_joined false (chars bytes)
+
+-- the words that are numbers and no names
+abbrev pub is_number_word : List ℕ → Bool
+is_number_word t = pointwise ◌==◌ t (codes "inf") || pointwise ◌==◌ t (codes "nan")
+
+-- what a text that is valid UTF-8 spells is a name: identifiers joined by colons, and no number
+abbrev pub is_name : List ℕ → Bool
+is_name t = spells_joined false (chars t) && not (is_number_word t)

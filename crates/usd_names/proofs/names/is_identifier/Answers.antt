@@ -1,8 +1,8 @@
 use Rattle.std.proofs.Common.{◌∙◌, ap, sym, ◌&&◌}
 use Rattle.std.specs.Str.{chars}
 use Rattle.std.proofs.lemmas.Str.{is_utf8-from_IsUtf8}
-use Rattle.sdf_paths.specs.Names.{is_identifier, spells_identifier}
-use Rattle.sdf_paths.proofs.names.is_identifier.Goals as goal
+use Rattle.usd_names.specs.Names.{is_identifier, spells_identifier}
+use Rattle.usd_names.proofs.names.is_identifier.Goals as goal
 
 pub returns : goal.returns
 unfolding is_identifier

@@ -3,8 +3,8 @@ use Rattle.std.specs.Prelude.{encode_utf8}
 use Rattle.std.specs.Str.{chars, IsUtf8}
 use Rattle.std.specs.Str.Iter.{chars_rest}
 use Rattle.std.proofs.lemmas.Str.{IsUtf8-past_char, chars_past_char, chars-nil}
-use Rattle.sdf_paths.specs.Names.{identifier_rest, goes_on}
-use Rattle.sdf_paths.proofs.names.spells_identifier.Goals as goal
+use Rattle.usd_names.specs.Names.{identifier_rest, goes_on}
+use Rattle.usd_names.proofs.names.spells_identifier.Goals as goal
 
 -- one character of an identifier
 one_more : (begun : Bool) (bs rest : List ℕ) (c : ℕ) (b : Bool) → IsUtf8 bs → bs ≡ encode_utf8 c ++ rest → goes_on begun c ≡ b → identifier_rest begun (chars bs) ≡ (b && identifier_rest true (chars rest))

@@ -2,8 +2,8 @@ use Rattle.std.proofs.Common.{◌≡◌}
 use Rattle.std.specs.Str.{chars}
 use Rattle.std.specs.Str.Iter.{chars_rest}
 use Rattle.std.specs.Str.{IsUtf8}
-use Rattle.sdf_paths.specs.Names.{spells_identifier, identifier_rest}
-use Rattle.sdf_paths.proofs.names.spells_identifier.Given as goal
+use Rattle.usd_names.specs.Names.{spells_identifier, identifier_rest}
+use Rattle.usd_names.proofs.names.spells_identifier.Given as goal
 
 abbrev pub invariant-loop-c : goal.invariant-loop-c
 invariant-loop-c l = record {

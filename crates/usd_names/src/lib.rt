@@ -1,0 +1,8 @@
+//! The names of scene description: which characters and which texts are identifiers, names joined by colons, and names of variants.
+#![tactic(auto)]
+
+mod names;
+#[cfg(test)]
+mod tests;
+
+pub use names::{goes_on, is_continue, is_identifier, is_name, is_start, is_variant_character};
