@@ -83,10 +83,14 @@ text_done (takes d) (s ∷ stack) h = absurd h
 pub accepted : (ks : List TokenKind) → IsAccepted layer ks → AreText layer ks
 accepted ks (left, took, done) = subst (AreText layer) (append-nil ks) (steps_sound layer ks [] left took (done_text left done))
 
-pub text : (ks : List TokenKind) → AreText layer ks → IsAccepted layer ks
-text ks h =
-    let l = steps_only layer ks [] clear-layer (subst (AreText layer) (sym (append-nil ks)) h) in
+-- from any symbols of which each is followed by what may follow it
+pub text_from : (start : List Symbol) → IsClear start → (ks : List TokenKind) → AreText start ks → IsAccepted start ks
+text_from start clear ks h =
+    let l = steps_only start ks [] clear (subst (AreText start) (sym (append-nil ks)) h) in
     (l.left, l.took, text_done l.text.0 l.left l.text.1)
+
+pub text : (ks : List TokenKind) → AreText layer ks → IsAccepted layer ks
+text = text_from layer clear-layer
 
 steps-more : (stack : List Symbol) (front : List TokenKind) (k : TokenKind) (left : List Symbol) → steps stack front ≡ Some left → step left k ≡ None → steps stack (front ++ k ∷ []) ≡ None
 steps-more stack [] k left e none = let f : stack ≡ left = cc in rw (f, none) refl
@@ -96,11 +100,14 @@ steps-more stack (j ∷ front) k left e none = went (λ next same. steps-more ne
     went deeper None same = refl
     went deeper (Some next) same = deeper next.1 same
 
-pub refused : (front : List TokenKind) (stack : List Symbol) (k : TokenKind) (rest : List TokenKind) → steps layer front ≡ Some stack → step stack k ≡ None → AreText layer (front ++ k ∷ rest) → ⊥
-refused front stack k rest took none h =
-    let l = steps_only layer (front ++ k ∷ []) rest clear-layer (subst (AreText layer) (sym (append_assoc front (k ∷ []) rest)) h) in
-    let f : steps layer (front ++ k ∷ []) ≡ None = steps-more layer front k stack took none in
+pub refused_from : (start : List Symbol) → IsClear start → (front : List TokenKind) (stack : List Symbol) (k : TokenKind) (rest : List TokenKind) → steps start front ≡ Some stack → step stack k ≡ None → AreText start (front ++ k ∷ rest) → ⊥
+refused_from start clear front stack k rest took none h =
+    let l = steps_only start (front ++ k ∷ []) rest clear (subst (AreText start) (sym (append_assoc front (k ∷ []) rest)) h) in
+    let f : steps start (front ++ k ∷ []) ≡ None = steps-more start front k stack took none in
     absurd (let g : None ≡ Some l.left = sym f ∙ l.took in cc)
+
+pub refused : (front : List TokenKind) (stack : List Symbol) (k : TokenKind) (rest : List TokenKind) → steps layer front ≡ Some stack → step stack k ≡ None → AreText layer (front ++ k ∷ rest) → ⊥
+refused = refused_from layer clear-layer
 
 -- ---- what the machine has taken goes on
 

@@ -2,14 +2,13 @@
 use Rattle.std.proofs.Common.{◌≡◌, ℕ, zero, suc, ◌≤◌, ◌⊎◌, inl, inr, Bool, true, false, ◌&&◌, ◌||◌, List, [], ◌∷◌, ◌++◌, map, Option, Some, None, refl, ap, sym, subst, ◌∙◌, append_assoc, arith}
 use Rattle.usda_grammar.specs.declared.kind.TokenKind.{TokenKind}
 use Rattle.usda_grammar.specs.declared.symbol.Symbol.{Symbol}
-use Rattle.usda_grammar.specs.declared.kind.Keyword.{Keyword}
 use Rattle.usda_grammar.specs.declared.kind.Keyword.TheVariants.{Specifier, FieldStrings, FieldPaths, FieldRefs, Edit, Reorder, VariantsWord, VariantSetWord, SubLayers, RootPrims, BodyOrder, Custom, Uniform, Rel, TimeSamples, Connect, Spline, Offs, NoneWord, Dictionary, Other}
 use Rattle.usda_grammar.specs.declared.kind.TokenKind.TheVariants.{Word, Number, Quoted, Asset, Path, OpenParen, CloseParen, OpenBrace, CloseBrace, OpenBracket, CloseBracket, Equals, Comma, Semicolon, Colon, Dot, Fault}
 use Rattle.usda_grammar.specs.declared.symbol.Symbol.TheVariants.{EqualsMark, CloseParenMark, BodyOpen, BodyClose, VariantsOpen, VariantsClose, DictClose, SamplesOpen, ColonMark, RootPrimsName, NumberHere, PrimName, SetName, DotMark, BracketClose, ConnectName, Semi, LayerHead, HeadItems, Subs, SubsNext, SubsMore, OffsetsOpt, Offsets, Roots, PrimType, PrimMeta, PrimItems, AfterEditWord, StringList, StringNext, StringMore, PathList, PathNext, PathMore, RefList, RefNext, RefMore, RefPath, Body, AfterCustom, AfterUniform, AfterEdit, AfterReorder, AfterEditCustom, AfterEditUniform, ArrayOpt, PropertyName, AttrTail, AfterDot, SamplesNext, SamplesMore, RelList, ItemsOpt, Items, Variants, Value, TupleMore, TupleNext, ArrayNext, ArrayMore, Dict, DictEntries, DictKey, DictSep, Names, NamesNext, NamesMore}
 use Rattle.usda_grammar.specs.Grammar.{starts, may_be_absent, Derivation, ends, skips, takes, Derives, AreText}
 use Rattle.usda_grammar.specs.Machine.{is_done}
 use Rattle.usda_grammar.proofs.Parsing.{done_text}
-use Rattle.usda_productions.specs.Forms.{Rule, root, head_item, subs, sub, offs, prim, prim_item, edited, field, string_list, path_list, ref_list, ref, statement, variant_set, variant, rel, after_reorder, after_edit, after_edit_custom, after_edit_uniform, after_custom, after_uniform, after_dot, sample, item, value, dict, entry, names, is, is_name, is_name_but, is_edit_word, is_key, is_literal, is_connect, is_separator, ◌∣◌, tok, wrd, any_name, name_but, semi, listed, offsets, prim_meta, items, brackets, attr_tail, Form, one, rule, either, maybe, many, more, commas, Seq, nil, then, list_of, just, ◌▹◌, rules, Choice, left, right, opened, token_of, Route, done, word, pick, IsOf, IsText}
+use Rattle.usda_productions.specs.Forms.{Rule, root, head_item, subs, sub, offs, prim, prim_item, edited, field, string_list, path_list, ref_list, ref, statement, variant_set, variant, rel, after_reorder, after_edit, after_edit_custom, after_edit_uniform, after_custom, after_uniform, after_dot, sample, item, value, dict, entry, names, is, is_key, is_connect, is_separator, tok, wrd, any_name, semi, listed, offsets, prim_meta, items, brackets, attr_tail, Form, one, rule, either, maybe, many, more, commas, Seq, nil, then, list_of, just, ◌▹◌, rules, Choice, left, right, opened, token_of, Route, done, word, pick, IsOf, IsText}
 
 -- what each symbol of the table stands for
 abbrev form : Symbol → Form

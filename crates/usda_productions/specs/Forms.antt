@@ -1,5 +1,5 @@
 -- Productions, and the texts of a list of forms.
-use Rattle.std.specs.Prelude.{◌≡◌, ℕ, Bool, true, false, not, ◌&&◌, ◌||◌, ◌==◌, nat_lt, List, [], ◌∷◌, ◌++◌, Option, Some, None}
+use Rattle.std.specs.Prelude.{◌≡◌, ℕ, Bool, true, not, ◌&&◌, ◌||◌, ◌==◌, nat_lt, List, [], ◌∷◌, ◌++◌, Option, Some, None}
 use Rattle.usda_grammar.specs.declared.kind.TokenKind.{TokenKind}
 use Rattle.usda_grammar.specs.declared.kind.Keyword.{Keyword}
 use Rattle.usda_grammar.specs.declared.kind.Keyword.TheVariants.{Specifier, FieldStrings, FieldPaths, FieldRefs, Edit, Reorder, VariantsWord, VariantSetWord, SubLayers, RootPrims, BodyOrder, Custom, Uniform, Rel, TimeSamples, Connect, Spline, Offs, NoneWord, Dictionary, Other}
