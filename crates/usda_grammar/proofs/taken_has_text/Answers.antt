@@ -1,5 +1,0 @@
-use Rattle.usda_grammar.proofs.Parsing.{taken}
-use Rattle.usda_grammar.proofs.taken_has_text.Goals as goal
-
-pub returns : goal.returns
-returns c = taken

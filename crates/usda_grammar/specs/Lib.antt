@@ -1,9 +1,0 @@
-pub mod Grammar
-pub mod HeadRows
-pub mod Laws
-pub mod Machine
-pub mod Marks
-pub mod PrimRows
-pub mod PropertyRows
-pub mod ValueRows
-pub mod Words
