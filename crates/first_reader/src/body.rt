@@ -6,8 +6,8 @@ ghost use Rattle.first_layer.specs.Layer.{prim_of, prims_of};
 ghost use Rattle.first_layer.specs.Names.{is_among};
 ghost use Rattle.first_reader.specs.Sets.{Lists};
 
-use plain_data::{Items, Text};
 use first_layer::{FirstAttr, FirstPrim};
+use plain_data::{Items, Text};
 use std::alloc::{AllocError, Global};
 use std::collections::BTreeSet;
 

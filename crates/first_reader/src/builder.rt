@@ -10,8 +10,8 @@ ghost use Rattle.first_reader.specs.Bodies.{content_of, frames_of};
 use crate::FirstFault;
 use crate::body::{Body, OpenPrim};
 use crate::statement::Statement;
-use plain_data::Text;
 use first_layer::FirstLayer;
+use plain_data::Text;
 use std::alloc::{AllocError, Global};
 use std::mem;
 

@@ -15,9 +15,9 @@ mod statement;
 
 use builder::Builder;
 use first_layer::FirstLayer;
+use first_lexer::Tokens;
 use statement::next_statement;
 use std::alloc::{AllocError, AllocFailed, Global};
-use first_lexer::Tokens;
 
 /// Why a layer was not read.
 #[derive(Clone, Copy, Debug, PartialEq, Eq)]

@@ -11,8 +11,8 @@ ghost use Rattle.first_layer.specs.Forest.{nesting};
 ghost use Rattle.first_layer.specs.Layer.{prims_of, layer_of};
 ghost use Rattle.first_writer.specs.Canonical.{indent, attr_line, type_text, prim_head, prim_foot, prims_text, canonical};
 
-use plain_data::Text;
 use first_layer::{FirstAttr, FirstLayer, FirstPrim};
+use plain_data::Text;
 use std::alloc::{AllocError, Global};
 
 fn write_indent(out: &mut Vec<u8>, depth: usize) -> Result<(), AllocError>

@@ -10,13 +10,13 @@ ghost use Rattle.usdstage.specs.Command.{command_of};
 use crate::output::{Written, write_all};
 use crate::status::Status;
 use crate::words::command_of;
+use first_reader::{FirstFault, read_first};
+use first_writer::write_first;
 use io_edges::{
     Fetched, FreeGate, Gate, LayerFiles, Sink, Source, SureFiles, SureSink, SureSource,
 };
 use plain_data::Text;
 use std::alloc::Global;
-use first_reader::{FirstFault, read_first};
-use first_writer::write_first;
 
 // The root is absent.
 fn refused(alloc: Global, root: &str) -> Status
