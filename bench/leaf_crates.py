@@ -122,11 +122,11 @@ fn long_path(alloc: Global, bytes: usize) -> Result<Path, AllocError> {
     }
 }
 
-/// A thousand copies of a path, each compared with it.
+/// A hundred thousand copies of a path, each compared with it.
 fn copied(alloc: Global, bytes: usize) -> Result<usize, AllocError> {
     let path = long_path(alloc, bytes)?;
     let mut count = 0;
-    for _i in 0..1000 {
+    for _i in 0..100_000 {
         let copy = path.clone()?;
         if copy == path && copy <= path {
             count = path.depth();

@@ -404,8 +404,7 @@ def proofs_follow():
 
 def proofs_shortest():
     out = antt_head("Some text of each symbol.",
-                    "Rattle.std.proofs.Common.{◌≡◌, List, [], ◌∷◌, ◌++◌, refl}", *ENUMS,
-                    "Rattle.usda_grammar.specs.Table.{starts, may_be_absent}", "Rattle.usda_grammar.specs.Derivations.{Derivation, ends, skips, takes, Derives, AreText}")
+                    "Rattle.std.proofs.Common.{List, [], ◌∷◌, ◌++◌, refl}", *ENUMS, "Rattle.usda_grammar.specs.Derivations.{skips, takes, AreText}")
 
     def text(name):
         if name in ABSENT:
@@ -441,7 +440,7 @@ def proofs_rows():
 
 def proofs_agree():
     out = antt_head("Each row of the table is the one way on of what its symbol stands for.",
-                    "Rattle.std.proofs.Common.{◌≡◌, refl}", *ENUMS[:1], *ENUMS[3:], "Rattle.usda_grammar.specs.Table.{starts, may_be_absent}",
+                    "Rattle.std.proofs.Common.{◌≡◌, refl}", *ENUMS[:1], *ENUMS[3:], "Rattle.usda_grammar.specs.Table.{may_be_absent}",
                     "Rattle.usda_grammar.proofs.AllKinds.{by_kind}", "Rattle.usda_productions.proofs.Shapes.{form}", "Rattle.usda_productions.proofs.Ways.{absent, Agrees}")
     out += "pub table : (s : Symbol) (k : TokenKind) → Agrees s k\n"
     out += "".join(f"table symbol.{name} = by_kind (Agrees symbol.{name}) {' '.join(['refl'] * len(KINDS))}\n" for name in NAMES)

@@ -1,12 +1,11 @@
 -- Some text of each symbol. Written by tools/grammar.py.
-use Rattle.std.proofs.Common.{◌≡◌, List, [], ◌∷◌, ◌++◌, refl}
+use Rattle.std.proofs.Common.{List, [], ◌∷◌, ◌++◌, refl}
 use Rattle.usda_grammar.specs.declared.kinds.TokenKind.{TokenKind}
 use Rattle.usda_grammar.specs.declared.kinds.TokenKind.TheVariants as token
 use Rattle.usda_grammar.specs.declared.kinds.Keyword.TheVariants as word
 use Rattle.usda_grammar.specs.declared.symbols.Symbol.{Symbol}
 use Rattle.usda_grammar.specs.declared.symbols.Symbol.TheVariants as symbol
-use Rattle.usda_grammar.specs.Table.{starts, may_be_absent}
-use Rattle.usda_grammar.specs.Derivations.{Derivation, ends, skips, takes, Derives, AreText}
+use Rattle.usda_grammar.specs.Derivations.{skips, takes, AreText}
 
 abbrev pub shortest : Symbol → List TokenKind
 shortest symbol.Equals = token.Equals ∷ []

@@ -3,7 +3,7 @@ use Rattle.std.proofs.Common.{◌≡◌, refl}
 use Rattle.usda_grammar.specs.declared.kinds.TokenKind.{TokenKind}
 use Rattle.usda_grammar.specs.declared.symbols.Symbol.{Symbol}
 use Rattle.usda_grammar.specs.declared.symbols.Symbol.TheVariants as symbol
-use Rattle.usda_grammar.specs.Table.{starts, may_be_absent}
+use Rattle.usda_grammar.specs.Table.{may_be_absent}
 use Rattle.usda_grammar.proofs.AllKinds.{by_kind}
 use Rattle.usda_productions.proofs.Shapes.{form}
 use Rattle.usda_productions.proofs.Ways.{absent, Agrees}

@@ -3,7 +3,7 @@ use Rattle.std.proofs.Common.{◌≡◌, ℕ, zero, suc, ◌≤◌, ◌⊎◌, i
 use Rattle.usda_grammar.specs.declared.kinds.TokenKind.{TokenKind}
 use Rattle.usda_grammar.specs.declared.kinds.TokenKind.TheVariants as token
 use Rattle.usda_grammar.specs.declared.symbols.Symbol.{Symbol}
-use Rattle.usda_grammar.specs.Table.{starts, may_be_absent}
+use Rattle.usda_grammar.specs.Table.{starts}
 use Rattle.usda_grammar.specs.Derivations.{Derivation, ends, skips, takes, Derives, AreText}
 use Rattle.usda_grammar.specs.Machine.{is_done}
 use Rattle.usda_grammar.proofs.Parsing.{done_text}

@@ -4,7 +4,7 @@ use Rattle.usda_grammar.specs.declared.kinds.TokenKind.{TokenKind}
 use Rattle.usda_grammar.specs.declared.symbols.Symbol.{Symbol}
 use Rattle.usda_grammar.specs.Table.{starts}
 use Rattle.usda_productions.specs.Forms.{Form, one, rule, either, maybe, many, more, Seq, nil, then}
-use Rattle.usda_productions.specs.Texts.{Choice, left, right, opened, token_of}
+use Rattle.usda_productions.specs.Texts.{left, right, opened, token_of}
 use Rattle.usda_productions.proofs.Shapes.{form}
 
 -- whether nothing may stand for a form

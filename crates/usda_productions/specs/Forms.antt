@@ -3,7 +3,6 @@ use Rattle.std.specs.Prelude.{Bool, List, [], ◌∷◌}
 use Rattle.usda_grammar.specs.declared.kinds.TokenKind.{TokenKind}
 use Rattle.usda_grammar.specs.declared.kinds.TokenKind.TheVariants as token
 use Rattle.usda_grammar.specs.declared.kinds.Keyword.{Keyword}
-use Rattle.usda_grammar.specs.declared.kinds.Keyword.TheVariants as word
 use Rattle.usda_productions.specs.Tokens.{is, is_name, is_name_but}
 
 -- the names of the productions

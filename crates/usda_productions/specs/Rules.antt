@@ -3,7 +3,7 @@ use Rattle.std.specs.Prelude.{List, [], ◌∷◌}
 use Rattle.usda_grammar.specs.declared.kinds.TokenKind.TheVariants as token
 use Rattle.usda_grammar.specs.declared.kinds.Keyword.TheVariants as word
 use Rattle.usda_productions.specs.Tokens.{is_edit_word, is_key, is_literal, is_separator}
-use Rattle.usda_productions.specs.Forms.{Rule, root_statement, head_item, sublayer_list, sublayer, offset_item, prim, prim_item, edited_field, field, string_list, path_list, reference_list, reference, statement, variant_set, variant, relationship, after_reorder, after_edit, after_edited_custom, after_edited_variability, after_custom, after_variability, after_dot, edited_dot, sample, property_item, value, dictionary, entry, name_list, Form, one, rule, either, maybe, many, more, Seq, nil, then, ◌▹◌, ◌∣◌, just, tok, wrd, any_name, name_but, commas, listed, semicolon, in_brackets, array_mark}
+use Rattle.usda_productions.specs.Forms.{Rule, root_statement, head_item, sublayer_list, sublayer, offset_item, prim, prim_item, edited_field, field, string_list, path_list, reference_list, reference, statement, variant_set, variant, relationship, after_reorder, after_edit, after_edited_custom, after_edited_variability, after_custom, after_variability, after_dot, edited_dot, sample, property_item, value, dictionary, entry, name_list, Form, one, rule, maybe, many, more, Seq, nil, ◌▹◌, ◌∣◌, tok, wrd, any_name, name_but, listed, semicolon, in_brackets, array_mark}
 
 -- what stands behind an attribute's name: a value and metadata, metadata alone, samples or connections, or nothing
 abbrev pub attribute_tail : Form
