@@ -115,3 +115,41 @@ completed (s ∷ stack) = with_shortest s stack (shortest_of stack) (completed s
 
 pub taken : (front : List TokenKind) (stack : List Symbol) → steps layer front ≡ Some stack → (rest : List TokenKind) × AreText layer (front ++ rest)
 taken front stack took = (shortest_of stack, steps_sound layer front (shortest_of stack) stack took (completed stack))
+
+-- what takes a token is not absent before it
+no_skip : (d : Derivation) (s : Symbol) (stack : List Symbol) (k : TokenKind) (ks : List TokenKind) (after : List Symbol) → IsClear (s ∷ stack) → starts s k ≡ Some after → may_be_absent s ≡ true → Derives d stack (k ∷ ks) → ⊥
+no_skip d s stack k ks after clear at absent h =
+    let w = step_only d stack k ks clear.1 h in
+    let follow : may_follow s k ≡ false = ap (λ (b : Bool). b && may_follow s k) (sym absent) ∙ (is_good-at s k after at).unlike in
+    absurd (let f : None ≡ Some w.next = sym (clear.0 k follow) ∙ w.took in cc)
+
+same_after : (a b : List Symbol) → Some a ≡ Some b → a ≡ b
+same_after a b e = cc
+
+-- a text comes from its symbols in one way
+pub one_way : (d e : Derivation) (stack : List Symbol) (ks : List TokenKind) → IsClear stack → Derives d stack ks → Derives e stack ks → d ≡ e
+one_way ends ends stack ks clear h g = refl
+one_way ends (skips e) [] ks clear h g = absurd g
+one_way ends (skips e) (s ∷ stack) ks clear h g = absurd h
+one_way ends (takes e) [] ks clear h g = absurd g
+one_way ends (takes e) (s ∷ stack) ks clear h g = absurd h
+one_way (skips d) ends [] ks clear h g = absurd h
+one_way (skips d) ends (s ∷ stack) ks clear h g = absurd g
+one_way (takes d) ends [] ks clear h g = absurd h
+one_way (takes d) ends (s ∷ stack) ks clear h g = absurd g
+one_way (skips d) (skips e) [] ks clear h g = absurd h
+one_way (skips d) (skips e) (s ∷ stack) ks clear h g = ap skips (one_way d e stack ks clear.1 h.1 g.1)
+one_way (skips d) (takes e) [] ks clear h g = absurd h
+one_way (skips d) (takes e) (s ∷ stack) [] clear h g = absurd g
+one_way (skips d) (takes e) (s ∷ stack) (k ∷ ks) clear h g = absurd (no_skip d s stack k ks g.0 clear g.1 h.0 h.1)
+one_way (takes d) (skips e) [] ks clear h g = absurd h
+one_way (takes d) (skips e) (s ∷ stack) [] clear h g = absurd h
+one_way (takes d) (skips e) (s ∷ stack) (k ∷ ks) clear h g = absurd (no_skip e s stack k ks h.0 clear h.1 g.0 g.1)
+one_way (takes d) (takes e) [] ks clear h g = absurd h
+one_way (takes d) (takes e) (s ∷ stack) [] clear h g = absurd h
+one_way (takes d) (takes e) (s ∷ stack) (k ∷ ks) clear h g =
+    let same : g.0 ≡ h.0 = same_after g.0 h.0 (sym g.1 ∙ h.1) in
+    ap takes (one_way d e (h.0 ++ stack) ks (clear-after s stack k h.0 clear h.1) h.2 (subst (λ (x : List Symbol). Derives e (x ++ stack) ks) same g.2))
+
+pub one_derivation : (ks : List TokenKind) (d e : Derivation) → Derives d layer ks → Derives e layer ks → d ≡ e
+one_derivation ks d e h g = one_way d e layer ks clear-layer h g

@@ -3,7 +3,7 @@ use Rattle.std.specs.Prelude.{◌≡◌, true, List, ◌∷◌, ◌++◌, Some, 
 use Rattle.usda_grammar.specs.declared.kinds.TokenKind.{TokenKind}
 use Rattle.usda_grammar.specs.declared.symbols.Symbol.{Symbol}
 use Rattle.usda_grammar.specs.Table.{layer}
-use Rattle.usda_grammar.specs.Derivations.{AreText}
+use Rattle.usda_grammar.specs.Derivations.{Derivation, Derives, AreText}
 use Rattle.usda_grammar.specs.Machine.{step, steps, is_done}
 
 -- with a token that the machine does not take, no text goes on
@@ -22,3 +22,7 @@ IsAccepted stack ks = (left : List Symbol) × (steps stack ks ≡ Some left) × 
 pub record AcceptedIsText : Type 0 where
   pub accepted : (ks : List TokenKind) → IsAccepted layer ks → AreText layer ks
   pub text : (ks : List TokenKind) → AreText layer ks → IsAccepted layer ks
+
+-- a text comes from the symbols of a layer in one way
+abbrev pub TextHasOneDerivation : Type 0
+TextHasOneDerivation = (ks : List TokenKind) (d e : Derivation) → Derives d layer ks → Derives e layer ks → d ≡ e

@@ -17,6 +17,9 @@ mod tests;
 mod values;
 
 pub use kinds::{Keyword, TokenKind, keyword_of, kind_of_word};
-pub use laws::{accepted_is_text, examples_are_told, refused_has_no_text, taken_has_text};
+pub use laws::{
+    accepted_is_text, examples_are_told, refused_has_no_text, taken_has_text,
+    text_has_one_derivation,
+};
 pub use symbols::Symbol;
 pub use table::{layer, may_be_absent, starts};

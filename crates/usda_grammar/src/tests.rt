@@ -17,6 +17,7 @@ fn the_table_is_told(rt: HostRuntime) -> Result<(), Fail> {
     accepted_is_text();
     refused_has_no_text();
     taken_has_text();
+    text_has_one_derivation();
     examples_are_told();
     Ok(())
 }
