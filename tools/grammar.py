@@ -296,16 +296,25 @@ def specs_of(part):
         if len(rows) < len(KINDS):
             out += f"{snake(name)} k = None\n"
         out += "\n"
-    return out.rstrip("\n") + "\n"
+    out += f"-- the symbols of this part\nabbrev pub {part.lower()}_starts : Symbol → TokenKind → Option (List Symbol)\n"
+    out += "".join(f"{part.lower()}_starts symbol.{name} k = {snake(name)} k\n" for where, name, _, _, _ in SYMBOLS if where == part)
+    return out + f"{part.lower()}_starts s k = None\n"
 
 
 def specs_table():
-    uses = [f"Rattle.usda_grammar.specs.{part}.{{{', '.join(snake(n) for w, n, _, _, _ in SYMBOLS if w == part)}}}" for part in MODULES]
+    uses = [f"Rattle.usda_grammar.specs.{part}.{{{part.lower()}_starts}}" for part in MODULES]
     out = antt_head("The table: what each symbol may begin with, and which symbols may be absent.",
-                    "Rattle.std.specs.Prelude.{Bool, true, false, List, [], ◌∷◌, Option}", *ENUMS[:1], *ENUMS[3:], *uses)
+                    "Rattle.std.specs.Prelude.{Bool, true, false, List, [], ◌∷◌, Option, Some, None}", *ENUMS[:1], *ENUMS[3:], *uses)
     out += "-- a layer: its head and its root prims\nabbrev pub layer : List Symbol\nlayer = " + listed("symbol." + x for x in START) + "\n\n"
-    out += "-- what follows a token that is the first of a symbol, where it may be the first\nabbrev pub starts : Symbol → TokenKind → Option (List Symbol)\n"
-    out += "".join(f"starts symbol.{name} k = {snake(name)} k\n" for name in NAMES)
+    out += """-- the one of two that there is: each symbol is of one part
+abbrev pub some_of : Option (List Symbol) → Option (List Symbol) → Option (List Symbol)
+some_of (Some after) rest = Some after
+some_of None rest = rest
+
+-- what follows a token that is the first of a symbol, where it may be the first
+abbrev pub starts : Symbol → TokenKind → Option (List Symbol)
+"""
+    out += "starts s k = some_of (layers_starts s k) (some_of (prims_starts s k) (some_of (properties_starts s k) (values_starts s k)))\n"
     out += "\n-- nothing may stand for the symbol\nabbrev pub may_be_absent : Symbol → Bool\n"
     out += "".join(f"may_be_absent symbol.{name} = true\n" for name in NAMES if name in ABSENT) + "may_be_absent s = false\n"
     return out
@@ -315,18 +324,20 @@ def code_of(part):
     names = [name for where, name, _, _, _ in SYMBOLS if where == part]
     out = f"// {MODULES[part]} Written by tools/grammar.py.\n"
     out += "ghost use Rattle.std.specs.Option.{option_map};\nghost use Rattle.std.specs.Prelude.{◌≡◌, List};\n"
-    out += f"ghost use Rattle.usda_grammar.specs.{part}.{{{', '.join(snake(n) for n in names)}}};\n\n"
+    out += f"ghost use Rattle.usda_grammar.specs.{part}.{{{', '.join(snake(n) for n in names)}, {part.lower()}_starts}};\n\n"
     out += "use crate::kinds::{Keyword, TokenKind};\nuse crate::symbols::Symbol;\n\nconst NONE: &[Symbol] = &[];\n\n"
     for where, name, about, rows, _ in SYMBOLS:
         if where != part:
             continue
-        out += f"/// {about if about.endswith('.') else about + '.'}\npub fn {snake(name)}(kind: TokenKind) -> Option<&'static [Symbol]>\n"
+        out += f"/// {about if about.endswith('.') else about + '.'}\nfn {snake(name)}(kind: TokenKind) -> Option<&'static [Symbol]>\n"
         out += f"    ensures {{ option_map (λ s. s.now) result ≡ {snake(name)} kind }}\n{{\n    match kind {{\n"
         for kind, after in grouped(rows):
             pattern = "TokenKind::Word(_)" if kind == "any word" else rust(kind)
             out += f"        {pattern} => Some({'&[' + ', '.join('Symbol::' + x for x in after) + ']' if after else 'NONE'}),\n"
         out += ("        _ => None,\n" if len(rows) < len(KINDS) else "") + "    }\n}\n\n"
-    return out.rstrip("\n") + "\n"
+    out += f"/// What follows a token that is the first of a symbol of this part, where it may be the first.\npub fn starts(symbol: Symbol, kind: TokenKind) -> Option<&'static [Symbol]>\n"
+    out += f"    ensures {{ option_map (λ s. s.now) result ≡ {part.lower()}_starts symbol kind }}\n{{\n    match symbol {{\n"
+    return out + "".join(f"        Symbol::{name} => {snake(name)}(kind),\n" for name in names) + "        _ => None,\n    }\n}\n"
 
 
 def code_symbols():
@@ -344,8 +355,20 @@ def code_table():
     out += "use crate::{layers, prims, properties, values};\n\n/// A layer: its head and its root prims.\npub fn layer() -> &'static [Symbol]\n    ensures { result.now ≡ layer }\n{\n"
     out += f"    &[{', '.join('Symbol::' + x for x in START)}]\n}}\n\n"
     out += "/// What follows a token that is the first of a symbol, where it may be the first.\npub fn starts(symbol: Symbol, kind: TokenKind) -> Option<&'static [Symbol]>\n"
-    out += "    ensures { option_map (λ s. s.now) result ≡ starts symbol kind }\n{\n    match symbol {\n"
-    out += "".join(f"        Symbol::{name} => {where.lower()}::{snake(name)}(kind),\n" for where, name, _, _, _ in SYMBOLS) + "    }\n}\n\n"
+    out += """    ensures { option_map (λ s. s.now) result ≡ starts symbol kind }
+{
+    if let Some(after) = layers::starts(symbol, kind) {
+        Some(after)
+    } else if let Some(after) = prims::starts(symbol, kind) {
+        Some(after)
+    } else if let Some(after) = properties::starts(symbol, kind) {
+        Some(after)
+    } else {
+        values::starts(symbol, kind)
+    }
+}
+
+"""
     out += "/// Whether nothing may stand for the symbol.\npub fn may_be_absent(symbol: Symbol) -> bool\n    ensures { result ≡ may_be_absent symbol }\n{\n    match symbol {\n"
     out += "".join(f"        Symbol::{name} => true,\n" for name in NAMES if name in ABSENT) + "        _ => false,\n    }\n}\n"
     return out

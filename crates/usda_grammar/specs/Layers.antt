@@ -105,3 +105,26 @@ abbrev pub root_statements : TokenKind → Option (List Symbol)
 root_statements (token.Word word.Specifier) = Some (symbol.MaybeTypeName ∷ symbol.QuotedName ∷ symbol.MaybePrimMetadata ∷ symbol.OpenBrace ∷ symbol.PrimBody ∷ symbol.CloseBrace ∷ symbol.MaybeSemicolon ∷ symbol.RootStatements ∷ [])
 root_statements (token.Word word.Reorder) = Some (symbol.RootPrims ∷ symbol.Equals ∷ symbol.NameList ∷ symbol.MaybeSemicolon ∷ symbol.RootStatements ∷ [])
 root_statements k = None
+
+-- the symbols of this part
+abbrev pub layers_starts : Symbol → TokenKind → Option (List Symbol)
+layers_starts symbol.Equals k = equals k
+layers_starts symbol.Colon k = colon k
+layers_starts symbol.Dot k = dot k
+layers_starts symbol.CloseParen k = close_paren k
+layers_starts symbol.OpenBrace k = open_brace k
+layers_starts symbol.CloseBrace k = close_brace k
+layers_starts symbol.CloseBracket k = close_bracket k
+layers_starts symbol.RootPrims k = root_prims k
+layers_starts symbol.OffsetNumber k = offset_number k
+layers_starts symbol.QuotedName k = quoted_name k
+layers_starts symbol.MaybeSemicolon k = maybe_semicolon k
+layers_starts symbol.MaybeHead k = maybe_head k
+layers_starts symbol.HeadItems k = head_items k
+layers_starts symbol.SubLayerList k = sub_layer_list k
+layers_starts symbol.SubLayersOrEnd k = sub_layers_or_end k
+layers_starts symbol.MoreSubLayers k = more_sub_layers k
+layers_starts symbol.MaybeOffsets k = maybe_offsets k
+layers_starts symbol.OffsetItems k = offset_items k
+layers_starts symbol.RootStatements k = root_statements k
+layers_starts s k = None

@@ -104,3 +104,22 @@ maybe_path k = None
 abbrev pub variant_list : TokenKind → Option (List Symbol)
 variant_list token.Quoted = Some (symbol.MaybePrimMetadata ∷ symbol.OpenBrace ∷ symbol.PrimBody ∷ symbol.CloseBrace ∷ symbol.VariantList ∷ [])
 variant_list k = None
+
+-- the symbols of this part
+abbrev pub prims_starts : Symbol → TokenKind → Option (List Symbol)
+prims_starts symbol.MaybeTypeName k = maybe_type_name k
+prims_starts symbol.MaybePrimMetadata k = maybe_prim_metadata k
+prims_starts symbol.PrimMetadata k = prim_metadata k
+prims_starts symbol.EditedField k = edited_field k
+prims_starts symbol.StringList k = string_list k
+prims_starts symbol.StringsOrEnd k = strings_or_end k
+prims_starts symbol.MoreStrings k = more_strings k
+prims_starts symbol.PathList k = path_list k
+prims_starts symbol.PathsOrEnd k = paths_or_end k
+prims_starts symbol.MorePaths k = more_paths k
+prims_starts symbol.ReferenceList k = reference_list k
+prims_starts symbol.ReferencesOrEnd k = references_or_end k
+prims_starts symbol.MoreReferences k = more_references k
+prims_starts symbol.MaybePath k = maybe_path k
+prims_starts symbol.VariantList k = variant_list k
+prims_starts s k = None

@@ -118,3 +118,24 @@ abbrev pub property_metadata : TokenKind → Option (List Symbol)
 property_metadata (token.Word w) = Some (symbol.Equals ∷ symbol.Value ∷ symbol.MaybeSemicolon ∷ symbol.PropertyMetadata ∷ [])
 property_metadata token.Quoted = Some (symbol.MaybeSemicolon ∷ symbol.PropertyMetadata ∷ [])
 property_metadata k = None
+
+-- the symbols of this part
+abbrev pub properties_starts : Symbol → TokenKind → Option (List Symbol)
+properties_starts symbol.PrimBody k = prim_body k
+properties_starts symbol.AfterCustom k = after_custom k
+properties_starts symbol.AfterVariability k = after_variability k
+properties_starts symbol.AfterEdit k = after_edit k
+properties_starts symbol.AfterReorder k = after_reorder k
+properties_starts symbol.AfterEditedCustom k = after_edited_custom k
+properties_starts symbol.AfterEditedVariability k = after_edited_variability k
+properties_starts symbol.MaybeBrackets k = maybe_brackets k
+properties_starts symbol.PropertyName k = property_name k
+properties_starts symbol.MaybeAttributeTail k = maybe_attribute_tail k
+properties_starts symbol.AfterDot k = after_dot k
+properties_starts symbol.ConnectWord k = connect_word k
+properties_starts symbol.SamplesOrEnd k = samples_or_end k
+properties_starts symbol.MoreSamples k = more_samples k
+properties_starts symbol.MaybeTargets k = maybe_targets k
+properties_starts symbol.MaybePropertyMetadata k = maybe_property_metadata k
+properties_starts symbol.PropertyMetadata k = property_metadata k
+properties_starts s k = None

@@ -95,3 +95,19 @@ abbrev pub more_names : TokenKind → Option (List Symbol)
 more_names token.Comma = Some (symbol.NamesOrEnd ∷ [])
 more_names token.CloseBracket = Some ([])
 more_names k = None
+
+-- the symbols of this part
+abbrev pub values_starts : Symbol → TokenKind → Option (List Symbol)
+values_starts symbol.Value k = value k
+values_starts symbol.MembersOrEnd k = members_or_end k
+values_starts symbol.MoreMembers k = more_members k
+values_starts symbol.ElementsOrEnd k = elements_or_end k
+values_starts symbol.MoreElements k = more_elements k
+values_starts symbol.Dictionary k = dictionary k
+values_starts symbol.DictionaryEntries k = dictionary_entries k
+values_starts symbol.EntryKey k = entry_key k
+values_starts symbol.MaybeSeparator k = maybe_separator k
+values_starts symbol.NameList k = name_list k
+values_starts symbol.NamesOrEnd k = names_or_end k
+values_starts symbol.MoreNames k = more_names k
+values_starts s k = None

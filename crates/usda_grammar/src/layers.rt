@@ -1,7 +1,7 @@
 // Single tokens, and the statements of a layer: its head, its sublayers and its root prims. Written by tools/grammar.py.
 ghost use Rattle.std.specs.Option.{option_map};
 ghost use Rattle.std.specs.Prelude.{◌≡◌, List};
-ghost use Rattle.usda_grammar.specs.Layers.{equals, colon, dot, close_paren, open_brace, close_brace, close_bracket, root_prims, offset_number, quoted_name, maybe_semicolon, maybe_head, head_items, sub_layer_list, sub_layers_or_end, more_sub_layers, maybe_offsets, offset_items, root_statements};
+ghost use Rattle.usda_grammar.specs.Layers.{equals, colon, dot, close_paren, open_brace, close_brace, close_bracket, root_prims, offset_number, quoted_name, maybe_semicolon, maybe_head, head_items, sub_layer_list, sub_layers_or_end, more_sub_layers, maybe_offsets, offset_items, root_statements, layers_starts};
 
 use crate::kinds::{Keyword, TokenKind};
 use crate::symbols::Symbol;
@@ -9,7 +9,7 @@ use crate::symbols::Symbol;
 const NONE: &[Symbol] = &[];
 
 /// `=`.
-pub fn equals(kind: TokenKind) -> Option<&'static [Symbol]>
+fn equals(kind: TokenKind) -> Option<&'static [Symbol]>
     ensures { option_map (λ s. s.now) result ≡ equals kind }
 {
     match kind {
@@ -19,7 +19,7 @@ pub fn equals(kind: TokenKind) -> Option<&'static [Symbol]>
 }
 
 /// `:`.
-pub fn colon(kind: TokenKind) -> Option<&'static [Symbol]>
+fn colon(kind: TokenKind) -> Option<&'static [Symbol]>
     ensures { option_map (λ s. s.now) result ≡ colon kind }
 {
     match kind {
@@ -29,7 +29,7 @@ pub fn colon(kind: TokenKind) -> Option<&'static [Symbol]>
 }
 
 /// `.`.
-pub fn dot(kind: TokenKind) -> Option<&'static [Symbol]>
+fn dot(kind: TokenKind) -> Option<&'static [Symbol]>
     ensures { option_map (λ s. s.now) result ≡ dot kind }
 {
     match kind {
@@ -39,7 +39,7 @@ pub fn dot(kind: TokenKind) -> Option<&'static [Symbol]>
 }
 
 /// `)`.
-pub fn close_paren(kind: TokenKind) -> Option<&'static [Symbol]>
+fn close_paren(kind: TokenKind) -> Option<&'static [Symbol]>
     ensures { option_map (λ s. s.now) result ≡ close_paren kind }
 {
     match kind {
@@ -49,7 +49,7 @@ pub fn close_paren(kind: TokenKind) -> Option<&'static [Symbol]>
 }
 
 /// `{`.
-pub fn open_brace(kind: TokenKind) -> Option<&'static [Symbol]>
+fn open_brace(kind: TokenKind) -> Option<&'static [Symbol]>
     ensures { option_map (λ s. s.now) result ≡ open_brace kind }
 {
     match kind {
@@ -59,7 +59,7 @@ pub fn open_brace(kind: TokenKind) -> Option<&'static [Symbol]>
 }
 
 /// `}`.
-pub fn close_brace(kind: TokenKind) -> Option<&'static [Symbol]>
+fn close_brace(kind: TokenKind) -> Option<&'static [Symbol]>
     ensures { option_map (λ s. s.now) result ≡ close_brace kind }
 {
     match kind {
@@ -69,7 +69,7 @@ pub fn close_brace(kind: TokenKind) -> Option<&'static [Symbol]>
 }
 
 /// `]`.
-pub fn close_bracket(kind: TokenKind) -> Option<&'static [Symbol]>
+fn close_bracket(kind: TokenKind) -> Option<&'static [Symbol]>
     ensures { option_map (λ s. s.now) result ≡ close_bracket kind }
 {
     match kind {
@@ -79,7 +79,7 @@ pub fn close_bracket(kind: TokenKind) -> Option<&'static [Symbol]>
 }
 
 /// The word `rootPrims`.
-pub fn root_prims(kind: TokenKind) -> Option<&'static [Symbol]>
+fn root_prims(kind: TokenKind) -> Option<&'static [Symbol]>
     ensures { option_map (λ s. s.now) result ≡ root_prims kind }
 {
     match kind {
@@ -89,7 +89,7 @@ pub fn root_prims(kind: TokenKind) -> Option<&'static [Symbol]>
 }
 
 /// The number of an offset or a scale.
-pub fn offset_number(kind: TokenKind) -> Option<&'static [Symbol]>
+fn offset_number(kind: TokenKind) -> Option<&'static [Symbol]>
     ensures { option_map (λ s. s.now) result ≡ offset_number kind }
 {
     match kind {
@@ -99,7 +99,7 @@ pub fn offset_number(kind: TokenKind) -> Option<&'static [Symbol]>
 }
 
 /// The name of a prim, a variant set or a variant, in quotes.
-pub fn quoted_name(kind: TokenKind) -> Option<&'static [Symbol]>
+fn quoted_name(kind: TokenKind) -> Option<&'static [Symbol]>
     ensures { option_map (λ s. s.now) result ≡ quoted_name kind }
 {
     match kind {
@@ -109,7 +109,7 @@ pub fn quoted_name(kind: TokenKind) -> Option<&'static [Symbol]>
 }
 
 /// `;`, or nothing.
-pub fn maybe_semicolon(kind: TokenKind) -> Option<&'static [Symbol]>
+fn maybe_semicolon(kind: TokenKind) -> Option<&'static [Symbol]>
     ensures { option_map (λ s. s.now) result ≡ maybe_semicolon kind }
 {
     match kind {
@@ -119,7 +119,7 @@ pub fn maybe_semicolon(kind: TokenKind) -> Option<&'static [Symbol]>
 }
 
 /// The metadata of the layer in brackets, or nothing.
-pub fn maybe_head(kind: TokenKind) -> Option<&'static [Symbol]>
+fn maybe_head(kind: TokenKind) -> Option<&'static [Symbol]>
     ensures { option_map (λ s. s.now) result ≡ maybe_head kind }
 {
     match kind {
@@ -129,7 +129,7 @@ pub fn maybe_head(kind: TokenKind) -> Option<&'static [Symbol]>
 }
 
 /// The metadata of the layer.
-pub fn head_items(kind: TokenKind) -> Option<&'static [Symbol]>
+fn head_items(kind: TokenKind) -> Option<&'static [Symbol]>
     ensures { option_map (λ s. s.now) result ≡ head_items kind }
 {
     match kind {
@@ -151,7 +151,7 @@ pub fn head_items(kind: TokenKind) -> Option<&'static [Symbol]>
 }
 
 /// The list of sublayers.
-pub fn sub_layer_list(kind: TokenKind) -> Option<&'static [Symbol]>
+fn sub_layer_list(kind: TokenKind) -> Option<&'static [Symbol]>
     ensures { option_map (λ s. s.now) result ≡ sub_layer_list kind }
 {
     match kind {
@@ -161,7 +161,7 @@ pub fn sub_layer_list(kind: TokenKind) -> Option<&'static [Symbol]>
 }
 
 /// The next of the sublayers, or the end of them.
-pub fn sub_layers_or_end(kind: TokenKind) -> Option<&'static [Symbol]>
+fn sub_layers_or_end(kind: TokenKind) -> Option<&'static [Symbol]>
     ensures { option_map (λ s. s.now) result ≡ sub_layers_or_end kind }
 {
     match kind {
@@ -172,7 +172,7 @@ pub fn sub_layers_or_end(kind: TokenKind) -> Option<&'static [Symbol]>
 }
 
 /// What follows one of the sublayers.
-pub fn more_sub_layers(kind: TokenKind) -> Option<&'static [Symbol]>
+fn more_sub_layers(kind: TokenKind) -> Option<&'static [Symbol]>
     ensures { option_map (λ s. s.now) result ≡ more_sub_layers kind }
 {
     match kind {
@@ -183,7 +183,7 @@ pub fn more_sub_layers(kind: TokenKind) -> Option<&'static [Symbol]>
 }
 
 /// Offset and scale in brackets, or nothing.
-pub fn maybe_offsets(kind: TokenKind) -> Option<&'static [Symbol]>
+fn maybe_offsets(kind: TokenKind) -> Option<&'static [Symbol]>
     ensures { option_map (λ s. s.now) result ≡ maybe_offsets kind }
 {
     match kind {
@@ -193,7 +193,7 @@ pub fn maybe_offsets(kind: TokenKind) -> Option<&'static [Symbol]>
 }
 
 /// Offset and scale.
-pub fn offset_items(kind: TokenKind) -> Option<&'static [Symbol]>
+fn offset_items(kind: TokenKind) -> Option<&'static [Symbol]>
     ensures { option_map (λ s. s.now) result ≡ offset_items kind }
 {
     match kind {
@@ -208,7 +208,7 @@ pub fn offset_items(kind: TokenKind) -> Option<&'static [Symbol]>
 }
 
 /// The root prims, and the orders of them.
-pub fn root_statements(kind: TokenKind) -> Option<&'static [Symbol]>
+fn root_statements(kind: TokenKind) -> Option<&'static [Symbol]>
     ensures { option_map (λ s. s.now) result ≡ root_statements kind }
 {
     match kind {
@@ -229,6 +229,34 @@ pub fn root_statements(kind: TokenKind) -> Option<&'static [Symbol]>
             Symbol::MaybeSemicolon,
             Symbol::RootStatements,
         ]),
+        _ => None,
+    }
+}
+
+/// What follows a token that is the first of a symbol of this part, where it may be the first.
+pub fn starts(symbol: Symbol, kind: TokenKind) -> Option<&'static [Symbol]>
+    ensures { option_map (λ s. s.now) result ≡ layers_starts symbol kind }
+{
+    match symbol {
+        Symbol::Equals => equals(kind),
+        Symbol::Colon => colon(kind),
+        Symbol::Dot => dot(kind),
+        Symbol::CloseParen => close_paren(kind),
+        Symbol::OpenBrace => open_brace(kind),
+        Symbol::CloseBrace => close_brace(kind),
+        Symbol::CloseBracket => close_bracket(kind),
+        Symbol::RootPrims => root_prims(kind),
+        Symbol::OffsetNumber => offset_number(kind),
+        Symbol::QuotedName => quoted_name(kind),
+        Symbol::MaybeSemicolon => maybe_semicolon(kind),
+        Symbol::MaybeHead => maybe_head(kind),
+        Symbol::HeadItems => head_items(kind),
+        Symbol::SubLayerList => sub_layer_list(kind),
+        Symbol::SubLayersOrEnd => sub_layers_or_end(kind),
+        Symbol::MoreSubLayers => more_sub_layers(kind),
+        Symbol::MaybeOffsets => maybe_offsets(kind),
+        Symbol::OffsetItems => offset_items(kind),
+        Symbol::RootStatements => root_statements(kind),
         _ => None,
     }
 }

@@ -1,7 +1,7 @@
 // The head of a prim, its metadata, and the lists that edit its fields. Written by tools/grammar.py.
 ghost use Rattle.std.specs.Option.{option_map};
 ghost use Rattle.std.specs.Prelude.{◌≡◌, List};
-ghost use Rattle.usda_grammar.specs.Prims.{maybe_type_name, maybe_prim_metadata, prim_metadata, edited_field, string_list, strings_or_end, more_strings, path_list, paths_or_end, more_paths, reference_list, references_or_end, more_references, maybe_path, variant_list};
+ghost use Rattle.usda_grammar.specs.Prims.{maybe_type_name, maybe_prim_metadata, prim_metadata, edited_field, string_list, strings_or_end, more_strings, path_list, paths_or_end, more_paths, reference_list, references_or_end, more_references, maybe_path, variant_list, prims_starts};
 
 use crate::kinds::{Keyword, TokenKind};
 use crate::symbols::Symbol;
@@ -9,7 +9,7 @@ use crate::symbols::Symbol;
 const NONE: &[Symbol] = &[];
 
 /// The type of a prim, or nothing.
-pub fn maybe_type_name(kind: TokenKind) -> Option<&'static [Symbol]>
+fn maybe_type_name(kind: TokenKind) -> Option<&'static [Symbol]>
     ensures { option_map (λ s. s.now) result ≡ maybe_type_name kind }
 {
     match kind {
@@ -19,7 +19,7 @@ pub fn maybe_type_name(kind: TokenKind) -> Option<&'static [Symbol]>
 }
 
 /// The metadata of a prim or a variant in brackets, or nothing.
-pub fn maybe_prim_metadata(kind: TokenKind) -> Option<&'static [Symbol]>
+fn maybe_prim_metadata(kind: TokenKind) -> Option<&'static [Symbol]>
     ensures { option_map (λ s. s.now) result ≡ maybe_prim_metadata kind }
 {
     match kind {
@@ -29,7 +29,7 @@ pub fn maybe_prim_metadata(kind: TokenKind) -> Option<&'static [Symbol]>
 }
 
 /// The metadata of a prim or a variant.
-pub fn prim_metadata(kind: TokenKind) -> Option<&'static [Symbol]>
+fn prim_metadata(kind: TokenKind) -> Option<&'static [Symbol]>
     ensures { option_map (λ s. s.now) result ≡ prim_metadata kind }
 {
     match kind {
@@ -79,7 +79,7 @@ pub fn prim_metadata(kind: TokenKind) -> Option<&'static [Symbol]>
 }
 
 /// What follows an edit word: a field and its list, or the value of a key of that name.
-pub fn edited_field(kind: TokenKind) -> Option<&'static [Symbol]>
+fn edited_field(kind: TokenKind) -> Option<&'static [Symbol]>
     ensures { option_map (λ s. s.now) result ≡ edited_field kind }
 {
     match kind {
@@ -92,7 +92,7 @@ pub fn edited_field(kind: TokenKind) -> Option<&'static [Symbol]>
 }
 
 /// The strings of a list: none, one, or a list in brackets.
-pub fn string_list(kind: TokenKind) -> Option<&'static [Symbol]>
+fn string_list(kind: TokenKind) -> Option<&'static [Symbol]>
     ensures { option_map (λ s. s.now) result ≡ string_list kind }
 {
     match kind {
@@ -104,7 +104,7 @@ pub fn string_list(kind: TokenKind) -> Option<&'static [Symbol]>
 }
 
 /// The next of the strings of a list, or the end of them.
-pub fn strings_or_end(kind: TokenKind) -> Option<&'static [Symbol]>
+fn strings_or_end(kind: TokenKind) -> Option<&'static [Symbol]>
     ensures { option_map (λ s. s.now) result ≡ strings_or_end kind }
 {
     match kind {
@@ -115,7 +115,7 @@ pub fn strings_or_end(kind: TokenKind) -> Option<&'static [Symbol]>
 }
 
 /// What follows one of the strings of a list.
-pub fn more_strings(kind: TokenKind) -> Option<&'static [Symbol]>
+fn more_strings(kind: TokenKind) -> Option<&'static [Symbol]>
     ensures { option_map (λ s. s.now) result ≡ more_strings kind }
 {
     match kind {
@@ -126,7 +126,7 @@ pub fn more_strings(kind: TokenKind) -> Option<&'static [Symbol]>
 }
 
 /// The paths of a list: none, one, or a list in brackets.
-pub fn path_list(kind: TokenKind) -> Option<&'static [Symbol]>
+fn path_list(kind: TokenKind) -> Option<&'static [Symbol]>
     ensures { option_map (λ s. s.now) result ≡ path_list kind }
 {
     match kind {
@@ -138,7 +138,7 @@ pub fn path_list(kind: TokenKind) -> Option<&'static [Symbol]>
 }
 
 /// The next of the paths of a list, or the end of them.
-pub fn paths_or_end(kind: TokenKind) -> Option<&'static [Symbol]>
+fn paths_or_end(kind: TokenKind) -> Option<&'static [Symbol]>
     ensures { option_map (λ s. s.now) result ≡ paths_or_end kind }
 {
     match kind {
@@ -149,7 +149,7 @@ pub fn paths_or_end(kind: TokenKind) -> Option<&'static [Symbol]>
 }
 
 /// What follows one of the paths of a list.
-pub fn more_paths(kind: TokenKind) -> Option<&'static [Symbol]>
+fn more_paths(kind: TokenKind) -> Option<&'static [Symbol]>
     ensures { option_map (λ s. s.now) result ≡ more_paths kind }
 {
     match kind {
@@ -160,7 +160,7 @@ pub fn more_paths(kind: TokenKind) -> Option<&'static [Symbol]>
 }
 
 /// The references or payloads of a list: none, one, or a list in brackets.
-pub fn reference_list(kind: TokenKind) -> Option<&'static [Symbol]>
+fn reference_list(kind: TokenKind) -> Option<&'static [Symbol]>
     ensures { option_map (λ s. s.now) result ≡ reference_list kind }
 {
     match kind {
@@ -173,7 +173,7 @@ pub fn reference_list(kind: TokenKind) -> Option<&'static [Symbol]>
 }
 
 /// The next of the references or payloads of a list, or the end of them.
-pub fn references_or_end(kind: TokenKind) -> Option<&'static [Symbol]>
+fn references_or_end(kind: TokenKind) -> Option<&'static [Symbol]>
     ensures { option_map (λ s. s.now) result ≡ references_or_end kind }
 {
     match kind {
@@ -189,7 +189,7 @@ pub fn references_or_end(kind: TokenKind) -> Option<&'static [Symbol]>
 }
 
 /// What follows one of the references or payloads of a list.
-pub fn more_references(kind: TokenKind) -> Option<&'static [Symbol]>
+fn more_references(kind: TokenKind) -> Option<&'static [Symbol]>
     ensures { option_map (λ s. s.now) result ≡ more_references kind }
 {
     match kind {
@@ -200,7 +200,7 @@ pub fn more_references(kind: TokenKind) -> Option<&'static [Symbol]>
 }
 
 /// The path of a prim behind an asset, or nothing.
-pub fn maybe_path(kind: TokenKind) -> Option<&'static [Symbol]>
+fn maybe_path(kind: TokenKind) -> Option<&'static [Symbol]>
     ensures { option_map (λ s. s.now) result ≡ maybe_path kind }
 {
     match kind {
@@ -210,7 +210,7 @@ pub fn maybe_path(kind: TokenKind) -> Option<&'static [Symbol]>
 }
 
 /// The variants of a set.
-pub fn variant_list(kind: TokenKind) -> Option<&'static [Symbol]>
+fn variant_list(kind: TokenKind) -> Option<&'static [Symbol]>
     ensures { option_map (λ s. s.now) result ≡ variant_list kind }
 {
     match kind {
@@ -221,6 +221,30 @@ pub fn variant_list(kind: TokenKind) -> Option<&'static [Symbol]>
             Symbol::CloseBrace,
             Symbol::VariantList,
         ]),
+        _ => None,
+    }
+}
+
+/// What follows a token that is the first of a symbol of this part, where it may be the first.
+pub fn starts(symbol: Symbol, kind: TokenKind) -> Option<&'static [Symbol]>
+    ensures { option_map (λ s. s.now) result ≡ prims_starts symbol kind }
+{
+    match symbol {
+        Symbol::MaybeTypeName => maybe_type_name(kind),
+        Symbol::MaybePrimMetadata => maybe_prim_metadata(kind),
+        Symbol::PrimMetadata => prim_metadata(kind),
+        Symbol::EditedField => edited_field(kind),
+        Symbol::StringList => string_list(kind),
+        Symbol::StringsOrEnd => strings_or_end(kind),
+        Symbol::MoreStrings => more_strings(kind),
+        Symbol::PathList => path_list(kind),
+        Symbol::PathsOrEnd => paths_or_end(kind),
+        Symbol::MorePaths => more_paths(kind),
+        Symbol::ReferenceList => reference_list(kind),
+        Symbol::ReferencesOrEnd => references_or_end(kind),
+        Symbol::MoreReferences => more_references(kind),
+        Symbol::MaybePath => maybe_path(kind),
+        Symbol::VariantList => variant_list(kind),
         _ => None,
     }
 }

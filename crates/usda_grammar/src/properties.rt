@@ -1,7 +1,7 @@
 // The body of a prim: properties, variant sets, orders and children. Written by tools/grammar.py.
 ghost use Rattle.std.specs.Option.{option_map};
 ghost use Rattle.std.specs.Prelude.{◌≡◌, List};
-ghost use Rattle.usda_grammar.specs.Properties.{prim_body, after_custom, after_variability, after_edit, after_reorder, after_edited_custom, after_edited_variability, maybe_brackets, property_name, maybe_attribute_tail, after_dot, connect_word, samples_or_end, more_samples, maybe_targets, maybe_property_metadata, property_metadata};
+ghost use Rattle.usda_grammar.specs.Properties.{prim_body, after_custom, after_variability, after_edit, after_reorder, after_edited_custom, after_edited_variability, maybe_brackets, property_name, maybe_attribute_tail, after_dot, connect_word, samples_or_end, more_samples, maybe_targets, maybe_property_metadata, property_metadata, properties_starts};
 
 use crate::kinds::{Keyword, TokenKind};
 use crate::symbols::Symbol;
@@ -9,7 +9,7 @@ use crate::symbols::Symbol;
 const NONE: &[Symbol] = &[];
 
 /// The statements of a prim or a variant.
-pub fn prim_body(kind: TokenKind) -> Option<&'static [Symbol]>
+fn prim_body(kind: TokenKind) -> Option<&'static [Symbol]>
     ensures { option_map (λ s. s.now) result ≡ prim_body kind }
 {
     match kind {
@@ -71,7 +71,7 @@ pub fn prim_body(kind: TokenKind) -> Option<&'static [Symbol]>
 }
 
 /// What follows `custom`.
-pub fn after_custom(kind: TokenKind) -> Option<&'static [Symbol]>
+fn after_custom(kind: TokenKind) -> Option<&'static [Symbol]>
     ensures { option_map (λ s. s.now) result ≡ after_custom kind }
 {
     match kind {
@@ -91,7 +91,7 @@ pub fn after_custom(kind: TokenKind) -> Option<&'static [Symbol]>
 }
 
 /// What follows `uniform` or `varying`.
-pub fn after_variability(kind: TokenKind) -> Option<&'static [Symbol]>
+fn after_variability(kind: TokenKind) -> Option<&'static [Symbol]>
     ensures { option_map (λ s. s.now) result ≡ after_variability kind }
 {
     match kind {
@@ -110,7 +110,7 @@ pub fn after_variability(kind: TokenKind) -> Option<&'static [Symbol]>
 }
 
 /// What follows an edit word.
-pub fn after_edit(kind: TokenKind) -> Option<&'static [Symbol]>
+fn after_edit(kind: TokenKind) -> Option<&'static [Symbol]>
     ensures { option_map (λ s. s.now) result ≡ after_edit kind }
 {
     match kind {
@@ -132,7 +132,7 @@ pub fn after_edit(kind: TokenKind) -> Option<&'static [Symbol]>
 }
 
 /// What follows `reorder`.
-pub fn after_reorder(kind: TokenKind) -> Option<&'static [Symbol]>
+fn after_reorder(kind: TokenKind) -> Option<&'static [Symbol]>
     ensures { option_map (λ s. s.now) result ≡ after_reorder kind }
 {
     match kind {
@@ -155,7 +155,7 @@ pub fn after_reorder(kind: TokenKind) -> Option<&'static [Symbol]>
 }
 
 /// What follows an edit word and `custom`.
-pub fn after_edited_custom(kind: TokenKind) -> Option<&'static [Symbol]>
+fn after_edited_custom(kind: TokenKind) -> Option<&'static [Symbol]>
     ensures { option_map (λ s. s.now) result ≡ after_edited_custom kind }
 {
     match kind {
@@ -176,7 +176,7 @@ pub fn after_edited_custom(kind: TokenKind) -> Option<&'static [Symbol]>
 }
 
 /// What follows an edit word and `uniform` or `varying`.
-pub fn after_edited_variability(kind: TokenKind) -> Option<&'static [Symbol]>
+fn after_edited_variability(kind: TokenKind) -> Option<&'static [Symbol]>
     ensures { option_map (λ s. s.now) result ≡ after_edited_variability kind }
 {
     match kind {
@@ -196,7 +196,7 @@ pub fn after_edited_variability(kind: TokenKind) -> Option<&'static [Symbol]>
 }
 
 /// `[` and `]`, which make the type that of an array, or nothing.
-pub fn maybe_brackets(kind: TokenKind) -> Option<&'static [Symbol]>
+fn maybe_brackets(kind: TokenKind) -> Option<&'static [Symbol]>
     ensures { option_map (λ s. s.now) result ≡ maybe_brackets kind }
 {
     match kind {
@@ -206,7 +206,7 @@ pub fn maybe_brackets(kind: TokenKind) -> Option<&'static [Symbol]>
 }
 
 /// The name of a property.
-pub fn property_name(kind: TokenKind) -> Option<&'static [Symbol]>
+fn property_name(kind: TokenKind) -> Option<&'static [Symbol]>
     ensures { option_map (λ s. s.now) result ≡ property_name kind }
 {
     match kind {
@@ -216,7 +216,7 @@ pub fn property_name(kind: TokenKind) -> Option<&'static [Symbol]>
 }
 
 /// The value of an attribute and its metadata, or its samples or connections, or nothing.
-pub fn maybe_attribute_tail(kind: TokenKind) -> Option<&'static [Symbol]>
+fn maybe_attribute_tail(kind: TokenKind) -> Option<&'static [Symbol]>
     ensures { option_map (λ s. s.now) result ≡ maybe_attribute_tail kind }
 {
     match kind {
@@ -228,7 +228,7 @@ pub fn maybe_attribute_tail(kind: TokenKind) -> Option<&'static [Symbol]>
 }
 
 /// What follows the `.` behind an attribute's name.
-pub fn after_dot(kind: TokenKind) -> Option<&'static [Symbol]>
+fn after_dot(kind: TokenKind) -> Option<&'static [Symbol]>
     ensures { option_map (λ s. s.now) result ≡ after_dot kind }
 {
     match kind {
@@ -244,7 +244,7 @@ pub fn after_dot(kind: TokenKind) -> Option<&'static [Symbol]>
 }
 
 /// What follows the `.` behind the name of an attribute that is edited.
-pub fn connect_word(kind: TokenKind) -> Option<&'static [Symbol]>
+fn connect_word(kind: TokenKind) -> Option<&'static [Symbol]>
     ensures { option_map (λ s. s.now) result ≡ connect_word kind }
 {
     match kind {
@@ -255,7 +255,7 @@ pub fn connect_word(kind: TokenKind) -> Option<&'static [Symbol]>
 }
 
 /// The next of the samples, or the end of them.
-pub fn samples_or_end(kind: TokenKind) -> Option<&'static [Symbol]>
+fn samples_or_end(kind: TokenKind) -> Option<&'static [Symbol]>
     ensures { option_map (λ s. s.now) result ≡ samples_or_end kind }
 {
     match kind {
@@ -266,7 +266,7 @@ pub fn samples_or_end(kind: TokenKind) -> Option<&'static [Symbol]>
 }
 
 /// What follows one of the samples.
-pub fn more_samples(kind: TokenKind) -> Option<&'static [Symbol]>
+fn more_samples(kind: TokenKind) -> Option<&'static [Symbol]>
     ensures { option_map (λ s. s.now) result ≡ more_samples kind }
 {
     match kind {
@@ -277,7 +277,7 @@ pub fn more_samples(kind: TokenKind) -> Option<&'static [Symbol]>
 }
 
 /// The targets of a relationship, or nothing.
-pub fn maybe_targets(kind: TokenKind) -> Option<&'static [Symbol]>
+fn maybe_targets(kind: TokenKind) -> Option<&'static [Symbol]>
     ensures { option_map (λ s. s.now) result ≡ maybe_targets kind }
 {
     match kind {
@@ -287,7 +287,7 @@ pub fn maybe_targets(kind: TokenKind) -> Option<&'static [Symbol]>
 }
 
 /// The metadata of a property in brackets, or nothing.
-pub fn maybe_property_metadata(kind: TokenKind) -> Option<&'static [Symbol]>
+fn maybe_property_metadata(kind: TokenKind) -> Option<&'static [Symbol]>
     ensures { option_map (λ s. s.now) result ≡ maybe_property_metadata kind }
 {
     match kind {
@@ -297,7 +297,7 @@ pub fn maybe_property_metadata(kind: TokenKind) -> Option<&'static [Symbol]>
 }
 
 /// The metadata of a property.
-pub fn property_metadata(kind: TokenKind) -> Option<&'static [Symbol]>
+fn property_metadata(kind: TokenKind) -> Option<&'static [Symbol]>
     ensures { option_map (λ s. s.now) result ≡ property_metadata kind }
 {
     match kind {
@@ -308,6 +308,32 @@ pub fn property_metadata(kind: TokenKind) -> Option<&'static [Symbol]>
             Symbol::PropertyMetadata,
         ]),
         TokenKind::Quoted => Some(&[Symbol::MaybeSemicolon, Symbol::PropertyMetadata]),
+        _ => None,
+    }
+}
+
+/// What follows a token that is the first of a symbol of this part, where it may be the first.
+pub fn starts(symbol: Symbol, kind: TokenKind) -> Option<&'static [Symbol]>
+    ensures { option_map (λ s. s.now) result ≡ properties_starts symbol kind }
+{
+    match symbol {
+        Symbol::PrimBody => prim_body(kind),
+        Symbol::AfterCustom => after_custom(kind),
+        Symbol::AfterVariability => after_variability(kind),
+        Symbol::AfterEdit => after_edit(kind),
+        Symbol::AfterReorder => after_reorder(kind),
+        Symbol::AfterEditedCustom => after_edited_custom(kind),
+        Symbol::AfterEditedVariability => after_edited_variability(kind),
+        Symbol::MaybeBrackets => maybe_brackets(kind),
+        Symbol::PropertyName => property_name(kind),
+        Symbol::MaybeAttributeTail => maybe_attribute_tail(kind),
+        Symbol::AfterDot => after_dot(kind),
+        Symbol::ConnectWord => connect_word(kind),
+        Symbol::SamplesOrEnd => samples_or_end(kind),
+        Symbol::MoreSamples => more_samples(kind),
+        Symbol::MaybeTargets => maybe_targets(kind),
+        Symbol::MaybePropertyMetadata => maybe_property_metadata(kind),
+        Symbol::PropertyMetadata => property_metadata(kind),
         _ => None,
     }
 }

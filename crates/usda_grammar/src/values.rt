@@ -1,7 +1,7 @@
 // Values, dictionaries and lists of names. Written by tools/grammar.py.
 ghost use Rattle.std.specs.Option.{option_map};
 ghost use Rattle.std.specs.Prelude.{◌≡◌, List};
-ghost use Rattle.usda_grammar.specs.Values.{value, members_or_end, more_members, elements_or_end, more_elements, dictionary, dictionary_entries, entry_key, maybe_separator, name_list, names_or_end, more_names};
+ghost use Rattle.usda_grammar.specs.Values.{value, members_or_end, more_members, elements_or_end, more_elements, dictionary, dictionary_entries, entry_key, maybe_separator, name_list, names_or_end, more_names, values_starts};
 
 use crate::kinds::{Keyword, TokenKind};
 use crate::symbols::Symbol;
@@ -9,7 +9,7 @@ use crate::symbols::Symbol;
 const NONE: &[Symbol] = &[];
 
 /// A value.
-pub fn value(kind: TokenKind) -> Option<&'static [Symbol]>
+fn value(kind: TokenKind) -> Option<&'static [Symbol]>
     ensures { option_map (λ s. s.now) result ≡ value kind }
 {
     match kind {
@@ -26,7 +26,7 @@ pub fn value(kind: TokenKind) -> Option<&'static [Symbol]>
 }
 
 /// The next of the members of a tuple, or the end of them.
-pub fn members_or_end(kind: TokenKind) -> Option<&'static [Symbol]>
+fn members_or_end(kind: TokenKind) -> Option<&'static [Symbol]>
     ensures { option_map (λ s. s.now) result ≡ members_or_end kind }
 {
     match kind {
@@ -48,7 +48,7 @@ pub fn members_or_end(kind: TokenKind) -> Option<&'static [Symbol]>
 }
 
 /// What follows one of the members of a tuple.
-pub fn more_members(kind: TokenKind) -> Option<&'static [Symbol]>
+fn more_members(kind: TokenKind) -> Option<&'static [Symbol]>
     ensures { option_map (λ s. s.now) result ≡ more_members kind }
 {
     match kind {
@@ -59,7 +59,7 @@ pub fn more_members(kind: TokenKind) -> Option<&'static [Symbol]>
 }
 
 /// The next of the elements of an array, or the end of them.
-pub fn elements_or_end(kind: TokenKind) -> Option<&'static [Symbol]>
+fn elements_or_end(kind: TokenKind) -> Option<&'static [Symbol]>
     ensures { option_map (λ s. s.now) result ≡ elements_or_end kind }
 {
     match kind {
@@ -81,7 +81,7 @@ pub fn elements_or_end(kind: TokenKind) -> Option<&'static [Symbol]>
 }
 
 /// What follows one of the elements of an array.
-pub fn more_elements(kind: TokenKind) -> Option<&'static [Symbol]>
+fn more_elements(kind: TokenKind) -> Option<&'static [Symbol]>
     ensures { option_map (λ s. s.now) result ≡ more_elements kind }
 {
     match kind {
@@ -92,7 +92,7 @@ pub fn more_elements(kind: TokenKind) -> Option<&'static [Symbol]>
 }
 
 /// A dictionary.
-pub fn dictionary(kind: TokenKind) -> Option<&'static [Symbol]>
+fn dictionary(kind: TokenKind) -> Option<&'static [Symbol]>
     ensures { option_map (λ s. s.now) result ≡ dictionary kind }
 {
     match kind {
@@ -102,7 +102,7 @@ pub fn dictionary(kind: TokenKind) -> Option<&'static [Symbol]>
 }
 
 /// The entries of a dictionary.
-pub fn dictionary_entries(kind: TokenKind) -> Option<&'static [Symbol]>
+fn dictionary_entries(kind: TokenKind) -> Option<&'static [Symbol]>
     ensures { option_map (λ s. s.now) result ≡ dictionary_entries kind }
 {
     match kind {
@@ -126,7 +126,7 @@ pub fn dictionary_entries(kind: TokenKind) -> Option<&'static [Symbol]>
 }
 
 /// The key of an entry.
-pub fn entry_key(kind: TokenKind) -> Option<&'static [Symbol]>
+fn entry_key(kind: TokenKind) -> Option<&'static [Symbol]>
     ensures { option_map (λ s. s.now) result ≡ entry_key kind }
 {
     match kind {
@@ -137,7 +137,7 @@ pub fn entry_key(kind: TokenKind) -> Option<&'static [Symbol]>
 }
 
 /// `;` or `,`, or nothing.
-pub fn maybe_separator(kind: TokenKind) -> Option<&'static [Symbol]>
+fn maybe_separator(kind: TokenKind) -> Option<&'static [Symbol]>
     ensures { option_map (λ s. s.now) result ≡ maybe_separator kind }
 {
     match kind {
@@ -148,7 +148,7 @@ pub fn maybe_separator(kind: TokenKind) -> Option<&'static [Symbol]>
 }
 
 /// A list of names in quotes.
-pub fn name_list(kind: TokenKind) -> Option<&'static [Symbol]>
+fn name_list(kind: TokenKind) -> Option<&'static [Symbol]>
     ensures { option_map (λ s. s.now) result ≡ name_list kind }
 {
     match kind {
@@ -158,7 +158,7 @@ pub fn name_list(kind: TokenKind) -> Option<&'static [Symbol]>
 }
 
 /// The next of the names, or the end of them.
-pub fn names_or_end(kind: TokenKind) -> Option<&'static [Symbol]>
+fn names_or_end(kind: TokenKind) -> Option<&'static [Symbol]>
     ensures { option_map (λ s. s.now) result ≡ names_or_end kind }
 {
     match kind {
@@ -169,12 +169,33 @@ pub fn names_or_end(kind: TokenKind) -> Option<&'static [Symbol]>
 }
 
 /// What follows one of the names.
-pub fn more_names(kind: TokenKind) -> Option<&'static [Symbol]>
+fn more_names(kind: TokenKind) -> Option<&'static [Symbol]>
     ensures { option_map (λ s. s.now) result ≡ more_names kind }
 {
     match kind {
         TokenKind::Comma => Some(&[Symbol::NamesOrEnd]),
         TokenKind::CloseBracket => Some(NONE),
+        _ => None,
+    }
+}
+
+/// What follows a token that is the first of a symbol of this part, where it may be the first.
+pub fn starts(symbol: Symbol, kind: TokenKind) -> Option<&'static [Symbol]>
+    ensures { option_map (λ s. s.now) result ≡ values_starts symbol kind }
+{
+    match symbol {
+        Symbol::Value => value(kind),
+        Symbol::MembersOrEnd => members_or_end(kind),
+        Symbol::MoreMembers => more_members(kind),
+        Symbol::ElementsOrEnd => elements_or_end(kind),
+        Symbol::MoreElements => more_elements(kind),
+        Symbol::Dictionary => dictionary(kind),
+        Symbol::DictionaryEntries => dictionary_entries(kind),
+        Symbol::EntryKey => entry_key(kind),
+        Symbol::MaybeSeparator => maybe_separator(kind),
+        Symbol::NameList => name_list(kind),
+        Symbol::NamesOrEnd => names_or_end(kind),
+        Symbol::MoreNames => more_names(kind),
         _ => None,
     }
 }
