@@ -1,6 +1,7 @@
 -- The table of the types' names has each type.
-use Rattle.std.proofs.Common.{ℕ, ◌≡◌, ◌≢◌, ◌<◌, ◌∙◌, refl, arith, Bool, true, false, List, [], ◌∷◌, get_or, subst}
-use Rattle.std.specs.Prelude.{◌==◌, All}
+use Rattle.std.proofs.Common.{ℕ, ◌≡◌, ◌≢◌, ◌<◌, ◌∙◌, sym, ap, refl, arith, Bool, true, false, List, [], ◌∷◌, get_or, subst}
+use Rattle.std.specs.Prelude.{◌==◌, All, Option, Some, None}
+use Rattle.sdf_values.specs.TypeNames.{element_name}
 use Rattle.std.specs.Cmp.Lexicographic.{pointwise, bytes_decides}
 use Rattle.sdf_values.specs.declared.type_name.Precision.TheVariants as precision
 use Rattle.sdf_values.specs.declared.type_name.Width.TheVariants as width
@@ -190,3 +191,71 @@ place_low (element.Matrix matrix.Frame4) = omega arith
 -- what holds of each in the table holds of each type
 pub of_each : (P : ElementType → Type 0) → All P elements → (e : ElementType) → P e
 of_each P all e = subst P (place_right e e) (all (place e) e (place_low e))
+
+-- the first type of a name, which is the one that has it
+find_named : List ℕ → List ElementType → Option ElementType
+find_named n [] = None
+find_named n (e ∷ es) = elim (pointwise ◌==◌ n (element_name e)) [ true ↦ Some e | false ↦ find_named n es ]
+
+named : (e : ElementType) → find_named (element_name e) elements ≡ Some e
+unfolding find_named
+named element.Bool = refl
+named element.Uchar = refl
+named element.Int = refl
+named element.Uint = refl
+named element.Int64 = refl
+named element.Uint64 = refl
+named (element.Real precision.Half) = refl
+named (element.Real precision.Float) = refl
+named (element.Real precision.Double) = refl
+named element.Timecode = refl
+named element.String = refl
+named element.Token = refl
+named element.Asset = refl
+named (element.Ints width.Two) = refl
+named (element.Ints width.Three) = refl
+named (element.Ints width.Four) = refl
+named (element.Reals precision.Half width.Two) = refl
+named (element.Reals precision.Half width.Three) = refl
+named (element.Reals precision.Half width.Four) = refl
+named (element.Reals precision.Float width.Two) = refl
+named (element.Reals precision.Float width.Three) = refl
+named (element.Reals precision.Float width.Four) = refl
+named (element.Reals precision.Double width.Two) = refl
+named (element.Reals precision.Double width.Three) = refl
+named (element.Reals precision.Double width.Four) = refl
+named (element.Role role.Point3 precision.Half) = refl
+named (element.Role role.Point3 precision.Float) = refl
+named (element.Role role.Point3 precision.Double) = refl
+named (element.Role role.Vector3 precision.Half) = refl
+named (element.Role role.Vector3 precision.Float) = refl
+named (element.Role role.Vector3 precision.Double) = refl
+named (element.Role role.Normal3 precision.Half) = refl
+named (element.Role role.Normal3 precision.Float) = refl
+named (element.Role role.Normal3 precision.Double) = refl
+named (element.Role role.Color3 precision.Half) = refl
+named (element.Role role.Color3 precision.Float) = refl
+named (element.Role role.Color3 precision.Double) = refl
+named (element.Role role.Color4 precision.Half) = refl
+named (element.Role role.Color4 precision.Float) = refl
+named (element.Role role.Color4 precision.Double) = refl
+named (element.Role role.TexCoord2 precision.Half) = refl
+named (element.Role role.TexCoord2 precision.Float) = refl
+named (element.Role role.TexCoord2 precision.Double) = refl
+named (element.Role role.TexCoord3 precision.Half) = refl
+named (element.Role role.TexCoord3 precision.Float) = refl
+named (element.Role role.TexCoord3 precision.Double) = refl
+named (element.Role role.Quat precision.Half) = refl
+named (element.Role role.Quat precision.Float) = refl
+named (element.Role role.Quat precision.Double) = refl
+named (element.Matrix matrix.Matrix2) = refl
+named (element.Matrix matrix.Matrix3) = refl
+named (element.Matrix matrix.Matrix4) = refl
+named (element.Matrix matrix.Frame4) = refl
+
+one_option : (a b : ElementType) → Some a ≡ Some b → a ≡ b
+one_option a b h = cc
+
+-- no two types have one name
+pub one_name : (a b : ElementType) → element_name a ≡ element_name b → a ≡ b
+one_name a b e = one_option a b (sym (named a) ∙ ap (λ n. find_named n elements) e ∙ named b)

@@ -13,13 +13,13 @@ unfolding fraction_digits
 no_fraction zero = refl
 no_fraction (suc k) = refl
 
-next_digit : (k f : ℕ) → (f == 0) ≡ false → fraction_digits (suc k) f ≡ (48 + f / 10 ^ k) ∷ fraction_digits k (f % 10 ^ k)
+pub next_digit : (k f : ℕ) → (f == 0) ≡ false → fraction_digits (suc k) f ≡ (48 + f / 10 ^ k) ∷ fraction_digits k (f % 10 ^ k)
 unfolding fraction_digits
 next_digit k f h =
     let x : List ℕ = (48 + f / 10 ^ k) ∷ fraction_digits k (f % 10 ^ k) in
     subst (λ (b : Bool). elim b as (λ _. List ℕ) [ true ↦ [] | false ↦ x ] ≡ x) (sym h) refl
 
-not_zero : (f : ℕ) → 0 < f → (f == 0) ≡ false
+pub not_zero : (f : ℕ) → 0 < f → (f == 0) ≡ false
 not_zero f h = grind (arith, nat_tests)
 
 -- one more digit of a fraction, behind what is written

@@ -7,3 +7,4 @@ pub mod Escapes
 pub mod Elements
 pub mod Offsets
 pub mod Fractions
+pub mod Printed

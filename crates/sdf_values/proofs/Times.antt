@@ -3,9 +3,9 @@ use Rattle.std.proofs.Common.{ℕ, zero, suc, ◌≡◌, ◌≢◌, ◌+◌, ◌
 use Rattle.std.specs.Prelude.{ℤ, pos, negsuc, ◌+ℤ◌, ◌*ℤ◌, ◌≤ℤ◌, unsigned_abs}
 use Rattle.std.proofs.lemmas.Int.{ints}
 use Rattle.std.proofs.Math.Nat.{div-lt_iff_lt-mul, mul-mod_left, mul_assoc, mul-le-mul_right, div-mul-le_self}
-use Rattle.sdf_values.specs.Numbers.{DecimalNumber, IsDecimal}
+use Rattle.sdf_values.specs.Numbers.{DecimalNumber, IsDecimal, excess}
 use Rattle.sdf_values.specs.Scales.{IsTime, IsTimeOf}
-use Rattle.sdf_values.proofs.Powers.{excess_above, excess_below, abs_times, ten_le, ten_suc, ten_some}
+use Rattle.sdf_values.proofs.Powers.{cut_ℤ, excess_above, excess_below, abs_times, ten_le, ten_suc, ten_some}
 
 times_unit : (z : ℤ) → z ≡ z *ℤ pos 1
 times_unit (pos n) = omega (arith, ints)
@@ -65,3 +65,7 @@ above_units (negsuc n) h = absurd (omega (arith, ints, h))
 pub fits_units : (digits : ℤ) (k : ℕ) → unsigned_abs digits ≤ 10 ^ 30 / 10 ^ k → IsTime (digits *ℤ pos (10 ^ k))
 fits_units digits k h =
     omega (arith, abs_times digits (10 ^ k), mul-le-mul_right (10 ^ k) h, div-mul-le_self (10 ^ 30) (10 ^ k))
+
+-- one time alone is a number
+pub one_time : (d : DecimalNumber) (t u : ℤ) → IsTimeOf d t → IsTimeOf d u → u ≡ t
+one_time d t u p q = cut_ℤ u t (10 ^ excess (negsuc 17) d.exp) (ten_some (excess (negsuc 17) d.exp)) (sym q ∙ p)

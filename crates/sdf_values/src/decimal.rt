@@ -8,6 +8,7 @@ use crate::parse::{
     Significant, capped_number, decimals, first_fault, is_negative, mark_at, significant_of,
 };
 use std::marker::Model;
+use thiserror::Error;
 
 /// An exact decimal number, `digits * 10^exp`.
 ///
@@ -43,11 +44,13 @@ pub enum Num {
 }
 
 /// Why a text gives no decimal.
-#[derive(Clone, Copy, Debug, PartialEq, Eq)]
+#[derive(Clone, Copy, Debug, PartialEq, Eq, Error)]
 pub enum NumberFault {
     /// The text is no number written with digits: no such text goes on with the byte at `at`, or it ends there too soon.
+    #[error("no number goes on at byte {at}")]
     BadNumber { at: usize },
     /// The number has more than 34 digits or an exponent beyond 400.
+    #[error("a number has at most 34 digits and an exponent within 400 of 0")]
     NumberTooLong,
 }
 

@@ -1,6 +1,8 @@
 // The canonical text of numbers and times.
 ghost use Rattle.std.specs.Prelude.{◌≡◌, ◌++◌, ◌+◌, ◌-◌, ◌≤◌, ◌<◌, ◌^◌, ◌∷◌, [], OnOk, IfOk, string_bytes, replicate, unsigned_abs, ℕ, ℤ, pos, negsuc};
 ghost use Rattle.std.specs.Fmt.{decimal};
+ghost use Rattle.sdf_values.specs.NumberTexts.{Writes};
+ghost use Rattle.sdf_values.specs.Numbers.{IsDecimal};
 ghost use Rattle.sdf_values.specs.Print.{sign_text, fraction_digits, fraction_text, point_text, scaled_text, decimal_text, num_text, time_text, whole_scaled, magnitude_text, whole_text};
 
 use crate::decimal::{Decimal, Num};
@@ -9,9 +11,10 @@ use crate::time::TimeCode;
 use std::alloc::{AllocError, Global};
 
 impl Decimal {
-    /// The canonical text.
+    /// The canonical text, which is a number's text; `parse` of it is this decimal again.
     pub fn print(&self, alloc: Global) -> Result<String, AllocError>
-        ensures { IfOk result (λ text. string_bytes text ≡ decimal_text self.now) }
+        ensures text { IfOk result (λ text. string_bytes text ≡ decimal_text self.now) }
+        ensures read { IfOk result (λ text. Writes (string_bytes text) self.now) }
     {
         let mut out = String::new(alloc);
         push_decimal(&mut out, *self)?;
@@ -63,9 +66,19 @@ pub fn push_time(out: &mut String, time: TimeCode) -> Result<(), AllocError>
 }
 
 fn push_decimal(out: &mut String, decimal: Decimal) -> Result<(), AllocError>
-    ensures { OnOk result (string_bytes out.new ≡ string_bytes out.old ++ decimal_text decimal) }
+    ensures text { OnOk result (string_bytes out.new ≡ string_bytes out.old ++ decimal_text decimal) }
+    ensures read { Writes (decimal_text decimal) decimal }
 {
     let Decimal { digits, exp } = decimal;
+    push_parts(out, digits, exp)
+}
+
+// digits * 10^exp
+fn push_parts(out: &mut String, digits: i128, exp: i16) -> Result<(), AllocError>
+    requires { IsDecimal (record { digits = digits; exp = exp }) }
+    ensures text { OnOk result (string_bytes out.new ≡ string_bytes out.old ++ decimal_text (record { digits = digits; exp = exp })) }
+    ensures read { Writes (decimal_text (record { digits = digits; exp = exp })) (record { digits = digits; exp = exp }) }
+{
     push_sign(out, digits)?;
     if exp < 0 {
         push_small(out, digits.unsigned_abs(), exp.unsigned_abs())

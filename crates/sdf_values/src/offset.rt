@@ -4,6 +4,7 @@ ghost use Rattle.sdf_values.specs.Scales.{IsOffset, IsTime, composed, mapped};
 use crate::tens::times;
 use crate::time::{MOST_UNITS, TimeCode, TimeRange};
 use std::marker::Model;
+use thiserror::Error;
 
 /// How the times of a layer become those of the layer that uses it: time t becomes `t * scale + offset`.
 ///
@@ -27,7 +28,8 @@ impl Model for LayerOffset {
 }
 
 /// The scale or the offset would be out of its bounds.
-#[derive(Clone, Copy, Debug, PartialEq, Eq)]
+#[derive(Clone, Copy, Debug, PartialEq, Eq, Error)]
+#[error("a scale is from 1 to 1,000,000, an offset within 1,000,000,000 of 0")]
 pub struct OffsetRange;
 
 impl LayerOffset {

@@ -1,4 +1,4 @@
-// Worked examples and tables, with expected values from the rules of the format.
+// Tables of cases from the rules of numbers, times, offsets, types and values.
 ghost use Rattle.sdf_values.specs.Scales.{IsOffset};
 
 use super::*;
@@ -6,124 +6,111 @@ use plain_data::{Items, Text};
 use std::alloc::Global;
 use std::test::Fail;
 
-fn read(text: &str) -> Result<(i128, i16), NumberFault> {
+/// Texts, and what is printed of the decimal that they are read as, or why they are refused.
+static NUMBERS: [[&str; 2]; 41] = [
+    ["0.0100", "0.01"],
+    ["-0", "0"],
+    ["0e999", "0"],
+    ["-.5", "-0.5"],
+    ["5.", "5"],
+    ["+12.50e+3", "12500"],
+    ["000120", "120"],
+    ["120e1", "1200"],
+    ["1000000.000001", "1000000.000001"],
+    ["1e34", "10000000000000000000000000000000000"],
+    ["1e35", "1e35"],
+    ["25e-34", "0.0000000000000000000000000000000025"],
+    ["25e-35", "25e-35"],
+    ["1e400", "1e400"],
+    ["-7e-400", "-7e-400"],
+    [
+        "1234567890123456789012345678901234",
+        "1234567890123456789012345678901234",
+    ],
+    [
+        "12345678901234567890123456789012340",
+        "12345678901234567890123456789012340",
+    ],
+    [
+        "0.1234567890123456789012345678901234",
+        "0.1234567890123456789012345678901234",
+    ],
+    ["1E00000000000000000000000000000000000000000002", "100"],
+    ["1e401", "too long"],
+    ["10e400", "too long"],
+    ["100e-402", "1e-400"],
+    ["0.1e-400", "too long"],
+    ["12345678901234567890123456789012345", "too long"],
+    ["0.12345678901234567890123456789012345", "too long"],
+    ["1e99999999999999999999999999999999999999999999", "too long"],
+    [".", "bad at 1"],
+    ["", "bad at 0"],
+    ["-", "bad at 1"],
+    ["--1", "bad at 1"],
+    ["1.2.3", "bad at 3"],
+    ["1e", "bad at 2"],
+    ["1e+", "bad at 3"],
+    ["1ex", "bad at 2"],
+    ["inf", "bad at 0"],
+    ["nan", "bad at 0"],
+    [" 1", "bad at 0"],
+    ["1 ", "bad at 1"],
+    [".e1", "bad at 1"],
+    ["1e5.", "bad at 3"],
+    ["1é", "bad at 1"],
+];
+
+/// Decimals, and what is printed of the times that they are, or `none`.
+static TIMES: [[&str; 2]; 14] = [
+    ["1000000000000", "1000000000000"],
+    ["-1e12", "-1000000000000"],
+    [
+        "999999999999.999999999999999999",
+        "999999999999.999999999999999999",
+    ],
+    ["0.000000000000000001", "0.000000000000000001"],
+    [
+        "-123456789012.123456789012345678",
+        "-123456789012.123456789012345678",
+    ],
+    ["24.5", "24.5"],
+    ["-0", "0"],
+    ["1000000000000.000000000000000001", "none"],
+    ["-1000000000000.000000000000000001", "none"],
+    ["-1e13", "none"],
+    ["1e400", "none"],
+    ["0.0000000000000000001", "none"],
+    ["123456789012.1234567890123456789", "none"],
+    ["1e-400", "none"],
+];
+
+/// Appends what is printed of the decimal that a text is, or why it is none.
+fn number(alloc: Global, text: &str) -> Result<String, Fail> {
     match Decimal::parse(text) {
-        Ok(d) => Ok((d.digits, d.exp)),
-        Err(fault) => Err(fault),
+        Ok(d) => Ok(d.print(alloc)?),
+        Err(NumberFault::BadNumber { at }) => Ok(format!(in alloc; "bad at {at}")?),
+        Err(NumberFault::NumberTooLong) => Ok(String::from_str(alloc, "too long")?),
     }
 }
 
-fn bad(at: usize) -> Result<(i128, i16), NumberFault> {
-    Err(NumberFault::BadNumber { at })
-}
-
-#[test]
-fn numbers_are_read_exactly(rt: HostRuntime) {
-    let long: i128 = 1_234_567_890_123_456_789_012_345_678_901_234;
-    for (text, want) in [
-        ("0.0100", (1, -2)),
-        ("-0", (0, 0)),
-        ("0e999", (0, 0)),
-        ("-.5", (-5, -1)),
-        ("5.", (5, 0)),
-        ("1e400", (1, 400)),
-        ("1e-400", (1, -400)),
-        ("+12.50e+3", (125, 2)),
-        ("000120", (12, 1)),
-        ("1234567890123456789012345678901234", (long, 0)),
-        ("12345678901234567890123456789012340", (long, 1)),
-        ("1E00000000000000000000000000000000000000000002", (1, 2)),
-    ] {
-        assert_eq!(rt; read(text), Ok(want), "{text}");
+fn time(alloc: Global, text: &str) -> Result<String, Fail> {
+    match TimeCode::of(Decimal::parse(text)?) {
+        Ok(time) => Ok(time.print(alloc)?),
+        Err(TimeRange) => Ok(String::from_str(alloc, "none")?),
     }
 }
 
 #[test]
-fn numbers_past_the_limits_are_too_long(rt: HostRuntime) {
-    for text in [
-        "1e401",
-        "10e400",
-        "0.1e-400",
-        "12345678901234567890123456789012345",
-        "0.12345678901234567890123456789012345",
-        "1e99999999999999999999999999999999999999999999",
-    ] {
-        assert_eq!(rt; read(text), Err(NumberFault::NumberTooLong), "{text}");
+fn numbers_and_times_are_exact(rt: HostRuntime) -> Result<(), Fail> {
+    for [text, want] in &NUMBERS {
+        assert_eq!(rt; number(rt.alloc(), *text)?.as_str(), *want, "{text}");
     }
-}
-
-#[test]
-fn bad_numbers_tell_the_place(rt: HostRuntime) {
-    for (text, at) in [
-        (".", 1),
-        ("", 0),
-        ("-", 1),
-        ("--1", 1),
-        ("1.2.3", 3),
-        ("1e", 2),
-        ("1e+", 3),
-        ("1ex", 2),
-        ("inf", 0),
-        (" 1", 0),
-        ("1 ", 1),
-        (".e1", 1),
-        ("1e5.", 3),
-    ] {
-        assert_eq!(rt; read(text), bad(at), "{text}");
-    }
-}
-
-fn printed(alloc: Global, text: &str) -> Result<String, Fail> {
-    Ok(Decimal::parse(text)?.print(alloc)?)
-}
-
-#[test]
-fn numbers_print_by_the_rules(rt: HostRuntime) -> Result<(), Fail> {
-    for (text, want) in [
-        ("0.0100", "0.01"),
-        ("-0", "0"),
-        ("-1.5", "-1.5"),
-        ("120e1", "1200"),
-        ("1e34", "10000000000000000000000000000000000"),
-        ("1e35", "1e35"),
-        ("25e-34", "0.0000000000000000000000000000000025"),
-        ("25e-35", "25e-35"),
-        ("-7e-400", "-7e-400"),
-        ("1000000.000001", "1000000.000001"),
-    ] {
-        let shown = printed(rt.alloc(), text)?;
-        assert_eq!(rt; shown.as_str(), want, "{text}");
+    for [text, want] in &TIMES {
+        assert_eq!(rt; time(rt.alloc(), *text)?.as_str(), *want, "{text}");
     }
     assert_eq!(rt; Num::Inf.print(rt.alloc())?.as_str(), "inf");
     assert_eq!(rt; Num::NegInf.print(rt.alloc())?.as_str(), "-inf");
     assert_eq!(rt; Num::Nan.print(rt.alloc())?.as_str(), "nan");
-    Ok(())
-}
-
-#[test]
-fn times_keep_eighteen_decimals(rt: HostRuntime) -> Result<(), Fail> {
-    for (text, want) in [
-        ("1000000000000", "1000000000000"),
-        ("-1e12", "-1000000000000"),
-        ("0.000000000000000001", "0.000000000000000001"),
-        ("24.5", "24.5"),
-        ("-0", "0"),
-    ] {
-        let time = TimeCode::of(Decimal::parse(text)?);
-        assert!(rt; time.is_ok(), "{text}");
-        if let Ok(time) = time {
-            assert_eq!(rt; time.print(rt.alloc())?.as_str(), want);
-        }
-    }
-    for text in [
-        "1000000000000.000000000000000001",
-        "-1e13",
-        "1e400",
-        "0.0000000000000000001",
-        "1e-400",
-    ] {
-        assert!(rt; TimeCode::of(Decimal::parse(text)?).is_err(), "{text}");
-    }
     Ok(())
 }
 
@@ -133,64 +120,50 @@ fn offset(offset: i64, scale: i64) -> LayerOffset
     LayerOffset { offset, scale }
 }
 
-#[test]
-fn offsets_compose_within_their_bounds(rt: HostRuntime) {
-    assert_eq!(rt; offset(10, 2).then(offset(5, 3)), Ok(offset(35, 6)));
-    assert_eq!(rt; offset(0, 1_000_000).then(offset(0, 2)), Err(OffsetRange));
-    assert_eq!(rt;
-        offset(0, 1_000).then(offset(0, 1_000)),
-        Ok(offset(0, 1_000_000))
-    );
-    assert_eq!(rt;
-        offset(1_000_000_000, 1).then(offset(1, 1)),
-        Err(OffsetRange)
-    );
-    assert_eq!(rt;
-        offset(-999_999_999, 1).then(offset(-1, 1)),
-        Ok(offset(-1_000_000_000, 1))
-    );
+/// What is printed of the time that a text is, mapped by an offset.
+fn mapped(alloc: Global, by: LayerOffset, text: &str) -> Result<String, Fail> {
+    match TimeCode::of(Decimal::parse(text)?) {
+        Ok(time) => match by.map(time) {
+            Ok(time) => Ok(time.print(alloc)?),
+            Err(TimeRange) => Ok(String::from_str(alloc, "out")?),
+        },
+        Err(TimeRange) => Ok(String::from_str(alloc, "none")?),
+    }
 }
 
 #[test]
-fn offsets_map_times(rt: HostRuntime) -> Result<(), Fail> {
-    let one = TimeCode::of(Decimal::parse("1.5")?);
-    let last = TimeCode::of(Decimal::parse("1e12")?);
-    assert!(rt; one.is_ok() && last.is_ok());
-    if let (Ok(one), Ok(last)) = (one, last) {
-        let mapped = offset(10, 2).map(one);
-        assert!(rt; mapped.is_ok());
-        if let Ok(mapped) = mapped {
-            assert_eq!(rt; mapped.print(rt.alloc())?.as_str(), "13");
-        }
-        assert!(rt; offset(0, 1).map(last).is_ok());
-        assert!(rt; offset(1, 1).map(last).is_err());
-        assert!(rt; offset(0, 2).map(last).is_err());
+fn offsets_compose_and_map_within_their_bounds(rt: HostRuntime) -> Result<(), Fail> {
+    for (inner, outer, want) in [
+        (offset(10, 2), offset(5, 3), Ok(offset(35, 6))),
+        (offset(0, 1_000_000), offset(0, 2), Err(OffsetRange)),
+        (offset(0, 1_000), offset(0, 1_000), Ok(offset(0, 1_000_000))),
+        (offset(0, 1_001), offset(0, 1_000), Err(OffsetRange)),
+        (offset(1_000_000_000, 1), offset(1, 1), Err(OffsetRange)),
+        (
+            offset(999_999_999, 1),
+            offset(1, 1),
+            Ok(offset(1_000_000_000, 1)),
+        ),
+        (
+            offset(-999_999_999, 1),
+            offset(-1, 1),
+            Ok(offset(-1_000_000_000, 1)),
+        ),
+        (offset(-1_000_000_000, 1), offset(-1, 1), Err(OffsetRange)),
+    ] {
+        assert_eq!(rt; inner.then(outer), want);
+    }
+    for (by, text, want) in [
+        (offset(10, 2), "1.5", "13"),
+        (offset(0, 1), "1e12", "1000000000000"),
+        (offset(1, 1), "1e12", "out"),
+        (offset(-1, 1), "-1e12", "out"),
+        (offset(0, 1_000_000), "1e6", "1000000000000"),
+        (offset(0, 1_000_000), "1000000.000000000000000001", "out"),
+    ] {
+        assert_eq!(rt; mapped(rt.alloc(), by, text)?.as_str(), want, "{text}");
     }
     Ok(())
-}
-
-#[test]
-fn types_are_found_by_name(rt: HostRuntime) {
-    for element in &ELEMENTS {
-        let found = TypeName::find(element.name(), true);
-        let want = TypeName {
-            element: *element,
-            array: true,
-        };
-        assert_eq!(rt; found, Some(want));
-    }
-    for name in [
-        "",
-        "Int",
-        "int5",
-        "point3",
-        "quatd ",
-        "matrix2f",
-        "dictionary",
-        "float2h",
-    ] {
-        assert_eq!(rt; TypeName::find(name, false), None, "{name}");
-    }
 }
 
 fn numbers(alloc: Global, count: usize) -> Result<Items<Value>, Fail> {
@@ -258,8 +231,22 @@ fn square(matrix: Matrix) -> usize {
     }
 }
 
+/// Names of no type.
+static NO_TYPES: [&str; 10] = [
+    "",
+    "Int",
+    "int5",
+    "point3",
+    "quatd ",
+    "matrix2f",
+    "dictionary",
+    "float2h",
+    "int[]",
+    "texCoord4f",
+];
+
 #[test]
-fn each_type_takes_its_values(rt: HostRuntime) -> Result<(), Fail> {
+fn each_type_is_found_and_takes_its_values(rt: HostRuntime) -> Result<(), Fail> {
     for element in &ELEMENTS {
         let element = *element;
         let one = TypeName {
@@ -270,19 +257,22 @@ fn each_type_takes_its_values(rt: HostRuntime) -> Result<(), Fail> {
             element,
             array: true,
         };
+        assert_eq!(rt; TypeName::find(element.name(), true), Some(many));
         let value = sample(rt.alloc(), element)?;
         assert!(rt; conforms(one, &value), "{}", element.name());
         assert!(rt; !conforms(many, &value));
         assert!(rt; conforms(one, &Value::Block));
         assert!(rt; !conforms(one, &Value::Word(Text::of(rt.alloc(), "a")?)));
+        assert!(rt; !conforms(one, &Value::Tuple(Items::new(rt.alloc()))));
         let mut items = Items::new(rt.alloc());
         items.push(value)?;
-        let array = Value::Array(items);
-        assert!(rt; conforms(many, &array));
-        assert!(rt; !conforms(one, &array));
-        let mut blocks = Items::new(rt.alloc());
-        blocks.push(Value::Block)?;
-        assert!(rt; !conforms(many, &Value::Array(blocks)));
+        items.push(Value::Block)?;
+        let mixed = Value::Array(items);
+        assert!(rt; !conforms(many, &mixed) && !conforms(one, &mixed));
+        assert!(rt; conforms(many, &Value::Array(Items::new(rt.alloc()))));
+    }
+    for name in &NO_TYPES {
+        assert_eq!(rt; TypeName::find(*name, false), None, "{name}");
     }
     Ok(())
 }

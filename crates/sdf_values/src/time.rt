@@ -5,6 +5,7 @@ ghost use Rattle.sdf_values.specs.Scales.{IsTime, IsTimeOf};
 use crate::decimal::Decimal;
 use crate::tens::{ten_to, times};
 use std::marker::Model;
+use thiserror::Error;
 
 /// A time, in units of 10^-18, within 10^12 whole units of time of 0.
 #[derive(Clone, Copy, Debug, PartialEq, Eq, PartialOrd, Ord, Hash)]
@@ -26,13 +27,16 @@ impl Model for TimeCode {
 }
 
 /// The time would be more than 10^12 away from 0, or has more than 18 decimals.
-#[derive(Clone, Copy, Debug, PartialEq, Eq)]
+#[derive(Clone, Copy, Debug, PartialEq, Eq, Error)]
+#[error("a time is within 10^12 of 0 and has at most 18 decimals")]
 pub struct TimeRange;
 
 impl TimeCode {
     /// The time that a decimal is.
     pub fn of(d: Decimal) -> Result<TimeCode, TimeRange>
         ensures time { IfOk result (λ t. IsTime t × IsTimeOf d t) }
+        // no other time is the number
+        ensures only { IfOk result (λ t. (u : ℤ) → IsTimeOf d u → u ≡ t) }
         // refused only where no time is the number
         ensures refused { IsErr result → (t : ℤ) → IsTime t → IsTimeOf d t → ⊥ }
     {
@@ -44,6 +48,7 @@ impl TimeCode {
 fn time_of(digits: i128, exp: i16) -> Result<TimeCode, TimeRange>
     requires { IsDecimal (record { digits = digits; exp = exp }) }
     ensures time { IfOk result (λ t. IsTime t × IsTimeOf (record { digits = digits; exp = exp }) t) }
+    ensures only { IfOk result (λ t. (u : ℤ) → IsTimeOf (record { digits = digits; exp = exp }) u → u ≡ t) }
     ensures refused { IsErr result → (t : ℤ) → IsTime t → IsTimeOf (record { digits = digits; exp = exp }) t → ⊥ }
 {
     if digits == 0 {

@@ -1,6 +1,7 @@
-ghost use Rattle.std.specs.Prelude.{◌≡◌, ◌≢◌, All, IfSome, IsNone};
+ghost use Rattle.std.specs.Prelude.{◌≡◌, ◌≢◌, All, IfSome, IsNone, Some};
 ghost use Rattle.sdf_values.specs.TypeNames.{element_name};
 ghost use Rattle.sdf_values.specs.declared.type_name.ElementType.{ElementType};
+ghost use Rattle.sdf_values.specs.declared.type_name.TypeName.{TypeName};
 
 /// How finely a floating-point number is meant to be kept. Numbers are kept exactly whichever it is.
 #[derive(Clone, Copy, Debug, PartialEq, Eq, PartialOrd, Ord)]
@@ -176,9 +177,11 @@ fn double_role_name(role: Role) -> &'static str
 }
 
 impl TypeName {
-    /// The type of that name, or of arrays of it; `None` exactly where there is no type of that name.
+    /// The type of that name, or of arrays of it; `None` exactly where there is no type of that name. No two types have
+    /// one name, so a type is found by its own.
     pub fn find(name: &str, array: bool) -> Option<TypeName>
         ensures found { IfSome result (λ t. (element_name t.element ≡ name.now) × (t.array ≡ array)) }
+        ensures own { (t : TypeName) → element_name t.element ≡ name.now → t.array ≡ array → result ≡ Some t }
         // `None` only where no type has the name
         ensures none { IsNone result → (e : ElementType) → element_name e ≢ name.now }
     {

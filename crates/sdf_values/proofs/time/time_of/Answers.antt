@@ -4,7 +4,7 @@ use Rattle.std.specs.Int.{w128}
 use Rattle.std.proofs.lemmas.Int.{ints, to_z-of_z}
 use Rattle.sdf_values.specs.Numbers.{DecimalNumber}
 use Rattle.sdf_values.specs.Scales.{IsTime, IsTimeOf}
-use Rattle.sdf_values.proofs.Times.{is_time, no_time, past_time, large_time, below_units, above_units, fits_units}
+use Rattle.sdf_values.proofs.Times.{is_time, one_time, no_time, past_time, large_time, below_units, above_units, fits_units}
 use Rattle.sdf_values.proofs.time.time_of.Goals as goal
 use Rattle.sdf_values.proofs.time.time_of.Goals.{then-exp-ltminus18-via-then-exp-ltminus18, then-exp-ltminus18-via-else-exp-ltminus18+then-exp-gt12}
 
@@ -49,3 +49,6 @@ returns-clause-time c =
     c.times-units.ensures.product ∙ ap (λ z. z *ℤ pos c.ten_to-unit.result) (to_z-of_z w128 c.args.digits c.ranges.digits) ∙ ap (λ u. c.args.digits *ℤ pos u) unit in
     let fits : FitsSigned w128 c.times-units.result = search rules in
     (invariant_of-result-2 c, subst (λ (z : ℤ). IsTimeOf d z) (sym (to_z-of_z w128 c.times-units.result fits ∙ units)) (is_time d c.places.result at))
+
+pub returns-clause-only : goal.returns-clause-only
+returns-clause-only c u same = one_time (record { digits = c.args.digits; exp = c.args.exp }) _ u (returns-clause-time c).1 same

@@ -1,0 +1,105 @@
+-- The tokens that may follow a symbol that may be absent, or at whose end one stands; any token, where it does not matter. Written by tools/grammar.py.
+use Rattle.std.specs.Prelude.{Bool, true, false}
+use Rattle.usda_grammar.specs.declared.kinds.TokenKind.{TokenKind}
+use Rattle.usda_grammar.specs.declared.kinds.TokenKind.TheVariants as token
+use Rattle.usda_grammar.specs.declared.kinds.Keyword.TheVariants as word
+use Rattle.usda_grammar.specs.declared.symbols.Symbol.{Symbol}
+use Rattle.usda_grammar.specs.declared.symbols.Symbol.TheVariants as symbol
+
+abbrev pub may_follow : Symbol → TokenKind → Bool
+may_follow symbol.MaybeSemicolon (token.Word w) = true
+may_follow symbol.MaybeSemicolon token.Quoted = true
+may_follow symbol.MaybeSemicolon token.CloseParen = true
+may_follow symbol.MaybeSemicolon token.CloseBrace = true
+may_follow symbol.MaybeSemicolon k = false
+may_follow symbol.MaybeHead (token.Word word.Specifier) = true
+may_follow symbol.MaybeHead (token.Word word.Reorder) = true
+may_follow symbol.MaybeHead k = false
+may_follow symbol.HeadItems token.CloseParen = true
+may_follow symbol.HeadItems k = false
+may_follow symbol.MaybeOffsets (token.Word w) = true
+may_follow symbol.MaybeOffsets token.Quoted = true
+may_follow symbol.MaybeOffsets token.CloseParen = true
+may_follow symbol.MaybeOffsets token.CloseBracket = true
+may_follow symbol.MaybeOffsets token.Comma = true
+may_follow symbol.MaybeOffsets token.Semicolon = true
+may_follow symbol.MaybeOffsets k = false
+may_follow symbol.OffsetItems token.CloseParen = true
+may_follow symbol.OffsetItems k = false
+may_follow symbol.RootStatements k = false
+may_follow symbol.MaybeTypeName token.Quoted = true
+may_follow symbol.MaybeTypeName k = false
+may_follow symbol.MaybePrimMetadata token.OpenBrace = true
+may_follow symbol.MaybePrimMetadata k = false
+may_follow symbol.PrimMetadata token.CloseParen = true
+may_follow symbol.PrimMetadata k = false
+may_follow symbol.EditedField (token.Word w) = true
+may_follow symbol.EditedField token.Quoted = true
+may_follow symbol.EditedField token.CloseParen = true
+may_follow symbol.EditedField token.Semicolon = true
+may_follow symbol.EditedField k = false
+may_follow symbol.ReferenceList (token.Word w) = true
+may_follow symbol.ReferenceList token.Quoted = true
+may_follow symbol.ReferenceList token.CloseParen = true
+may_follow symbol.ReferenceList token.Semicolon = true
+may_follow symbol.ReferenceList k = false
+may_follow symbol.MaybePath (token.Word w) = true
+may_follow symbol.MaybePath token.Quoted = true
+may_follow symbol.MaybePath token.OpenParen = true
+may_follow symbol.MaybePath token.CloseParen = true
+may_follow symbol.MaybePath token.CloseBracket = true
+may_follow symbol.MaybePath token.Comma = true
+may_follow symbol.MaybePath token.Semicolon = true
+may_follow symbol.MaybePath k = false
+may_follow symbol.VariantList token.CloseBrace = true
+may_follow symbol.VariantList k = false
+may_follow symbol.PrimBody token.CloseBrace = true
+may_follow symbol.PrimBody k = false
+may_follow symbol.AfterCustom (token.Word w) = true
+may_follow symbol.AfterCustom token.CloseBrace = true
+may_follow symbol.AfterCustom token.Semicolon = true
+may_follow symbol.AfterCustom k = false
+may_follow symbol.AfterVariability (token.Word w) = true
+may_follow symbol.AfterVariability token.CloseBrace = true
+may_follow symbol.AfterVariability token.Semicolon = true
+may_follow symbol.AfterVariability k = false
+may_follow symbol.AfterEdit (token.Word w) = true
+may_follow symbol.AfterEdit token.CloseBrace = true
+may_follow symbol.AfterEdit token.Semicolon = true
+may_follow symbol.AfterEdit k = false
+may_follow symbol.AfterReorder (token.Word w) = true
+may_follow symbol.AfterReorder token.CloseBrace = true
+may_follow symbol.AfterReorder token.Semicolon = true
+may_follow symbol.AfterReorder k = false
+may_follow symbol.AfterEditedCustom (token.Word w) = true
+may_follow symbol.AfterEditedCustom token.CloseBrace = true
+may_follow symbol.AfterEditedCustom token.Semicolon = true
+may_follow symbol.AfterEditedCustom k = false
+may_follow symbol.AfterEditedVariability (token.Word w) = true
+may_follow symbol.AfterEditedVariability token.CloseBrace = true
+may_follow symbol.AfterEditedVariability token.Semicolon = true
+may_follow symbol.AfterEditedVariability k = false
+may_follow symbol.MaybeBrackets (token.Word w) = true
+may_follow symbol.MaybeBrackets token.Quoted = true
+may_follow symbol.MaybeBrackets k = false
+may_follow symbol.MaybeAttributeTail (token.Word w) = true
+may_follow symbol.MaybeAttributeTail token.CloseBrace = true
+may_follow symbol.MaybeAttributeTail token.Semicolon = true
+may_follow symbol.MaybeAttributeTail k = false
+may_follow symbol.MaybeTargets (token.Word w) = true
+may_follow symbol.MaybeTargets token.OpenParen = true
+may_follow symbol.MaybeTargets token.CloseBrace = true
+may_follow symbol.MaybeTargets token.Semicolon = true
+may_follow symbol.MaybeTargets k = false
+may_follow symbol.MaybePropertyMetadata (token.Word w) = true
+may_follow symbol.MaybePropertyMetadata token.CloseBrace = true
+may_follow symbol.MaybePropertyMetadata token.Semicolon = true
+may_follow symbol.MaybePropertyMetadata k = false
+may_follow symbol.PropertyMetadata token.CloseParen = true
+may_follow symbol.PropertyMetadata k = false
+may_follow symbol.DictionaryEntries token.CloseBrace = true
+may_follow symbol.DictionaryEntries k = false
+may_follow symbol.MaybeSeparator (token.Word w) = true
+may_follow symbol.MaybeSeparator token.CloseBrace = true
+may_follow symbol.MaybeSeparator k = false
+may_follow s k = true

@@ -1,0 +1,25 @@
+-- The texts of symbols.
+use Rattle.std.specs.Prelude.{◌≡◌, true, List, [], ◌∷◌, ◌++◌, Some}
+use Rattle.usda_grammar.specs.declared.kinds.TokenKind.{TokenKind}
+use Rattle.usda_grammar.specs.declared.symbols.Symbol.{Symbol}
+use Rattle.usda_grammar.specs.Table.{starts, may_be_absent}
+
+-- how the tokens of a text come from symbols: each symbol is absent, or takes a token
+pub data Derivation : Type 0 where
+  ends : Derivation
+  skips : Derivation → Derivation
+  takes : Derivation → Derivation
+
+abbrev pub Derives : Derivation → List Symbol → List TokenKind → Type 0
+Derives ends [] [] = Unit {0}
+Derives ends [] (k ∷ ks) = ⊥
+Derives ends (s ∷ stack) ks = ⊥
+Derives (skips d) [] ks = ⊥
+Derives (skips d) (s ∷ stack) ks = (may_be_absent s ≡ true) × Derives d stack ks
+Derives (takes d) [] ks = ⊥
+Derives (takes d) (s ∷ stack) [] = ⊥
+Derives (takes d) (s ∷ stack) (k ∷ ks) = (after : List Symbol) × (starts s k ≡ Some after) × Derives d (after ++ stack) ks
+
+-- the tokens are a text of these symbols
+abbrev pub AreText : List Symbol → List TokenKind → Type 0
+AreText stack ks = (d : Derivation) × Derives d stack ks

@@ -1,0 +1,130 @@
+-- What may come next: single tokens, and the statements of a layer: its head, its sublayers and its root prims. Written by tools/grammar.py.
+use Rattle.std.specs.Prelude.{List, [], ◌∷◌, Option, Some, None}
+use Rattle.usda_grammar.specs.declared.kinds.TokenKind.{TokenKind}
+use Rattle.usda_grammar.specs.declared.kinds.TokenKind.TheVariants as token
+use Rattle.usda_grammar.specs.declared.kinds.Keyword.TheVariants as word
+use Rattle.usda_grammar.specs.declared.symbols.Symbol.{Symbol}
+use Rattle.usda_grammar.specs.declared.symbols.Symbol.TheVariants as symbol
+
+-- `=`
+abbrev pub equals : TokenKind → Option (List Symbol)
+equals token.Equals = Some ([])
+equals k = None
+
+-- `:`
+abbrev pub colon : TokenKind → Option (List Symbol)
+colon token.Colon = Some ([])
+colon k = None
+
+-- `.`
+abbrev pub dot : TokenKind → Option (List Symbol)
+dot token.Dot = Some ([])
+dot k = None
+
+-- `)`
+abbrev pub close_paren : TokenKind → Option (List Symbol)
+close_paren token.CloseParen = Some ([])
+close_paren k = None
+
+-- `{`
+abbrev pub open_brace : TokenKind → Option (List Symbol)
+open_brace token.OpenBrace = Some ([])
+open_brace k = None
+
+-- `}`
+abbrev pub close_brace : TokenKind → Option (List Symbol)
+close_brace token.CloseBrace = Some ([])
+close_brace k = None
+
+-- `]`
+abbrev pub close_bracket : TokenKind → Option (List Symbol)
+close_bracket token.CloseBracket = Some ([])
+close_bracket k = None
+
+-- the word `rootPrims`
+abbrev pub root_prims : TokenKind → Option (List Symbol)
+root_prims (token.Word word.RootPrims) = Some ([])
+root_prims k = None
+
+-- the number of an offset or a scale
+abbrev pub offset_number : TokenKind → Option (List Symbol)
+offset_number token.Number = Some ([])
+offset_number k = None
+
+-- the name of a prim, a variant set or a variant, in quotes
+abbrev pub quoted_name : TokenKind → Option (List Symbol)
+quoted_name token.Quoted = Some ([])
+quoted_name k = None
+
+-- `;`, or nothing
+abbrev pub maybe_semicolon : TokenKind → Option (List Symbol)
+maybe_semicolon token.Semicolon = Some ([])
+maybe_semicolon k = None
+
+-- the metadata of the layer in brackets, or nothing
+abbrev pub maybe_head : TokenKind → Option (List Symbol)
+maybe_head token.OpenParen = Some (symbol.HeadItems ∷ symbol.CloseParen ∷ [])
+maybe_head k = None
+
+-- the metadata of the layer
+abbrev pub head_items : TokenKind → Option (List Symbol)
+head_items (token.Word word.SubLayers) = Some (symbol.Equals ∷ symbol.SubLayerList ∷ symbol.MaybeSemicolon ∷ symbol.HeadItems ∷ [])
+head_items (token.Word w) = Some (symbol.Equals ∷ symbol.Value ∷ symbol.MaybeSemicolon ∷ symbol.HeadItems ∷ [])
+head_items token.Quoted = Some (symbol.MaybeSemicolon ∷ symbol.HeadItems ∷ [])
+head_items k = None
+
+-- the list of sublayers
+abbrev pub sub_layer_list : TokenKind → Option (List Symbol)
+sub_layer_list token.OpenBracket = Some (symbol.SubLayersOrEnd ∷ [])
+sub_layer_list k = None
+
+-- the next of the sublayers, or the end of them
+abbrev pub sub_layers_or_end : TokenKind → Option (List Symbol)
+sub_layers_or_end token.CloseBracket = Some ([])
+sub_layers_or_end token.Asset = Some (symbol.MaybeOffsets ∷ symbol.MoreSubLayers ∷ [])
+sub_layers_or_end k = None
+
+-- what follows one of the sublayers
+abbrev pub more_sub_layers : TokenKind → Option (List Symbol)
+more_sub_layers token.Comma = Some (symbol.SubLayersOrEnd ∷ [])
+more_sub_layers token.CloseBracket = Some ([])
+more_sub_layers k = None
+
+-- offset and scale in brackets, or nothing
+abbrev pub maybe_offsets : TokenKind → Option (List Symbol)
+maybe_offsets token.OpenParen = Some (symbol.OffsetItems ∷ symbol.CloseParen ∷ [])
+maybe_offsets k = None
+
+-- offset and scale
+abbrev pub offset_items : TokenKind → Option (List Symbol)
+offset_items (token.Word w) = Some (symbol.Equals ∷ symbol.OffsetNumber ∷ symbol.MaybeSemicolon ∷ symbol.OffsetItems ∷ [])
+offset_items k = None
+
+-- the root prims, and the orders of them
+abbrev pub root_statements : TokenKind → Option (List Symbol)
+root_statements (token.Word word.Specifier) = Some (symbol.MaybeTypeName ∷ symbol.QuotedName ∷ symbol.MaybePrimMetadata ∷ symbol.OpenBrace ∷ symbol.PrimBody ∷ symbol.CloseBrace ∷ symbol.MaybeSemicolon ∷ symbol.RootStatements ∷ [])
+root_statements (token.Word word.Reorder) = Some (symbol.RootPrims ∷ symbol.Equals ∷ symbol.NameList ∷ symbol.MaybeSemicolon ∷ symbol.RootStatements ∷ [])
+root_statements k = None
+
+-- the symbols of this part
+abbrev pub layers_starts : Symbol → TokenKind → Option (List Symbol)
+layers_starts symbol.Equals k = equals k
+layers_starts symbol.Colon k = colon k
+layers_starts symbol.Dot k = dot k
+layers_starts symbol.CloseParen k = close_paren k
+layers_starts symbol.OpenBrace k = open_brace k
+layers_starts symbol.CloseBrace k = close_brace k
+layers_starts symbol.CloseBracket k = close_bracket k
+layers_starts symbol.RootPrims k = root_prims k
+layers_starts symbol.OffsetNumber k = offset_number k
+layers_starts symbol.QuotedName k = quoted_name k
+layers_starts symbol.MaybeSemicolon k = maybe_semicolon k
+layers_starts symbol.MaybeHead k = maybe_head k
+layers_starts symbol.HeadItems k = head_items k
+layers_starts symbol.SubLayerList k = sub_layer_list k
+layers_starts symbol.SubLayersOrEnd k = sub_layers_or_end k
+layers_starts symbol.MoreSubLayers k = more_sub_layers k
+layers_starts symbol.MaybeOffsets k = maybe_offsets k
+layers_starts symbol.OffsetItems k = offset_items k
+layers_starts symbol.RootStatements k = root_statements k
+layers_starts s k = None

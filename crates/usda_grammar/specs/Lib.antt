@@ -1,0 +1,10 @@
+pub mod Words
+pub mod Layers
+pub mod Prims
+pub mod Properties
+pub mod Values
+pub mod Table
+pub mod Derivations
+pub mod Machine
+pub mod Laws
+pub mod Examples

@@ -1,0 +1,139 @@
+-- Each row of the table is the one way on of what its symbol stands for. Written by tools/grammar.py.
+use Rattle.std.proofs.Common.{◌≡◌, refl}
+use Rattle.usda_grammar.specs.declared.kinds.TokenKind.{TokenKind}
+use Rattle.usda_grammar.specs.declared.symbols.Symbol.{Symbol}
+use Rattle.usda_grammar.specs.declared.symbols.Symbol.TheVariants as symbol
+use Rattle.usda_grammar.specs.Table.{may_be_absent}
+use Rattle.usda_grammar.proofs.AllKinds.{by_kind}
+use Rattle.usda_productions.proofs.Shapes.{form}
+use Rattle.usda_productions.proofs.Ways.{absent, Agrees}
+
+pub table : (s : Symbol) (k : TokenKind) → Agrees s k
+table symbol.Equals = by_kind (Agrees symbol.Equals) refl refl refl refl refl refl refl refl refl refl refl refl refl refl refl refl refl refl refl refl refl refl refl refl refl refl refl refl refl refl refl refl refl refl refl refl
+table symbol.Colon = by_kind (Agrees symbol.Colon) refl refl refl refl refl refl refl refl refl refl refl refl refl refl refl refl refl refl refl refl refl refl refl refl refl refl refl refl refl refl refl refl refl refl refl refl
+table symbol.Dot = by_kind (Agrees symbol.Dot) refl refl refl refl refl refl refl refl refl refl refl refl refl refl refl refl refl refl refl refl refl refl refl refl refl refl refl refl refl refl refl refl refl refl refl refl
+table symbol.CloseParen = by_kind (Agrees symbol.CloseParen) refl refl refl refl refl refl refl refl refl refl refl refl refl refl refl refl refl refl refl refl refl refl refl refl refl refl refl refl refl refl refl refl refl refl refl refl
+table symbol.OpenBrace = by_kind (Agrees symbol.OpenBrace) refl refl refl refl refl refl refl refl refl refl refl refl refl refl refl refl refl refl refl refl refl refl refl refl refl refl refl refl refl refl refl refl refl refl refl refl
+table symbol.CloseBrace = by_kind (Agrees symbol.CloseBrace) refl refl refl refl refl refl refl refl refl refl refl refl refl refl refl refl refl refl refl refl refl refl refl refl refl refl refl refl refl refl refl refl refl refl refl refl
+table symbol.CloseBracket = by_kind (Agrees symbol.CloseBracket) refl refl refl refl refl refl refl refl refl refl refl refl refl refl refl refl refl refl refl refl refl refl refl refl refl refl refl refl refl refl refl refl refl refl refl refl
+table symbol.RootPrims = by_kind (Agrees symbol.RootPrims) refl refl refl refl refl refl refl refl refl refl refl refl refl refl refl refl refl refl refl refl refl refl refl refl refl refl refl refl refl refl refl refl refl refl refl refl
+table symbol.OffsetNumber = by_kind (Agrees symbol.OffsetNumber) refl refl refl refl refl refl refl refl refl refl refl refl refl refl refl refl refl refl refl refl refl refl refl refl refl refl refl refl refl refl refl refl refl refl refl refl
+table symbol.QuotedName = by_kind (Agrees symbol.QuotedName) refl refl refl refl refl refl refl refl refl refl refl refl refl refl refl refl refl refl refl refl refl refl refl refl refl refl refl refl refl refl refl refl refl refl refl refl
+table symbol.MaybeSemicolon = by_kind (Agrees symbol.MaybeSemicolon) refl refl refl refl refl refl refl refl refl refl refl refl refl refl refl refl refl refl refl refl refl refl refl refl refl refl refl refl refl refl refl refl refl refl refl refl
+table symbol.MaybeHead = by_kind (Agrees symbol.MaybeHead) refl refl refl refl refl refl refl refl refl refl refl refl refl refl refl refl refl refl refl refl refl refl refl refl refl refl refl refl refl refl refl refl refl refl refl refl
+table symbol.HeadItems = by_kind (Agrees symbol.HeadItems) refl refl refl refl refl refl refl refl refl refl refl refl refl refl refl refl refl refl refl refl refl refl refl refl refl refl refl refl refl refl refl refl refl refl refl refl
+table symbol.SubLayerList = by_kind (Agrees symbol.SubLayerList) refl refl refl refl refl refl refl refl refl refl refl refl refl refl refl refl refl refl refl refl refl refl refl refl refl refl refl refl refl refl refl refl refl refl refl refl
+table symbol.SubLayersOrEnd = by_kind (Agrees symbol.SubLayersOrEnd) refl refl refl refl refl refl refl refl refl refl refl refl refl refl refl refl refl refl refl refl refl refl refl refl refl refl refl refl refl refl refl refl refl refl refl refl
+table symbol.MoreSubLayers = by_kind (Agrees symbol.MoreSubLayers) refl refl refl refl refl refl refl refl refl refl refl refl refl refl refl refl refl refl refl refl refl refl refl refl refl refl refl refl refl refl refl refl refl refl refl refl
+table symbol.MaybeOffsets = by_kind (Agrees symbol.MaybeOffsets) refl refl refl refl refl refl refl refl refl refl refl refl refl refl refl refl refl refl refl refl refl refl refl refl refl refl refl refl refl refl refl refl refl refl refl refl
+table symbol.OffsetItems = by_kind (Agrees symbol.OffsetItems) refl refl refl refl refl refl refl refl refl refl refl refl refl refl refl refl refl refl refl refl refl refl refl refl refl refl refl refl refl refl refl refl refl refl refl refl
+table symbol.RootStatements = by_kind (Agrees symbol.RootStatements) refl refl refl refl refl refl refl refl refl refl refl refl refl refl refl refl refl refl refl refl refl refl refl refl refl refl refl refl refl refl refl refl refl refl refl refl
+table symbol.MaybeTypeName = by_kind (Agrees symbol.MaybeTypeName) refl refl refl refl refl refl refl refl refl refl refl refl refl refl refl refl refl refl refl refl refl refl refl refl refl refl refl refl refl refl refl refl refl refl refl refl
+table symbol.MaybePrimMetadata = by_kind (Agrees symbol.MaybePrimMetadata) refl refl refl refl refl refl refl refl refl refl refl refl refl refl refl refl refl refl refl refl refl refl refl refl refl refl refl refl refl refl refl refl refl refl refl refl
+table symbol.PrimMetadata = by_kind (Agrees symbol.PrimMetadata) refl refl refl refl refl refl refl refl refl refl refl refl refl refl refl refl refl refl refl refl refl refl refl refl refl refl refl refl refl refl refl refl refl refl refl refl
+table symbol.EditedField = by_kind (Agrees symbol.EditedField) refl refl refl refl refl refl refl refl refl refl refl refl refl refl refl refl refl refl refl refl refl refl refl refl refl refl refl refl refl refl refl refl refl refl refl refl
+table symbol.StringList = by_kind (Agrees symbol.StringList) refl refl refl refl refl refl refl refl refl refl refl refl refl refl refl refl refl refl refl refl refl refl refl refl refl refl refl refl refl refl refl refl refl refl refl refl
+table symbol.StringsOrEnd = by_kind (Agrees symbol.StringsOrEnd) refl refl refl refl refl refl refl refl refl refl refl refl refl refl refl refl refl refl refl refl refl refl refl refl refl refl refl refl refl refl refl refl refl refl refl refl
+table symbol.MoreStrings = by_kind (Agrees symbol.MoreStrings) refl refl refl refl refl refl refl refl refl refl refl refl refl refl refl refl refl refl refl refl refl refl refl refl refl refl refl refl refl refl refl refl refl refl refl refl
+table symbol.PathList = by_kind (Agrees symbol.PathList) refl refl refl refl refl refl refl refl refl refl refl refl refl refl refl refl refl refl refl refl refl refl refl refl refl refl refl refl refl refl refl refl refl refl refl refl
+table symbol.PathsOrEnd = by_kind (Agrees symbol.PathsOrEnd) refl refl refl refl refl refl refl refl refl refl refl refl refl refl refl refl refl refl refl refl refl refl refl refl refl refl refl refl refl refl refl refl refl refl refl refl
+table symbol.MorePaths = by_kind (Agrees symbol.MorePaths) refl refl refl refl refl refl refl refl refl refl refl refl refl refl refl refl refl refl refl refl refl refl refl refl refl refl refl refl refl refl refl refl refl refl refl refl
+table symbol.ReferenceList = by_kind (Agrees symbol.ReferenceList) refl refl refl refl refl refl refl refl refl refl refl refl refl refl refl refl refl refl refl refl refl refl refl refl refl refl refl refl refl refl refl refl refl refl refl refl
+table symbol.ReferencesOrEnd = by_kind (Agrees symbol.ReferencesOrEnd) refl refl refl refl refl refl refl refl refl refl refl refl refl refl refl refl refl refl refl refl refl refl refl refl refl refl refl refl refl refl refl refl refl refl refl refl
+table symbol.MoreReferences = by_kind (Agrees symbol.MoreReferences) refl refl refl refl refl refl refl refl refl refl refl refl refl refl refl refl refl refl refl refl refl refl refl refl refl refl refl refl refl refl refl refl refl refl refl refl
+table symbol.MaybePath = by_kind (Agrees symbol.MaybePath) refl refl refl refl refl refl refl refl refl refl refl refl refl refl refl refl refl refl refl refl refl refl refl refl refl refl refl refl refl refl refl refl refl refl refl refl
+table symbol.VariantList = by_kind (Agrees symbol.VariantList) refl refl refl refl refl refl refl refl refl refl refl refl refl refl refl refl refl refl refl refl refl refl refl refl refl refl refl refl refl refl refl refl refl refl refl refl
+table symbol.PrimBody = by_kind (Agrees symbol.PrimBody) refl refl refl refl refl refl refl refl refl refl refl refl refl refl refl refl refl refl refl refl refl refl refl refl refl refl refl refl refl refl refl refl refl refl refl refl
+table symbol.AfterCustom = by_kind (Agrees symbol.AfterCustom) refl refl refl refl refl refl refl refl refl refl refl refl refl refl refl refl refl refl refl refl refl refl refl refl refl refl refl refl refl refl refl refl refl refl refl refl
+table symbol.AfterVariability = by_kind (Agrees symbol.AfterVariability) refl refl refl refl refl refl refl refl refl refl refl refl refl refl refl refl refl refl refl refl refl refl refl refl refl refl refl refl refl refl refl refl refl refl refl refl
+table symbol.AfterEdit = by_kind (Agrees symbol.AfterEdit) refl refl refl refl refl refl refl refl refl refl refl refl refl refl refl refl refl refl refl refl refl refl refl refl refl refl refl refl refl refl refl refl refl refl refl refl
+table symbol.AfterReorder = by_kind (Agrees symbol.AfterReorder) refl refl refl refl refl refl refl refl refl refl refl refl refl refl refl refl refl refl refl refl refl refl refl refl refl refl refl refl refl refl refl refl refl refl refl refl
+table symbol.AfterEditedCustom = by_kind (Agrees symbol.AfterEditedCustom) refl refl refl refl refl refl refl refl refl refl refl refl refl refl refl refl refl refl refl refl refl refl refl refl refl refl refl refl refl refl refl refl refl refl refl refl
+table symbol.AfterEditedVariability = by_kind (Agrees symbol.AfterEditedVariability) refl refl refl refl refl refl refl refl refl refl refl refl refl refl refl refl refl refl refl refl refl refl refl refl refl refl refl refl refl refl refl refl refl refl refl refl
+table symbol.MaybeBrackets = by_kind (Agrees symbol.MaybeBrackets) refl refl refl refl refl refl refl refl refl refl refl refl refl refl refl refl refl refl refl refl refl refl refl refl refl refl refl refl refl refl refl refl refl refl refl refl
+table symbol.PropertyName = by_kind (Agrees symbol.PropertyName) refl refl refl refl refl refl refl refl refl refl refl refl refl refl refl refl refl refl refl refl refl refl refl refl refl refl refl refl refl refl refl refl refl refl refl refl
+table symbol.MaybeAttributeTail = by_kind (Agrees symbol.MaybeAttributeTail) refl refl refl refl refl refl refl refl refl refl refl refl refl refl refl refl refl refl refl refl refl refl refl refl refl refl refl refl refl refl refl refl refl refl refl refl
+table symbol.AfterDot = by_kind (Agrees symbol.AfterDot) refl refl refl refl refl refl refl refl refl refl refl refl refl refl refl refl refl refl refl refl refl refl refl refl refl refl refl refl refl refl refl refl refl refl refl refl
+table symbol.ConnectWord = by_kind (Agrees symbol.ConnectWord) refl refl refl refl refl refl refl refl refl refl refl refl refl refl refl refl refl refl refl refl refl refl refl refl refl refl refl refl refl refl refl refl refl refl refl refl
+table symbol.SamplesOrEnd = by_kind (Agrees symbol.SamplesOrEnd) refl refl refl refl refl refl refl refl refl refl refl refl refl refl refl refl refl refl refl refl refl refl refl refl refl refl refl refl refl refl refl refl refl refl refl refl
+table symbol.MoreSamples = by_kind (Agrees symbol.MoreSamples) refl refl refl refl refl refl refl refl refl refl refl refl refl refl refl refl refl refl refl refl refl refl refl refl refl refl refl refl refl refl refl refl refl refl refl refl
+table symbol.MaybeTargets = by_kind (Agrees symbol.MaybeTargets) refl refl refl refl refl refl refl refl refl refl refl refl refl refl refl refl refl refl refl refl refl refl refl refl refl refl refl refl refl refl refl refl refl refl refl refl
+table symbol.MaybePropertyMetadata = by_kind (Agrees symbol.MaybePropertyMetadata) refl refl refl refl refl refl refl refl refl refl refl refl refl refl refl refl refl refl refl refl refl refl refl refl refl refl refl refl refl refl refl refl refl refl refl refl
+table symbol.PropertyMetadata = by_kind (Agrees symbol.PropertyMetadata) refl refl refl refl refl refl refl refl refl refl refl refl refl refl refl refl refl refl refl refl refl refl refl refl refl refl refl refl refl refl refl refl refl refl refl refl
+table symbol.Value = by_kind (Agrees symbol.Value) refl refl refl refl refl refl refl refl refl refl refl refl refl refl refl refl refl refl refl refl refl refl refl refl refl refl refl refl refl refl refl refl refl refl refl refl
+table symbol.MembersOrEnd = by_kind (Agrees symbol.MembersOrEnd) refl refl refl refl refl refl refl refl refl refl refl refl refl refl refl refl refl refl refl refl refl refl refl refl refl refl refl refl refl refl refl refl refl refl refl refl
+table symbol.MoreMembers = by_kind (Agrees symbol.MoreMembers) refl refl refl refl refl refl refl refl refl refl refl refl refl refl refl refl refl refl refl refl refl refl refl refl refl refl refl refl refl refl refl refl refl refl refl refl
+table symbol.ElementsOrEnd = by_kind (Agrees symbol.ElementsOrEnd) refl refl refl refl refl refl refl refl refl refl refl refl refl refl refl refl refl refl refl refl refl refl refl refl refl refl refl refl refl refl refl refl refl refl refl refl
+table symbol.MoreElements = by_kind (Agrees symbol.MoreElements) refl refl refl refl refl refl refl refl refl refl refl refl refl refl refl refl refl refl refl refl refl refl refl refl refl refl refl refl refl refl refl refl refl refl refl refl
+table symbol.Dictionary = by_kind (Agrees symbol.Dictionary) refl refl refl refl refl refl refl refl refl refl refl refl refl refl refl refl refl refl refl refl refl refl refl refl refl refl refl refl refl refl refl refl refl refl refl refl
+table symbol.DictionaryEntries = by_kind (Agrees symbol.DictionaryEntries) refl refl refl refl refl refl refl refl refl refl refl refl refl refl refl refl refl refl refl refl refl refl refl refl refl refl refl refl refl refl refl refl refl refl refl refl
+table symbol.EntryKey = by_kind (Agrees symbol.EntryKey) refl refl refl refl refl refl refl refl refl refl refl refl refl refl refl refl refl refl refl refl refl refl refl refl refl refl refl refl refl refl refl refl refl refl refl refl
+table symbol.MaybeSeparator = by_kind (Agrees symbol.MaybeSeparator) refl refl refl refl refl refl refl refl refl refl refl refl refl refl refl refl refl refl refl refl refl refl refl refl refl refl refl refl refl refl refl refl refl refl refl refl
+table symbol.NameList = by_kind (Agrees symbol.NameList) refl refl refl refl refl refl refl refl refl refl refl refl refl refl refl refl refl refl refl refl refl refl refl refl refl refl refl refl refl refl refl refl refl refl refl refl
+table symbol.NamesOrEnd = by_kind (Agrees symbol.NamesOrEnd) refl refl refl refl refl refl refl refl refl refl refl refl refl refl refl refl refl refl refl refl refl refl refl refl refl refl refl refl refl refl refl refl refl refl refl refl
+table symbol.MoreNames = by_kind (Agrees symbol.MoreNames) refl refl refl refl refl refl refl refl refl refl refl refl refl refl refl refl refl refl refl refl refl refl refl refl refl refl refl refl refl refl refl refl refl refl refl refl
+
+pub absent_same : (s : Symbol) → absent (form s) ≡ may_be_absent s
+absent_same symbol.Equals = refl
+absent_same symbol.Colon = refl
+absent_same symbol.Dot = refl
+absent_same symbol.CloseParen = refl
+absent_same symbol.OpenBrace = refl
+absent_same symbol.CloseBrace = refl
+absent_same symbol.CloseBracket = refl
+absent_same symbol.RootPrims = refl
+absent_same symbol.OffsetNumber = refl
+absent_same symbol.QuotedName = refl
+absent_same symbol.MaybeSemicolon = refl
+absent_same symbol.MaybeHead = refl
+absent_same symbol.HeadItems = refl
+absent_same symbol.SubLayerList = refl
+absent_same symbol.SubLayersOrEnd = refl
+absent_same symbol.MoreSubLayers = refl
+absent_same symbol.MaybeOffsets = refl
+absent_same symbol.OffsetItems = refl
+absent_same symbol.RootStatements = refl
+absent_same symbol.MaybeTypeName = refl
+absent_same symbol.MaybePrimMetadata = refl
+absent_same symbol.PrimMetadata = refl
+absent_same symbol.EditedField = refl
+absent_same symbol.StringList = refl
+absent_same symbol.StringsOrEnd = refl
+absent_same symbol.MoreStrings = refl
+absent_same symbol.PathList = refl
+absent_same symbol.PathsOrEnd = refl
+absent_same symbol.MorePaths = refl
+absent_same symbol.ReferenceList = refl
+absent_same symbol.ReferencesOrEnd = refl
+absent_same symbol.MoreReferences = refl
+absent_same symbol.MaybePath = refl
+absent_same symbol.VariantList = refl
+absent_same symbol.PrimBody = refl
+absent_same symbol.AfterCustom = refl
+absent_same symbol.AfterVariability = refl
+absent_same symbol.AfterEdit = refl
+absent_same symbol.AfterReorder = refl
+absent_same symbol.AfterEditedCustom = refl
+absent_same symbol.AfterEditedVariability = refl
+absent_same symbol.MaybeBrackets = refl
+absent_same symbol.PropertyName = refl
+absent_same symbol.MaybeAttributeTail = refl
+absent_same symbol.AfterDot = refl
+absent_same symbol.ConnectWord = refl
+absent_same symbol.SamplesOrEnd = refl
+absent_same symbol.MoreSamples = refl
+absent_same symbol.MaybeTargets = refl
+absent_same symbol.MaybePropertyMetadata = refl
+absent_same symbol.PropertyMetadata = refl
+absent_same symbol.Value = refl
+absent_same symbol.MembersOrEnd = refl
+absent_same symbol.MoreMembers = refl
+absent_same symbol.ElementsOrEnd = refl
+absent_same symbol.MoreElements = refl
+absent_same symbol.Dictionary = refl
+absent_same symbol.DictionaryEntries = refl
+absent_same symbol.EntryKey = refl
+absent_same symbol.MaybeSeparator = refl
+absent_same symbol.NameList = refl
+absent_same symbol.NamesOrEnd = refl
+absent_same symbol.MoreNames = refl

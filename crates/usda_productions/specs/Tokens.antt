@@ -1,0 +1,73 @@
+-- Tests of a token's kind.
+use Rattle.std.specs.Prelude.{ℕ, Bool, not, ◌&&◌, ◌||◌, ◌==◌, nat_lt, List, [], ◌∷◌}
+use Rattle.usda_grammar.specs.declared.kinds.TokenKind.{TokenKind}
+use Rattle.usda_grammar.specs.declared.kinds.TokenKind.TheVariants as token
+use Rattle.usda_grammar.specs.declared.kinds.Keyword.{Keyword}
+use Rattle.usda_grammar.specs.declared.kinds.Keyword.TheVariants as word
+
+-- a number for each kind, those of words below 100
+abbrev pub word_number : Keyword → ℕ
+word_number word.Specifier = 0
+word_number word.StringField = 1
+word_number word.PathField = 2
+word_number word.ReferenceField = 3
+word_number word.Edit = 4
+word_number word.Reorder = 5
+word_number word.Variants = 6
+word_number word.VariantSet = 7
+word_number word.SubLayers = 8
+word_number word.RootPrims = 9
+word_number word.OrderedField = 10
+word_number word.Custom = 11
+word_number word.Variability = 12
+word_number word.Rel = 13
+word_number word.TimeSamples = 14
+word_number word.Connect = 15
+word_number word.Spline = 16
+word_number word.NoneWord = 17
+word_number word.Dictionary = 18
+word_number word.Other = 19
+
+abbrev pub number_of : TokenKind → ℕ
+number_of (token.Word w) = word_number w
+number_of token.Number = 100
+number_of token.Quoted = 101
+number_of token.Asset = 102
+number_of token.Path = 103
+number_of token.OpenParen = 104
+number_of token.CloseParen = 105
+number_of token.OpenBrace = 106
+number_of token.CloseBrace = 107
+number_of token.OpenBracket = 108
+number_of token.CloseBracket = 109
+number_of token.Equals = 110
+number_of token.Comma = 111
+number_of token.Semicolon = 112
+number_of token.Colon = 113
+number_of token.Dot = 114
+number_of token.Fault = 115
+
+abbrev pub is : TokenKind → TokenKind → Bool
+is j k = number_of j == number_of k
+
+abbrev pub is_name : TokenKind → Bool
+is_name k = nat_lt (number_of k) 100
+
+-- a name, but none of these words
+abbrev pub is_name_but : List Keyword → TokenKind → Bool
+is_name_but [] k = is_name k
+is_name_but (w ∷ ws) k = not (is (token.Word w) k) && is_name_but ws k
+
+abbrev pub is_edit_word : TokenKind → Bool
+is_edit_word k = is (token.Word word.Edit) k || is (token.Word word.Reorder) k
+
+-- the key of a dictionary's entry
+abbrev pub is_key : TokenKind → Bool
+is_key k = is_name k || is token.Quoted k
+
+-- a value of one token: a name is `None`, a word, or `true` or `false`
+abbrev pub is_literal : TokenKind → Bool
+is_literal k = is_name k || is token.Number k || is token.Quoted k || is token.Asset k || is token.Path k
+
+abbrev pub is_separator : TokenKind → Bool
+is_separator k = is token.Semicolon k || is token.Comma k
