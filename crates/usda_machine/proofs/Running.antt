@@ -1,16 +1,24 @@
 -- The run of the machine gives exactly what the grammar makes of a text, and its first refusal.
 use Rattle.std.proofs.Common.{◌≡◌, ◌⊎◌, inl, inr, Bool, true, false, ◌&&◌, List, [], ◌∷◌, ◌++◌, Option, Some, None, Result, Ok, Err, refl, ap, sym, subst, ◌∙◌, append_assoc}
 use Rattle.std.proofs.lemmas.List.{append-nil}
-use Rattle.usda_grammar.specs.declared.kind.TokenKind.{TokenKind}
-use Rattle.usda_grammar.specs.declared.symbol.Symbol.{Symbol}
-use Rattle.usda_grammar.specs.Grammar.{starts, may_be_absent, Derivation, ends, skips, takes, AreText}
+use Rattle.usda_grammar.specs.declared.kinds.TokenKind.{TokenKind}
+use Rattle.usda_grammar.specs.declared.symbols.Symbol.{Symbol}
+use Rattle.usda_grammar.specs.Table.{layer, starts, may_be_absent}
+use Rattle.usda_grammar.specs.Derivations.{Derivation, ends, skips, takes, AreText}
 use Rattle.usda_grammar.specs.Machine.{choose, step, left_behind, steps, is_done}
-use Rattle.usda_grammar.proofs.Clear.{may_follow, IsClear, is_good-at, clear-after}
-use Rattle.usda_grammar.proofs.Parsing.{step_sound, done_text, completed, shortest_of, refused_from, text_from}
+use Rattle.usda_grammar.proofs.Follow.{may_follow}
+use Rattle.usda_grammar.proofs.Clear.{IsClear, is_good-at, clear-after, clear-layer}
+use Rattle.usda_grammar.proofs.Parsing.{step_sound, done_text, completed, shortest_of, refused as no_text, text as of_text}
 use Rattle.usda_machine.specs.Reading.{after_act as after_act_by, after_step as after_step_by, at_end as at_end_by, run as run_by}
 use Rattle.usda_machine.specs.Texts.{Makes as MakesBy, Make as MakeBy, kinds as kinds_by, HasRead as HasReadBy, IsSyntax as IsSyntaxBy, IsRefusedAct as IsRefusedActBy, IsAtWord as IsAtWordBy, IsAtEnd as IsAtEndBy, HaveFirstRefusal as HaveFirstRefusalBy, HaveOneAnswer as HaveOneAnswerBy}
 
-module _ {Word Draft Refusal : Type 0} (kind : Word → TokenKind) (act : Symbol → Word → Draft → Result Draft Refusal) (refused_as : Option Word → Refusal) (start : List Symbol) (blank : Draft) (clear_start : IsClear start) where
+module _ {Word Draft Refusal : Type 0} (kind : Word → TokenKind) (act : Symbol → Word → Draft → Result Draft Refusal) (refused_as : Option Word → Refusal) (blank : Draft) where
+  abbrev start : List Symbol
+  start = layer
+
+  clear_start : IsClear start
+  clear_start = clear-layer
+
   abbrev after_act : Result Draft Refusal → (Draft → Result Draft Refusal) → Result Draft Refusal
   after_act = after_act_by kind act refused_as
 
@@ -30,28 +38,28 @@ module _ {Word Draft Refusal : Type 0} (kind : Word → TokenKind) (act : Symbol
   kinds = kinds_by kind act refused_as
 
   abbrev Make : List Word → Draft → Type 0
-  Make = MakeBy kind act refused_as start blank
+  Make = MakeBy kind act refused_as blank
 
   abbrev HasRead : List Word → List Symbol → Draft → Type 0
-  HasRead = HasReadBy kind act refused_as start blank
+  HasRead = HasReadBy kind act refused_as blank
 
   abbrev IsSyntax : List Word → Word → Refusal → Type 0
-  IsSyntax = IsSyntaxBy kind act refused_as start blank
+  IsSyntax = IsSyntaxBy kind act refused_as blank
 
   abbrev IsRefusedAct : List Symbol → Draft → Word → Refusal → Type 0
-  IsRefusedAct = IsRefusedActBy kind act refused_as start blank
+  IsRefusedAct = IsRefusedActBy kind act refused_as blank
 
   abbrev IsAtWord : List Word → Refusal → Type 0
-  IsAtWord = IsAtWordBy kind act refused_as start blank
+  IsAtWord = IsAtWordBy kind act refused_as blank
 
   abbrev IsAtEnd : List Word → Refusal → Type 0
-  IsAtEnd = IsAtEndBy kind act refused_as start blank
+  IsAtEnd = IsAtEndBy kind act refused_as blank
 
   abbrev HaveFirstRefusal : List Word → Refusal → Type 0
-  HaveFirstRefusal = HaveFirstRefusalBy kind act refused_as start blank
+  HaveFirstRefusal = HaveFirstRefusalBy kind act refused_as blank
 
   abbrev HaveOneAnswer : List Word → Type 0
-  HaveOneAnswer = HaveOneAnswerBy kind act refused_as start blank
+  HaveOneAnswer = HaveOneAnswerBy kind act refused_as blank
 
   -- ---- one word
 
@@ -273,7 +281,7 @@ module _ {Word Draft Refusal : Type 0} (kind : Word → TokenKind) (act : Symbol
     stack = stack;
     draft = d;
     read = here.read;
-    reason = inl (record { refusal = sym same; none = λ rest text. refused_from start clear_start (kinds front) stack (kind w) rest here.steps_to took text });
+    reason = inl (record { refusal = sym same; none = λ rest text. no_text (kinds front) stack (kind w) rest here.steps_to took text });
   }
 
   refused_end : (front : List Word) (stack : List Symbol) (d : Draft) (r : Refusal) → IsAt front stack d → is_done stack ≡ false → refused_as None ≡ r → IsAtEnd front r
@@ -282,7 +290,7 @@ module _ {Word Draft Refusal : Type 0} (kind : Word → TokenKind) (act : Symbol
     draft = d;
     read = here.read;
     refusal = sym same;
-    none = λ h. let a = text_from start clear_start (kinds front) h in let f : Some stack ≡ Some a.0 = sym here.steps_to ∙ a.1 in let g : stack ≡ a.0 = cc in absurd (let e : false ≡ true = sym done ∙ ap is_done g ∙ a.2 in cc);
+    none = λ h. let a = of_text (kinds front) h in let f : Some stack ≡ Some a.0 = sym here.steps_to ∙ a.1 in let g : stack ≡ a.0 = cc in absurd (let e : false ≡ true = sym done ∙ ap is_done g ∙ a.2 in cc);
   }
 
   refusal_from : (front : List Word) (stack : List Symbol) (d : Draft) (ws : List Word) (r : Refusal) → IsAt front stack d → run stack d ws ≡ Err r → HaveFirstRefusal (front ++ ws) r

@@ -1,8 +1,8 @@
 -- The symbols of the code, the innermost last, and those of the machine.
 use Rattle.std.proofs.Common.{◌≡◌, ◌<◌, true, false, length, arith, List, [], ◌∷◌, ◌++◌, Some, None, refl, ap, sym, ◌∙◌}
-use Rattle.usda_grammar.specs.declared.symbol.Symbol.{Symbol}
-use Rattle.usda_grammar.specs.declared.kind.TokenKind.{TokenKind}
-use Rattle.usda_grammar.specs.Grammar.{starts, may_be_absent}
+use Rattle.usda_grammar.specs.declared.symbols.Symbol.{Symbol}
+use Rattle.usda_grammar.specs.declared.kinds.TokenKind.{TokenKind}
+use Rattle.usda_grammar.specs.Table.{starts, may_be_absent}
 use Rattle.usda_grammar.specs.Machine.{step, is_done}
 use Rattle.plain_data.specs.Ends.{last, front}
 use Rattle.usda_machine.specs.Stacks.{onto, stack_of}

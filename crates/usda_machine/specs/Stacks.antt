@@ -1,7 +1,7 @@
 -- The symbols of the code, the innermost last, and those of the machine, the innermost first.
 use Rattle.std.specs.Prelude.{◌≡◌, List, [], ◌∷◌, Option, Some, None, Result, Ok, Err}
 use Rattle.std.specs.declared.alloc.AllocError.{AllocError}
-use Rattle.usda_grammar.specs.declared.symbol.Symbol.{Symbol}
+use Rattle.usda_grammar.specs.declared.symbols.Symbol.{Symbol}
 
 abbrev pub onto : List Symbol → List Symbol → List Symbol
 onto below [] = below

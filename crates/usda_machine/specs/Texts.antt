@@ -1,8 +1,9 @@
 -- What a text makes of a draft, and the first refusal of a text, in the words of the grammar: no machine stands in them.
 use Rattle.std.specs.Prelude.{◌≡◌, List, [], ◌∷◌, ◌++◌, ◌⊎◌, map, Option, Some, None, Result, Ok, Err, true}
-use Rattle.usda_grammar.specs.declared.kind.TokenKind.{TokenKind}
-use Rattle.usda_grammar.specs.declared.symbol.Symbol.{Symbol}
-use Rattle.usda_grammar.specs.Grammar.{starts, may_be_absent, Derivation, ends, skips, takes, AreText}
+use Rattle.usda_grammar.specs.declared.kinds.TokenKind.{TokenKind}
+use Rattle.usda_grammar.specs.declared.symbols.Symbol.{Symbol}
+use Rattle.usda_grammar.specs.Table.{layer, starts, may_be_absent}
+use Rattle.usda_grammar.specs.Derivations.{Derivation, ends, skips, takes, AreText}
 
 module _ {Word Draft Refusal : Type 0} (kind : Word → TokenKind) (act : Symbol → Word → Draft → Result Draft Refusal) (refused_as : Option Word → Refusal) where
   -- The words stand for these symbols up to those that are left, and each adds to the draft what it does: by this
@@ -19,21 +20,21 @@ module _ {Word Draft Refusal : Type 0} (kind : Word → TokenKind) (act : Symbol
   abbrev pub kinds : List Word → List TokenKind
   kinds ws = map kind ws
 
-  -- the symbols and the draft before the first word
-  module _ (start : List Symbol) (blank : Draft) where
+  -- the draft before the first word
+  module _ (blank : Draft) where
     -- the words are a text, which makes this draft
     abbrev pub Make : List Word → Draft → Type 0
-    Make ws out = (t : Derivation) × Makes t start blank ws [] out
+    Make ws out = (t : Derivation) × Makes t layer blank ws [] out
 
     -- a text begins with these words, and has got to these symbols and this draft
     pub record HasRead (front : List Word) (stack : List Symbol) (d : Draft) : Type 0 where
       pub by : Derivation
-      pub made : Makes by start blank front stack d
+      pub made : Makes by layer blank front stack d
 
     -- no text of the grammar goes on with the word
     pub record IsSyntax (front : List Word) (w : Word) (r : Refusal) : Type 0 where
       pub refusal : r ≡ refused_as (Some w)
-      pub none : (rest : List TokenKind) → AreText start (kinds front ++ kind w ∷ rest) → ⊥
+      pub none : (rest : List TokenKind) → AreText layer (kinds front ++ kind w ∷ rest) → ⊥
 
     -- a text goes on with the word, and what the word adds there is refused
     pub record IsRefusedAct (stack : List Symbol) (d : Draft) (w : Word) (r : Refusal) : Type 0 where
@@ -63,7 +64,7 @@ module _ {Word Draft Refusal : Type 0} (kind : Word → TokenKind) (act : Symbol
       pub draft : Draft
       pub read : HasRead ws stack draft
       pub refusal : r ≡ refused_as None
-      pub none : AreText start (kinds ws) → ⊥
+      pub none : AreText layer (kinds ws) → ⊥
 
     abbrev pub HaveFirstRefusal : List Word → Refusal → Type 0
     HaveFirstRefusal ws r = IsAtWord ws r ⊎ IsAtEnd ws r

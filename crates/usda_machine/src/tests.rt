@@ -8,12 +8,12 @@ use usda_grammar::{Keyword, Symbol, TokenKind};
 #[test]
 fn a_prim_is_taken_token_by_token(rt: HostRuntime) -> Result<(), Fail> {
     let mut stack = Items::new(rt.alloc());
-    push_all(&mut stack, &[Symbol::LayerHead, Symbol::Roots])?;
+    push_all(&mut stack, &[Symbol::MaybeHead, Symbol::RootStatements])?;
     for (kind, symbol) in [
-        (TokenKind::Word(Keyword::Specifier), Symbol::Roots),
-        (TokenKind::Quoted, Symbol::PrimName),
-        (TokenKind::OpenBrace, Symbol::BodyOpen),
-        (TokenKind::CloseBrace, Symbol::BodyClose),
+        (TokenKind::Word(Keyword::Specifier), Symbol::RootStatements),
+        (TokenKind::Quoted, Symbol::QuotedName),
+        (TokenKind::OpenBrace, Symbol::OpenBrace),
+        (TokenKind::CloseBrace, Symbol::CloseBrace),
     ] {
         assert!(rt; step(&mut stack, kind)? == Some(symbol));
     }

@@ -1,6 +1,6 @@
 use Rattle.std.proofs.Common.{◌≡◌, ℕ, suc, ◌+◌, ◌-◌, ◌<◌, List, [], ◌∷◌, ◌++◌, length, get_or, drop, ap, sym, ◌∙◌, arith}
 use Rattle.std.proofs.Math.Seq.{drop-cons}
-use Rattle.usda_grammar.specs.declared.symbol.Symbol.{Symbol}
+use Rattle.usda_grammar.specs.declared.symbols.Symbol.{Symbol}
 use Rattle.usda_machine.specs.Stacks.{stack_of}
 use Rattle.usda_machine.proofs.Symbols.{stack_of-push}
 use Rattle.usda_machine.proofs.push_all.Goals as goal
