@@ -1,0 +1,248 @@
+//! What the text of a token means.
+ghost use Rattle.std.specs.Prelude.{◌≡◌, ◌<◌, ◌≤◌, ◌*◌, ◌+◌, ◌-◌, ◌^◌, IfOk, IfSome, length, slice_index, drop, false};
+ghost use Rattle.usda_lexer.specs.Meanings.{hexadecimal, is_octal, digit_at, two_digits, octal, letter, escape, unescaped, inside, quotes_len, string_bytes_of, string_text, trimmed, asset_text, path_text, number_of};
+ghost use Rattle.usda_lexer.specs.Decimals.{decimal_of};
+
+use crate::blanks::begins;
+use crate::forms::begins_twice;
+use plain_data::Text;
+use sdf_values::{Decimal, Num};
+use std::alloc::{AllocError, Global};
+
+/// What an escape stands for, and how many bytes behind the backslash it takes.
+#[derive(Clone, Copy, Debug)]
+pub struct Escape {
+    pub byte: u8,
+    pub len: usize,
+}
+
+// The value of a hexadecimal digit.
+fn hexadecimal(c: u8) -> Option<u8>
+    ensures value { result ≡ hexadecimal c }
+    ensures small { IfSome result (λ d. d < 16) }
+{
+    match c {
+        b'0'..=b'9' => Some(c - b'0'),
+        b'a'..=b'f' => Some(c - b'a' + 10),
+        b'A'..=b'F' => Some(c - b'A' + 10),
+        _ => None,
+    }
+}
+
+fn is_octal(c: u8) -> bool
+    ensures { result ≡ is_octal c }
+{
+    b'0' <= c && c <= b'7'
+}
+
+// The value of the hexadecimal digit in front.
+fn digit_at(bytes: &[u8]) -> Option<u8>
+    ensures value { result ≡ digit_at bytes.now }
+    ensures small { IfSome result (λ d. d < 16) }
+{
+    match bytes {
+        [] => None,
+        [first, ..] => hexadecimal(*first),
+    }
+}
+
+// Behind `\x`.
+fn two_digits(bytes: &[u8]) -> Escape
+    ensures { result ≡ two_digits (digit_at bytes.now) (digit_at (drop 1 bytes.now)) }
+{
+    let itself = Escape { byte: b'x', len: 1 };
+    let Some(high) = digit_at(bytes) else {
+        return itself;
+    };
+    match digit_at(&bytes[1..]) {
+        Some(low) => Escape {
+            byte: high * 16 + low,
+            len: 3,
+        },
+        None => itself,
+    }
+}
+
+// One octal digit, and up to two more.
+fn octal(first: u8, bytes: &[u8]) -> Escape
+    requires { first < 8 }
+    ensures { result ≡ octal 1 first bytes.now }
+{
+    let mut value: usize = first as usize;
+    let mut len = 1;
+    for c in bytes {
+        if !is_octal(*c) || len > 2 {
+            break;
+        }
+        value = value * 8 + (*c - b'0') as usize;
+        len += 1;
+    }
+    Escape {
+        byte: (value % 256) as u8,
+        len,
+    }
+}
+
+// The letters that stand for control characters.
+fn letter(c: u8) -> u8
+    ensures { result ≡ letter c }
+{
+    match c {
+        b'a' => 7,
+        b'b' => 8,
+        b'f' => 12,
+        b'n' => b'\n',
+        b'r' => b'\r',
+        b't' => b'\t',
+        b'v' => 11,
+        _ => c,
+    }
+}
+
+// The escape whose backslash stands before a byte.
+fn escape_at(c: u8, rest: &[u8]) -> Escape
+    ensures { result ≡ escape c rest.now }
+{
+    if c == b'x' {
+        two_digits(rest)
+    } else if is_octal(c) {
+        octal(c - b'0', rest)
+    } else {
+        Escape {
+            byte: letter(c),
+            len: 1,
+        }
+    }
+}
+
+// The bytes that a text with escapes stands for.
+fn unescaped(alloc: Global, bytes: &[u8]) -> Result<Vec<u8>, AllocError>
+    ensures { IfOk result (λ v. v.items ≡ unescaped 0 false bytes.now) }
+{
+    let mut out = Vec::new(alloc);
+    let mut taken = 0;
+    let mut after = false;
+    for (i, c) in bytes.iter().enumerate() {
+        if taken > 0 {
+            taken -= 1;
+            after = false;
+        } else if after {
+            let escape = escape_at(*c, &bytes[i + 1..]);
+            out.push(escape.byte)?;
+            taken = escape.len - 1;
+            after = false;
+        } else if *c == b'\\' {
+            after = true;
+        } else {
+            out.push(*c)?;
+        }
+    }
+    Ok(out)
+}
+
+// How many quotes open the string.
+fn quotes_len(bytes: &[u8]) -> usize
+    ensures value { result ≡ quotes_len bytes.now }
+    ensures within { result ≤ length bytes.now }
+{
+    match bytes {
+        [] => 0,
+        [first, rest @ ..] => { if begins_twice(*first, rest) { 3 } else { 1 } }
+    }
+}
+
+// What stands between the first so many bytes and the last so many.
+fn inside(n: usize, bytes: &[u8]) -> &[u8]
+    requires { n ≤ length bytes.now }
+    ensures { result.now ≡ inside n bytes.now }
+{
+    let behind = &bytes[n..];
+    &behind[..behind.len().saturating_sub(n)]
+}
+
+/// What a string token stands for; nothing where its escapes make bytes that are not UTF-8.
+#[tactic(auto, unfolding(crate::specs::Meanings::string_text))]
+pub fn string_text(alloc: Global, text: &str) -> Result<Option<Text>, AllocError>
+    ensures { IfOk result (λ t. t ≡ string_text text.now) }
+{
+    let bytes = text.as_bytes();
+    let quotes = quotes_len(bytes);
+    let meant = unescaped(alloc, inside(quotes, bytes))?;
+    match String::from_utf8(meant) {
+        Ok(text) => Ok(Some(Text::from_string(text))),
+        Err(_) => Ok(None),
+    }
+}
+
+// The text without so many delimiters on both sides.
+fn trimmed(close: u8, n: usize, text: &str) -> &str
+    requires some { 0 < n }
+    requires ascii { close < 128 }
+    requires opens { n ≤ length text.now × slice_index text.now (n - 1) < 128 }
+    ensures { result.now ≡ trimmed close n text.now }
+{
+    let len = text.len();
+    if n <= len - n && text.as_bytes()[len - n] == close {
+        let (_, behind) = text.split_at(n);
+        let (inside, _) = behind.split_at(len - n - n);
+        inside
+    } else {
+        text
+    }
+}
+
+/// The text of an asset token, without its delimiters.
+#[tactic(auto, unfolding(crate::specs::Meanings::asset_text))]
+pub fn asset_text(text: &str) -> &str
+    ensures { result.now ≡ asset_text text.now }
+{
+    let bytes = text.as_bytes();
+    if !begins(b'@', bytes) {
+        text
+    } else if begins_twice(b'@', &bytes[1..]) {
+        trimmed(b'@', 3, text)
+    } else {
+        trimmed(b'@', 1, text)
+    }
+}
+
+/// The text of a path token, without its brackets.
+#[tactic(auto, unfolding(crate::specs::Meanings::path_text))]
+pub fn path_text(text: &str) -> &str
+    ensures { result.now ≡ path_text text.now }
+{
+    if begins(b'<', text.as_bytes()) {
+        trimmed(b'>', 1, text)
+    } else {
+        text
+    }
+}
+
+/// The number of a number token; nothing for another text, or where the number is too long to be kept.
+#[tactic(auto, unfolding(crate::specs::Meanings::number_of))]
+pub fn number_of(text: &str) -> Option<Num>
+    ensures { result ≡ number_of text.now }
+{
+    if text == "inf" {
+        Some(Num::Inf)
+    } else if text == "-inf" {
+        Some(Num::NegInf)
+    } else if text == "nan" || text == "-nan" {
+        Some(Num::Nan)
+    } else {
+        match decimal_of(text) {
+            Some(decimal) => Some(Num::Finite(decimal)),
+            None => None,
+        }
+    }
+}
+
+/// The decimal that a number's text writes with digits; nothing where it writes none.
+pub fn decimal_of(text: &str) -> Option<Decimal>
+    ensures { result ≡ decimal_of text.now }
+{
+    match Decimal::parse(text) {
+        Ok(decimal) => Some(decimal),
+        Err(_) => None,
+    }
+}

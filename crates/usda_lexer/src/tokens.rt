@@ -1,0 +1,172 @@
+//! The tokens of a source, one after the other.
+ghost use Rattle.std.specs.Prelude.{◌≡◌, ◌∷◌, [], ◌≢◌, ◌<◌, ◌≤◌, ◌+◌, ◌-◌, IfOk, OnOk, IfSome, take, drop, length, Some, None, Ok, Err};
+ghost use Rattle.std.specs.Str.{IsCharBoundary, IsUtf8};
+ghost use Rattle.usda_lexer.specs.Forms.{number_len};
+ghost use Rattle.usda_lexer.specs.Words.{found, name_kind, begins_number_word, quoted_or_mark, minus_or_mark, number_or_mark, next_word, word_of, left, AnswersNew, AnswersNext, AnswersPeek, StandsIn};
+
+use crate::blanks::gap_len;
+use crate::escapes::decimal_of;
+use crate::forms::{asset_len, closed_line, number_len, string_len};
+use crate::name::name_len;
+use crate::token::{LexFault, Token, TokenKind, mark_of};
+use std::marker::Model;
+
+// A token that is no name and no number: `at` is its place, `first` its first byte and `rest` what stands behind that.
+fn quoted_or_mark(at: usize, first: u8, rest: &[u8]) -> Result<(TokenKind, usize), LexFault>
+    ensures { result ≡ quoted_or_mark at first rest.now }
+{
+    let (kind, len) = match first {
+        b'"' | b'\'' => (TokenKind::String, string_len(first, rest)),
+        b'@' => (TokenKind::Asset, asset_len(rest)),
+        b'<' => (TokenKind::Path, closed_line(b'>', rest)),
+        _ => {
+            return match mark_of(first) {
+                Some(mark) => Ok((TokenKind::Mark(mark), 1)),
+                None => Err(LexFault::BadByte { at }),
+            };
+        }
+    };
+    match len {
+        Some(len) => Ok((kind, len)),
+        None => Err(LexFault::Unclosed { at }),
+    }
+}
+
+fn name_kind(text: &str) -> TokenKind
+    ensures { result ≡ name_kind text.now }
+{
+    if text == "inf" || text == "nan" {
+        TokenKind::Number
+    } else {
+        TokenKind::Name
+    }
+}
+
+// Whether the name in front is `inf` or `nan`.
+fn begins_number_word(text: &str) -> bool
+    ensures { result ≡ begins_number_word text.now }
+{
+    let (name, _) = text.split_at(name_len(text));
+    name == "inf" || name == "nan"
+}
+
+// A token that is no name and no number written with digits.
+fn minus_or_mark(at: usize, text: &str) -> Result<(TokenKind, usize), LexFault>
+    ensures { result ≡ minus_or_mark at text.now }
+{
+    let Some((first, rest)) = text.as_bytes().split_first() else {
+        return Err(LexFault::BadByte { at });
+    };
+    if *first == b'-' {
+        let (_, word) = text.split_at(1);
+        if begins_number_word(word) {
+            return Ok((TokenKind::Number, 4));
+        }
+    }
+    quoted_or_mark(at, *first, rest)
+}
+
+// A number, or another token that is no name.
+fn number_or_mark(at: usize, text: &str) -> Result<(TokenKind, usize), LexFault>
+    ensures { result ≡ number_or_mark at (number_len text.now) text.now }
+{
+    let len = number_len(text.as_bytes());
+    if len == 0 {
+        return minus_or_mark(at, text);
+    }
+    let (number, _) = text.split_at(len);
+    match decimal_of(number) {
+        Some(_) => Ok((TokenKind::Number, len)),
+        None => Err(LexFault::NumberTooLong { at }),
+    }
+}
+
+// The kind and the length of the token with which the text begins.
+fn found(at: usize, text: &str) -> Result<(TokenKind, usize), LexFault>
+    ensures { result ≡ found at text.now }
+{
+    let len = name_len(text);
+    if len == 0 {
+        return number_or_mark(at, text);
+    }
+    let (name, _) = text.split_at(len);
+    Ok((name_kind(name), len))
+}
+
+/// The tokens of a source, one after the other.
+///
+/// A source is any bytes that are UTF-8. Its first line is as any other: `#usda 1.0` is a comment.
+#[derive(Debug, Drop)]
+pub struct Tokens<'s> {
+    source: &'s str,
+    at: usize,
+}
+
+impl<'s> Model for Tokens<'s> {
+    ghost use Rattle.std.specs.Str.{IsCharBoundary};
+    ghost use Rattle.usda_lexer.specs.Words.{Lexer};
+
+    ghost Value = { Lexer };
+
+    ghost view = { λ t. record { source = t.source.now; at = t.at } };
+
+    ghost invariant = { λ t. IsCharBoundary t.source.now t.at };
+}
+
+impl<'s> Tokens<'s> {
+    /// The tokens of a source, none of which is taken yet.
+    pub fn new(source: &'s [u8]) -> Result<Tokens<'s>, LexFault>
+        ensures { AnswersNew result source.now }
+    {
+        match str::from_utf8(source) {
+            Ok(source) => Ok(Tokens { source, at: 0 }),
+            Err(fault) => Err(LexFault::NotUtf8 {
+                at: fault.valid_up_to(),
+            }),
+        }
+    }
+
+    /// The next token, which stays; nothing where only blanks and comments are left.
+    pub fn peek(&self) -> Result<Option<Token<'s>>, LexFault>
+        ensures answer { AnswersPeek result (left self.now) }
+        ensures place { StandsIn result self.now }
+    {
+        self.look()
+    }
+
+    /// Takes the next token; nothing where only blanks and comments are left. After a fault nothing is taken, so that each
+    /// later call answers it again.
+    pub fn next(&mut self) -> Result<Option<Token<'s>>, LexFault>
+        ensures answer { AnswersNext result self.old self.new }
+        ensures place { StandsIn result self.old }
+    {
+        let found = self.look();
+        if let Ok(Some(token)) = found {
+            self.at = token.end;
+        }
+        found
+    }
+
+    // The next token.
+    fn look(&self) -> Result<Option<Token<'s>>, LexFault> {
+        let (_, left) = self.source.split_at(self.at);
+        let start = match gap_len(left) {
+            Ok(gap) => self.at + gap,
+            Err(gap) => {
+                return Err(LexFault::Unclosed { at: self.at + gap });
+            }
+        };
+        let (_, text) = self.source.split_at(start);
+        if text.is_empty() {
+            return Ok(None);
+        }
+        let (kind, len) = found(start, text)?;
+        let (text, _) = text.split_at(len);
+        Ok(Some(Token {
+            kind,
+            text,
+            start,
+            end: start + len,
+        }))
+    }
+}
