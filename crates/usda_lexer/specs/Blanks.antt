@@ -3,7 +3,7 @@
 use Rattle.std.specs.Prelude.{◌≡◌, ℕ, ◌+◌, Bool, true, false, ◌&&◌, ◌||◌, ◌==◌, if◌then◌else◌, List, [], ◌∷◌, ◌++◌, Option, Some, None, Result, Ok, Err}
 use Rattle.std.specs.List.{list_all}
 use Rattle.usda_lexer.specs.declared.blanks.Between.{Between}
-use Rattle.usda_lexer.specs.declared.blanks.Between.TheVariants.{Blank, Line, Opening, Block, Closing}
+use Rattle.usda_lexer.specs.declared.blanks.Between.TheVariants.{Blank, Slash, Line, Opening, Block, Closing}
 
 -- a space, a tab, a carriage return or a line feed
 abbrev pub is_blank : ℕ → Bool
@@ -18,13 +18,15 @@ begins c (d ∷ ds) = d == c
 abbrev pub between_from : ℕ → List ℕ → Option Between
 between_from c cs =
     if is_blank c then Some Blank
-    else if (c == 35) || (c == 47 && begins 47 cs) then Some Line
+    else if c == 35 then Some Line
+    else if c == 47 && begins 47 cs then Some Slash
     else if c == 47 && begins 42 cs then Some Opening
     else None
 
 -- where a byte leads, of what stands behind it; `None` where it begins a token
 abbrev pub between_after : Between → ℕ → List ℕ → Option Between
 between_after Blank c cs = between_from c cs
+between_after Slash c cs = Some Line
 between_after Line c cs = Some (if c == 10 then Blank else Line)
 between_after Opening c cs = Some Block
 between_after Block c cs = Some (if c == 42 && begins 47 cs then Closing else Block)
@@ -38,6 +40,7 @@ opened_at state opened n = opened
 -- the end of the text, n bytes on
 abbrev pub ended_between : Between → ℕ → ℕ → Result ℕ ℕ
 ended_between Blank opened n = Ok n
+ended_between Slash opened n = Ok n
 ended_between Line opened n = Ok n
 ended_between state opened n = Err opened
 

@@ -1,5 +1,5 @@
 -- How far each token goes that is no name.
-use Rattle.std.specs.Prelude.{ℕ, ◌+◌, Bool, true, false, ◌&&◌, ◌||◌, ◌==◌, if◌then◌else◌, List, [], ◌∷◌, drop, Option, Some, None}
+use Rattle.std.specs.Prelude.{ℕ, ◌<◌, ◌≤◌, ◌+◌, ◌-◌, Bool, true, false, ◌&&◌, ◌||◌, ◌==◌, if◌then◌else◌, List, [], ◌∷◌, drop, length, slice_index, Option, Some, None}
 use Rattle.std.specs.List.{prefix_len}
 use Rattle.sdf_values.specs.NumberTexts.{is_digit, is_sign, is_mark}
 use Rattle.usda_lexer.specs.Blanks.{begins}
@@ -95,3 +95,9 @@ string_len quote cs = if begins_twice quote cs then closed_tripled quote false 0
 -- how long an asset is whose first `@` stands before; three of them always open the second form
 abbrev pub asset_len : List ℕ → Option ℕ
 asset_len cs = if begins_twice 64 cs then closed_asset 0 3 (drop 2 cs) else closed_line 64 1 cs
+
+-- a token of n bytes, of which so many stand before these: its last byte is one of these, and ASCII
+pub record EndsIn (before : ℕ) (bytes : List ℕ) (n : ℕ) : Type 0 where
+  pub some : before < n
+  pub inside : n ≤ before + length bytes
+  pub ascii : slice_index bytes (n - before - 1) < 128

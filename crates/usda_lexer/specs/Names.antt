@@ -10,7 +10,7 @@ abbrev pub name_end : Bool → ℕ → ℕ → List ℕ → ℕ
 name_end begun end n [] = end
 name_end begun end n (c ∷ cs) =
     elim (begun && c == 58) [
-      | true ↦ name_end false end (n + 1) cs
+      | true ↦ name_end false end (n + len_utf8 c) cs
       | false ↦ elim (goes_on begun c) [ true ↦ name_end true (n + len_utf8 c) (n + len_utf8 c) cs | false ↦ end ]
     ]
 

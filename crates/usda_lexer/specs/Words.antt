@@ -139,6 +139,12 @@ abbrev pub AnswersNew : Result Lexer LexFault → List ℕ → Type 0
 AnswersNew (Ok t) source = (is_utf8 source ≡ true) × (t ≡ record { source = source; at = 0 })
 AnswersNew (Err e) source = (is_utf8 source ≡ false) × (e ≡ NotUtf8 (utf8_valid_len source))
 
+-- what the code finds next is this
+abbrev pub Finds : Result (Option Token) LexFault → Result (Option Word) LexFault → Type 0
+Finds (Ok (Some t)) r = r ≡ Ok (Some (word_of t))
+Finds (Ok None) r = r ≡ Ok None
+Finds (Err e) r = r ≡ Err e
+
 -- what `peek` answers: the first of the tokens that are left, or the fault in its place
 abbrev pub AnswersPeek : Result (Option Token) LexFault → Lexing → Type 0
 AnswersPeek (Ok (Some t)) l = (ws : List Word) × (l.words ≡ word_of t ∷ ws)

@@ -1,7 +1,7 @@
 //! Blanks and comments.
-ghost use Rattle.std.specs.Prelude.{◌≡◌, ◌≤◌, IfOk, IfErr, ◌<◌, length};
+ghost use Rattle.std.specs.Prelude.{◌≡◌, IfOk};
 ghost use Rattle.std.specs.Str.{IsCharBoundary};
-ghost use Rattle.usda_lexer.specs.Blanks.{is_blank, begins, between_from, between_after, ended_between, gap};
+ghost use Rattle.usda_lexer.specs.Blanks.{is_blank, begins, between_from, between_after, opened_at, ended_between, gap};
 ghost use Rattle.usda_lexer.specs.declared.blanks.Between.TheVariants.{Blank};
 
 /// Where a reader of blanks and comments stands.
@@ -9,6 +9,8 @@ ghost use Rattle.usda_lexer.specs.declared.blanks.Between.TheVariants.{Blank};
 pub enum Between {
     /// In no comment.
     Blank,
+    /// Between the two bytes of a `//`.
+    Slash,
     /// In a comment that its line ends.
     Line,
     /// Between the two bytes of a `/*`.
@@ -42,8 +44,10 @@ fn between_from(c: u8, rest: &[u8]) -> Option<Between>
 {
     if is_blank(c) {
         Some(Between::Blank)
-    } else if c == b'#' || (c == b'/' && begins(b'/', rest)) {
+    } else if c == b'#' {
         Some(Between::Line)
+    } else if c == b'/' && begins(b'/', rest) {
+        Some(Between::Slash)
     } else if c == b'/' && begins(b'*', rest) {
         Some(Between::Opening)
     } else {
@@ -56,6 +60,7 @@ fn between_after(state: Between, c: u8, rest: &[u8]) -> Option<Between>
 {
     match state {
         Between::Blank => between_from(c, rest),
+        Between::Slash => Some(Between::Line),
         Between::Line => Some(if c == b'\n' {
             Between::Blank
         } else {
@@ -71,11 +76,21 @@ fn between_after(state: Between, c: u8, rest: &[u8]) -> Option<Between>
     }
 }
 
+// Where the comment begins that is open.
+fn opened_at(state: Between, opened: usize, len: usize) -> usize
+    ensures { result ≡ opened_at state opened len }
+{
+    match state {
+        Between::Opening => len,
+        _ => opened,
+    }
+}
+
 fn ended_between(state: Between, opened: usize, len: usize) -> Result<usize, usize>
     ensures { result ≡ ended_between state opened len }
 {
     match state {
-        Between::Blank | Between::Line => Ok(len),
+        Between::Blank | Between::Slash | Between::Line => Ok(len),
         _ => Err(opened),
     }
 }
@@ -85,7 +100,6 @@ fn ended_between(state: Between, opened: usize, len: usize) -> Result<usize, usi
 pub fn gap_len(text: &str) -> Result<usize, usize>
     ensures value { result ≡ gap Blank 0 0 text.now }
     ensures boundary { IfOk result (λ n. IsCharBoundary text.now n) }
-    ensures inside { IfErr result (λ n. n < length text.now) }
 {
     let bytes = text.as_bytes();
     let mut state = Between::Blank;
@@ -94,9 +108,7 @@ pub fn gap_len(text: &str) -> Result<usize, usize>
         let Some(next) = between_after(state, *c, &bytes[i + 1..]) else {
             return Ok(i);
         };
-        if next == Between::Opening {
-            opened = i;
-        }
+        opened = opened_at(next, opened, i);
         state = next;
     }
     ended_between(state, opened, bytes.len())

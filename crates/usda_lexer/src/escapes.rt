@@ -1,5 +1,6 @@
 //! What the text of a token means.
-ghost use Rattle.std.specs.Prelude.{◌≡◌, ◌<◌, ◌≤◌, ◌*◌, ◌+◌, ◌-◌, ◌^◌, IfOk, IfSome, length, slice_index, drop, false};
+ghost use Rattle.std.specs.Prelude.{◌≡◌, ◌<◌, ◌≤◌, ◌*◌, ◌+◌, ◌-◌, ◌^◌, ◌∷◌, ◌++◌, IfOk, IfSome, OnOk, length, slice_index, drop, false};
+ghost use Rattle.std.specs.Option.{option_to_list};
 ghost use Rattle.usda_lexer.specs.Meanings.{hexadecimal, is_octal, digit_at, two_digits, octal, letter, escape, unescaped, inside, quotes_len, string_bytes_of, string_text, trimmed, asset_text, path_text, number_of};
 ghost use Rattle.usda_lexer.specs.Decimals.{decimal_of};
 
@@ -48,7 +49,8 @@ fn digit_at(bytes: &[u8]) -> Option<u8>
 
 // Behind `\x`.
 fn two_digits(bytes: &[u8]) -> Escape
-    ensures { result ≡ two_digits (digit_at bytes.now) (digit_at (drop 1 bytes.now)) }
+    ensures value { result ≡ two_digits (digit_at bytes.now) (digit_at (drop 1 bytes.now)) }
+    ensures some { 0 < result.len }
 {
     let itself = Escape { byte: b'x', len: 1 };
     let Some(high) = digit_at(bytes) else {
@@ -66,7 +68,8 @@ fn two_digits(bytes: &[u8]) -> Escape
 // One octal digit, and up to two more.
 fn octal(first: u8, bytes: &[u8]) -> Escape
     requires { first < 8 }
-    ensures { result ≡ octal 1 first bytes.now }
+    ensures value { result ≡ octal 1 first bytes.now }
+    ensures some { 0 < result.len }
 {
     let mut value: usize = first as usize;
     let mut len = 1;
@@ -101,7 +104,8 @@ fn letter(c: u8) -> u8
 
 // The escape whose backslash stands before a byte.
 fn escape_at(c: u8, rest: &[u8]) -> Escape
-    ensures { result ≡ escape c rest.now }
+    ensures value { result ≡ escape c rest.now }
+    ensures some { 0 < result.len }
 {
     if c == b'x' {
         two_digits(rest)
@@ -115,6 +119,56 @@ fn escape_at(c: u8, rest: &[u8]) -> Escape
     }
 }
 
+/// What one byte of a text with escapes adds, and where it leads.
+#[derive(Clone, Copy, Debug)]
+pub struct Decoded {
+    pub byte: Option<u8>,
+    pub taken: usize,
+    pub after: bool,
+}
+
+// What a byte adds before these bytes, where `taken` more belong to an escape, or a backslash stands before.
+#[tactic(auto, using(crate::proofs::Backslashes::unescaped_taken))]
+fn decode(taken: usize, after: bool, c: u8, rest: &[u8]) -> Decoded
+    ensures { unescaped taken after (c ∷ rest.now) ≡ option_to_list result.byte ++ unescaped result.taken result.after rest.now }
+{
+    if taken > 0 {
+        Decoded {
+            byte: None,
+            taken: taken - 1,
+            after: false,
+        }
+    } else if after {
+        let escape = escape_at(c, rest);
+        Decoded {
+            byte: Some(escape.byte),
+            taken: escape.len - 1,
+            after: false,
+        }
+    } else if c == b'\\' {
+        Decoded {
+            byte: None,
+            taken: 0,
+            after: true,
+        }
+    } else {
+        Decoded {
+            byte: Some(c),
+            taken: 0,
+            after: false,
+        }
+    }
+}
+
+fn push_some(out: &mut Vec<u8>, byte: Option<u8>) -> Result<(), AllocError>
+    ensures { OnOk result (out.new.items ≡ out.old.items ++ option_to_list byte) }
+{
+    if let Some(byte) = byte {
+        out.push(byte)?;
+    }
+    Ok(())
+}
+
 // The bytes that a text with escapes stands for.
 fn unescaped(alloc: Global, bytes: &[u8]) -> Result<Vec<u8>, AllocError>
     ensures { IfOk result (λ v. v.items ≡ unescaped 0 false bytes.now) }
@@ -123,19 +177,10 @@ fn unescaped(alloc: Global, bytes: &[u8]) -> Result<Vec<u8>, AllocError>
     let mut taken = 0;
     let mut after = false;
     for (i, c) in bytes.iter().enumerate() {
-        if taken > 0 {
-            taken -= 1;
-            after = false;
-        } else if after {
-            let escape = escape_at(*c, &bytes[i + 1..]);
-            out.push(escape.byte)?;
-            taken = escape.len - 1;
-            after = false;
-        } else if *c == b'\\' {
-            after = true;
-        } else {
-            out.push(*c)?;
-        }
+        let next = decode(taken, after, *c, &bytes[i + 1..]);
+        push_some(&mut out, next.byte)?;
+        taken = next.taken;
+        after = next.after;
     }
     Ok(out)
 }

@@ -1,7 +1,7 @@
 //! How far numbers, strings, assets and paths go.
 ghost use Rattle.std.specs.Prelude.{◌≡◌, ◌<◌, ◌≤◌, ◌+◌, ◌-◌, ◌^◌, IfSome, length, slice_index, drop, false};
 ghost use Rattle.sdf_values.specs.NumberTexts.{is_digit, is_sign, is_mark};
-ghost use Rattle.usda_lexer.specs.Forms.{digits_len, sign_len, with_digits, exponent_len, pointed_len, mantissa_len, scaled_len, behind_sign_len, number_len, closed_line, closed_string, closed_tripled, more_ats, closed_asset, begins_twice, string_len, asset_len};
+ghost use Rattle.usda_lexer.specs.Forms.{digits_len, sign_len, with_digits, exponent_len, pointed_len, mantissa_len, scaled_len, behind_sign_len, number_len, closed_line, closed_string, closed_tripled, more_ats, closed_asset, begins_twice, string_len, asset_len, EndsIn};
 
 use crate::blanks::begins;
 
@@ -27,6 +27,7 @@ fn is_mark(c: u8) -> bool
 fn digits_len(bytes: &[u8]) -> usize
     ensures value { result ≡ digits_len bytes.now }
     ensures within { result ≤ length bytes.now }
+    ensures ends { 0 < result → EndsIn 0 bytes.now result }
 {
     for (i, c) in bytes.iter().enumerate() {
         if !is_digit(*c) {
@@ -41,6 +42,7 @@ fn sign_len(bytes: &[u8]) -> usize
     ensures value { result ≡ sign_len bytes.now }
     ensures within { result ≤ length bytes.now }
     ensures one { result ≤ 1 }
+    ensures ends { 0 < result → EndsIn 0 bytes.now result }
 {
     match bytes {
         [] => 0,
@@ -53,6 +55,7 @@ fn with_digits(before: usize, bytes: &[u8]) -> usize
     requires { before ≤ 2 }
     ensures value { result ≡ with_digits before bytes.now }
     ensures within { result ≤ before + length bytes.now }
+    ensures ends { 0 < result → EndsIn before bytes.now result }
 {
     let len = digits_len(bytes);
     if len == 0 { 0 } else { before + len }
@@ -62,6 +65,7 @@ fn with_digits(before: usize, bytes: &[u8]) -> usize
 fn exponent_len(bytes: &[u8]) -> usize
     ensures value { result ≡ exponent_len bytes.now }
     ensures within { result ≤ length bytes.now }
+    ensures ends { 0 < result → EndsIn 0 bytes.now result }
 {
     match bytes {
         [] => 0,
@@ -81,6 +85,8 @@ fn pointed_len(whole: usize, bytes: &[u8]) -> usize
     requires { whole + length bytes.now < 2 ^ 64 }
     ensures value { result ≡ pointed_len whole bytes.now }
     ensures within { result ≤ whole + length bytes.now }
+    ensures least { whole ≤ result }
+    ensures ends { whole < result → EndsIn whole bytes.now result }
 {
     match bytes {
         [] => whole,
@@ -99,6 +105,7 @@ fn pointed_len(whole: usize, bytes: &[u8]) -> usize
 fn mantissa_len(bytes: &[u8]) -> usize
     ensures value { result ≡ mantissa_len bytes.now }
     ensures within { result ≤ length bytes.now }
+    ensures ends { 0 < result → EndsIn 0 bytes.now result }
 {
     let whole = digits_len(bytes);
     pointed_len(whole, &bytes[whole..])
@@ -108,6 +115,7 @@ fn mantissa_len(bytes: &[u8]) -> usize
 pub fn number_len(bytes: &[u8]) -> usize
     ensures value { result ≡ number_len bytes.now }
     ensures within { result ≤ length bytes.now }
+    ensures ends { 0 < result → EndsIn 0 bytes.now result }
 {
     let sign = sign_len(bytes);
     let rest = &bytes[sign..];
@@ -121,7 +129,9 @@ pub fn number_len(bytes: &[u8]) -> usize
 
 /// The rest of a token of which one byte stands before: its length up to the first such byte on the same line.
 pub fn closed_line(close: u8, bytes: &[u8]) -> Option<usize>
-    ensures { result ≡ closed_line close 1 bytes.now }
+    requires { close < 128 }
+    ensures value { result ≡ closed_line close 1 bytes.now }
+    ensures ends { IfSome result (λ n. EndsIn 1 bytes.now n) }
 {
     for (i, c) in bytes.iter().enumerate() {
         if *c == close {
@@ -136,7 +146,9 @@ pub fn closed_line(close: u8, bytes: &[u8]) -> Option<usize>
 
 // The rest of a string on one line.
 fn closed_string(quote: u8, bytes: &[u8]) -> Option<usize>
-    ensures { result ≡ closed_string quote false 1 bytes.now }
+    requires { quote < 128 }
+    ensures value { result ≡ closed_string quote false 1 bytes.now }
+    ensures ends { IfSome result (λ n. EndsIn 1 bytes.now n) }
 {
     let mut escaped = false;
     for (i, c) in bytes.iter().enumerate() {
@@ -156,10 +168,12 @@ fn closed_string(quote: u8, bytes: &[u8]) -> Option<usize>
 
 // The rest of a string over lines, behind its three quotes.
 fn closed_tripled(quote: u8, bytes: &[u8]) -> Option<usize>
-    ensures { result ≡ closed_tripled quote false 0 3 bytes.now }
+    requires { quote < 128 }
+    ensures value { result ≡ closed_tripled quote false 0 3 bytes.now }
+    ensures ends { IfSome result (λ n. EndsIn 3 bytes.now n) }
 {
     let mut escaped = false;
-    let mut run = 0;
+    let mut run: usize = 0;
     for (i, c) in bytes.iter().enumerate() {
         if escaped {
             escaped = false;
@@ -179,7 +193,8 @@ fn closed_tripled(quote: u8, bytes: &[u8]) -> Option<usize>
 
 // How many `@` stand in front, two at most.
 fn more_ats(bytes: &[u8]) -> usize
-    ensures { result ≡ more_ats bytes.now }
+    ensures value { result ≡ more_ats bytes.now }
+    ensures ends { 0 < result → EndsIn 0 bytes.now result }
 {
     match bytes {
         [] => 0,
@@ -195,9 +210,10 @@ fn more_ats(bytes: &[u8]) -> usize
 
 // The rest of an asset of the second form, behind its three `@`.
 fn closed_asset(bytes: &[u8]) -> Option<usize>
-    ensures { result ≡ closed_asset 0 3 bytes.now }
+    ensures value { result ≡ closed_asset 0 3 bytes.now }
+    ensures ends { IfSome result (λ n. EndsIn 3 bytes.now n) }
 {
-    let mut run = 0;
+    let mut run: usize = 0;
     for (i, c) in bytes.iter().enumerate() {
         if *c == b'@' {
             if run == 2 {
@@ -223,7 +239,9 @@ pub fn begins_twice(c: u8, bytes: &[u8]) -> bool
 
 /// The length of a string whose first quote stands before these bytes; nothing where it has no end.
 pub fn string_len(quote: u8, bytes: &[u8]) -> Option<usize>
-    ensures { result ≡ string_len quote bytes.now }
+    requires { quote < 128 }
+    ensures value { result ≡ string_len quote bytes.now }
+    ensures ends { IfSome result (λ n. EndsIn 1 bytes.now n) }
 {
     if begins_twice(quote, bytes) {
         closed_tripled(quote, &bytes[2..])
@@ -234,7 +252,8 @@ pub fn string_len(quote: u8, bytes: &[u8]) -> Option<usize>
 
 /// The length of an asset whose first `@` stands before these bytes; nothing where it has no end.
 pub fn asset_len(bytes: &[u8]) -> Option<usize>
-    ensures { result ≡ asset_len bytes.now }
+    ensures value { result ≡ asset_len bytes.now }
+    ensures ends { IfSome result (λ n. EndsIn 1 bytes.now n) }
 {
     if begins_twice(b'@', bytes) {
         closed_asset(&bytes[2..])

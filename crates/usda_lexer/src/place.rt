@@ -33,7 +33,8 @@ pub fn place_of(source: &[u8], at: usize) -> Place
     ensures { result ≡ place_of source.now at }
 {
     let mut place = Place { line: 1, column: 1 };
-    for (i, c) in source[..at.min(source.len())].iter().enumerate() {
+    let front = &source[..at.min(source.len())];
+    for (i, c) in front.iter().enumerate() {
         place = behind(place, *c);
     }
     place

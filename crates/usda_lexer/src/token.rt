@@ -1,5 +1,5 @@
 //! What a token is.
-ghost use Rattle.std.specs.Prelude.{◌≡◌};
+ghost use Rattle.std.specs.Prelude.{◌≡◌, ◌<◌, OnSome};
 ghost use Rattle.usda_lexer.specs.Words.{mark_of};
 
 /// A mark of one byte.
@@ -63,7 +63,8 @@ pub enum LexFault {
 
 /// The mark that a byte is.
 pub fn mark_of(c: u8) -> Option<Mark>
-    ensures { result ≡ mark_of c }
+    ensures value { result ≡ mark_of c }
+    ensures ascii { OnSome result (c < 128) }
 {
     Some(match c {
         b'(' => Mark::OpenParen,

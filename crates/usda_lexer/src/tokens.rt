@@ -1,8 +1,8 @@
 //! The tokens of a source, one after the other.
-ghost use Rattle.std.specs.Prelude.{◌≡◌, ◌∷◌, [], ◌≢◌, ◌<◌, ◌≤◌, ◌+◌, ◌-◌, IfOk, OnOk, IfSome, take, drop, length, Some, None, Ok, Err};
+ghost use Rattle.std.specs.Prelude.{◌≡◌, ◌∷◌, [], ◌≢◌, ◌<◌, ◌≤◌, ◌+◌, ◌-◌, IfOk, IfSome, IsTrue, take, drop, length, Some, None, Ok, Err};
 ghost use Rattle.std.specs.Str.{IsCharBoundary, IsUtf8};
-ghost use Rattle.usda_lexer.specs.Forms.{number_len};
-ghost use Rattle.usda_lexer.specs.Words.{found, name_kind, begins_number_word, quoted_or_mark, minus_or_mark, number_or_mark, next_word, word_of, left, AnswersNew, AnswersNext, AnswersPeek, StandsIn};
+ghost use Rattle.usda_lexer.specs.Forms.{number_len, EndsIn};
+ghost use Rattle.usda_lexer.specs.Words.{found, name_kind, begins_number_word, quoted_or_mark, minus_or_mark, number_or_mark, next_word, word_of, left, AnswersNew, AnswersNext, AnswersPeek, Finds, StandsIn};
 
 use crate::blanks::gap_len;
 use crate::escapes::decimal_of;
@@ -13,7 +13,8 @@ use std::marker::Model;
 
 // A token that is no name and no number: `at` is its place, `first` its first byte and `rest` what stands behind that.
 fn quoted_or_mark(at: usize, first: u8, rest: &[u8]) -> Result<(TokenKind, usize), LexFault>
-    ensures { result ≡ quoted_or_mark at first rest.now }
+    ensures value { result ≡ quoted_or_mark at first rest.now }
+    ensures ends { IfOk result (λ f. EndsIn 0 (first ∷ rest.now) f.1) }
 {
     let (kind, len) = match first {
         b'"' | b'\'' => (TokenKind::String, string_len(first, rest)),
@@ -44,7 +45,8 @@ fn name_kind(text: &str) -> TokenKind
 
 // Whether the name in front is `inf` or `nan`.
 fn begins_number_word(text: &str) -> bool
-    ensures { result ≡ begins_number_word text.now }
+    ensures value { result ≡ begins_number_word text.now }
+    ensures three { IsTrue result → IsCharBoundary text.now 3 }
 {
     let (name, _) = text.split_at(name_len(text));
     name == "inf" || name == "nan"
@@ -52,7 +54,8 @@ fn begins_number_word(text: &str) -> bool
 
 // A token that is no name and no number written with digits.
 fn minus_or_mark(at: usize, text: &str) -> Result<(TokenKind, usize), LexFault>
-    ensures { result ≡ minus_or_mark at text.now }
+    ensures value { result ≡ minus_or_mark at text.now }
+    ensures boundary { IfOk result (λ f. (0 < f.1) × IsCharBoundary text.now f.1) }
 {
     let Some((first, rest)) = text.as_bytes().split_first() else {
         return Err(LexFault::BadByte { at });
@@ -68,7 +71,8 @@ fn minus_or_mark(at: usize, text: &str) -> Result<(TokenKind, usize), LexFault>
 
 // A number, or another token that is no name.
 fn number_or_mark(at: usize, text: &str) -> Result<(TokenKind, usize), LexFault>
-    ensures { result ≡ number_or_mark at (number_len text.now) text.now }
+    ensures value { result ≡ number_or_mark at (number_len text.now) text.now }
+    ensures boundary { IfOk result (λ f. (0 < f.1) × IsCharBoundary text.now f.1) }
 {
     let len = number_len(text.as_bytes());
     if len == 0 {
@@ -82,8 +86,10 @@ fn number_or_mark(at: usize, text: &str) -> Result<(TokenKind, usize), LexFault>
 }
 
 // The kind and the length of the token with which the text begins.
+#[tactic(auto, unfolding(crate::specs::Words::found))]
 fn found(at: usize, text: &str) -> Result<(TokenKind, usize), LexFault>
-    ensures { result ≡ found at text.now }
+    ensures value { result ≡ found at text.now }
+    ensures boundary { IfOk result (λ f. (0 < f.1) × IsCharBoundary text.now f.1) }
 {
     let len = name_len(text);
     if len == 0 {
@@ -148,7 +154,11 @@ impl<'s> Tokens<'s> {
     }
 
     // The next token.
-    fn look(&self) -> Result<Option<Token<'s>>, LexFault> {
+    fn look(&self) -> Result<Option<Token<'s>>, LexFault>
+        ensures value { Finds result (next_word self.now.at (drop self.now.at self.now.source)) }
+        ensures place { StandsIn result self.now }
+        ensures boundary { IfOk result (λ o. IfSome o (λ t. IsCharBoundary self.now.source t.end)) }
+    {
         let (_, left) = self.source.split_at(self.at);
         let start = match gap_len(left) {
             Ok(gap) => self.at + gap,
