@@ -1,5 +1,6 @@
 -- Where a text may be cut between its tokens.
-use Rattle.std.proofs.Common.{◌≡◌, ◌∙◌, ℕ, ◌<◌, ◌+◌, ◌-◌, ◌||◌, ◌&&◌, ◌==◌, Bool, true, false, List, [], ◌∷◌, length, drop, get_or, Option, Some, None, ap, sym, refl, subst, arith, eqb-true}
+use Rattle.std.proofs.Common.{◌≡◌, ◌∙◌, ℕ, ◌<◌, ◌+◌, ◌-◌, ◌||◌, ◌&&◌, ◌==◌, Bool, true, false, List, [], ◌∷◌, length, drop, get_or, Option, Some, None, Result, Ok, Err, ap, sym, refl, subst, arith, eqb-true}
+use Rattle.std.specs.Result.{IfOk}
 use Rattle.std.specs.Prelude.{if◌then◌else◌}
 use Rattle.std.specs.Str.{IsCharBoundary, IsUtf8, is_utf8}
 use Rattle.std.proofs.lemmas.Bool.Decides.{nat_tests}
@@ -9,12 +10,13 @@ use Rattle.usda_lexer.specs.declared.blanks.Between.{Between}
 use Rattle.usda_lexer.specs.declared.blanks.Between.TheVariants.{Blank, Slash, Line, Opening, Block, Closing}
 use Rattle.usda_lexer.specs.Blanks.{is_blank, begins, between_from, between_after, opened_at, gap}
 use Rattle.usda_lexer.specs.Forms.{EndsIn}
+use Rattle.usda_lexer.specs.Words.{Found}
 
 pub not_utf8 : (bytes : List ℕ) → (IsUtf8 bytes → ⊥) → is_utf8 bytes ≡ false
-not_utf8 bytes no = test (is_utf8 bytes) refl
+not_utf8 bytes bad = test (is_utf8 bytes) refl
   where
     test : (b : Bool) → is_utf8 bytes ≡ b → b ≡ false
-    test true e = absurd (no (IsUtf8-from_is_utf8 bytes e))
+    test true e = absurd (bad (IsUtf8-from_is_utf8 bytes e))
     test false e = refl
 
 -- the text may be cut at i, or may be when its comment has ended
@@ -28,7 +30,7 @@ pub gap_step : (s next : Between) (o i : ℕ) (bytes : List ℕ) → i < length 
     → gap s o i (drop i bytes) ≡ gap next (opened_at next o i) (i + 1) (drop (i + 1) bytes)
 gap_step s next o i bytes lt e =
     ap (gap s o i) (drop_more bytes i 0 lt)
-    ∙ ap (λ a. elim a [ None ↦ Rattle.std.specs.Prelude.Ok i | Some n ↦ gap n (opened_at n o i) (i + 1) (drop (i + 1) bytes) ]) e
+    ∙ ap (λ a. elim a [ None ↦ Ok i | Some n ↦ gap n (opened_at n o i) (i + 1) (drop (i + 1) bytes) ]) e
 
 leads_to_blank : (b1 b2 b3 b4 : Bool) → (if b1 then Some Blank else if b2 then Some Line else if b3 then Some Slash else if b4 then Some Opening else None) ≡ Some Blank → b1 ≡ true
 leads_to_blank true b2 b3 b4 e = refl
@@ -113,3 +115,11 @@ ends_behind text k n ends = record {
   ascii = subst (λ (j : ℕ). get_or text j 0 < 128) (let e : k + (n - 0 - 1) ≡ k + n - 0 - 1 = omega (arith, ends.some) in e)
       (subst (λ (x : ℕ). x < 128) (get_or-drop k text (n - 0 - 1) 0) ends.ascii);
 }
+
+pub cut_after_first : (text rest : List ℕ) (x : ℕ) → IsUtf8 text → text ≡ x ∷ rest → x < 128 → IsCharBoundary text 1
+cut_after_first text rest x u e ascii =
+    IsCharBoundary-after_ascii text 0 u (subst (λ (t : List ℕ). 0 < length t) (sym e) (omega arith)) (subst (λ (t : List ℕ). get_or t 0 0 < 128) (sym e) ascii)
+
+pub found_boundary : (r : Found) (text rest : List ℕ) (x : ℕ) → IsUtf8 text → text ≡ x ∷ rest → IfOk r (λ f. EndsIn 0 (x ∷ rest) f.1) → IfOk r (λ f. (0 < f.1) × IsCharBoundary text f.1)
+found_boundary (Ok f) text rest x u e ends = (ends.some, ends_boundary text f.1 u (subst (λ (t : List ℕ). EndsIn 0 t f.1) (sym e) ends))
+found_boundary (Err e) text rest x u is ends = tt

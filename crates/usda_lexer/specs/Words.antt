@@ -1,7 +1,7 @@
 -- The tokens of a text, each as long as it goes, with the places of its first byte and of the byte behind it; and the fault with
 -- which they end, if any.
 use Rattle.std.specs.Prelude.{◌≡◌, ℕ, zero, suc, ◌+◌, ◌-◌, ◌<◌, ◌≤◌, Bool, true, false, ◌&&◌, ◌||◌, ◌==◌, if◌then◌else◌, List, [], ◌∷◌, take, drop, length, slice_range, Option, Some, None, Result, Ok, Err}
-use Rattle.std.specs.Str.{is_utf8}
+use Rattle.std.specs.Str.{is_utf8, IsCharBoundary}
 use Rattle.std.specs.Str.Lossy.{utf8_valid_len}
 use Rattle.sdf_values.specs.Numbers.{DecimalNumber}
 use Rattle.usd_names.specs.Names.{is_number_word}
@@ -171,6 +171,20 @@ pub record IsFaultAt (source : List ℕ) (at place : ℕ) : Type 0 where
   pub behind : at ≤ place
   pub inside : place < length source
   pub gap : IsGap (slice_range source at place)
+
+-- a fault at this place
+abbrev pub IsAt : ℕ → LexFault → Type 0
+IsAt place (NotUtf8 at) = ⊥
+IsAt place (Unclosed at) = at ≡ place
+IsAt place (BadByte at) = at ≡ place
+IsAt place (NumberTooLong at) = at ≡ place
+
+-- a token, or a fault, that stands directly at a place of the source; nothing where that is its end
+abbrev pub StandsAt : Result (Option Token) LexFault → List ℕ → ℕ → Type 0
+StandsAt (Ok (Some t)) source place =
+    (t.text.now ≡ slice_range source t.start t.end) × (t.start ≡ place) × (place < t.end) × IsCharBoundary source t.end
+StandsAt (Ok None) source place = drop place source ≡ []
+StandsAt (Err e) source place = IsAt place e × (place < length source)
 
 -- where an answer stands in the source, behind the tokens that were taken before
 abbrev pub StandsIn : Result (Option Token) LexFault → Lexer → Type 0

@@ -1,7 +1,9 @@
 //! What the text of a token means.
-ghost use Rattle.std.specs.Prelude.{◌≡◌, ◌<◌, ◌≤◌, ◌*◌, ◌+◌, ◌-◌, ◌^◌, ◌∷◌, ◌++◌, IfOk, IfSome, OnOk, length, slice_index, drop, false};
+ghost use Rattle.std.specs.Prelude.{◌≡◌, ◌<◌, ◌≤◌, ◌*◌, ◌+◌, ◌-◌, ◌^◌, ◌∷◌, ◌++◌, ◌↔◌, Some, IfOk, IfSome, OnOk, length, slice_index, drop, false};
 ghost use Rattle.std.specs.Option.{option_to_list};
-ghost use Rattle.usda_lexer.specs.Meanings.{hexadecimal, is_octal, digit_at, two_digits, octal, letter, escape, unescaped, inside, quotes_len, string_bytes_of, string_text, trimmed, asset_text, path_text, number_of};
+ghost use Rattle.usda_lexer.specs.Meanings.{hexadecimal, is_octal, digit_at, two_digits, octal, letter, escape, unescaped, inside, quotes_len, string_bytes_of, if_utf8, string_text, trimmed, asset_text, path_text, number_of};
+ghost use Rattle.sdf_values.specs.Numbers.{DecimalNumber, IsDecimal};
+ghost use Rattle.sdf_values.specs.NumberTexts.{Writes};
 ghost use Rattle.usda_lexer.specs.Decimals.{decimal_of};
 
 use crate::blanks::begins;
@@ -205,6 +207,16 @@ fn inside(n: usize, bytes: &[u8]) -> &[u8]
     &behind[..behind.len().saturating_sub(n)]
 }
 
+// The text of some bytes, where they are UTF-8.
+fn text_of(bytes: Vec<u8>) -> Option<Text>
+    ensures { result ≡ if_utf8 bytes.items }
+{
+    match String::from_utf8(bytes) {
+        Ok(text) => Some(Text::from_string(text)),
+        Err(_) => None,
+    }
+}
+
 /// What a string token stands for; nothing where its escapes make bytes that are not UTF-8.
 #[tactic(auto, unfolding(crate::specs::Meanings::string_text))]
 pub fn string_text(alloc: Global, text: &str) -> Result<Option<Text>, AllocError>
@@ -213,10 +225,7 @@ pub fn string_text(alloc: Global, text: &str) -> Result<Option<Text>, AllocError
     let bytes = text.as_bytes();
     let quotes = quotes_len(bytes);
     let meant = unescaped(alloc, inside(quotes, bytes))?;
-    match String::from_utf8(meant) {
-        Ok(text) => Ok(Some(Text::from_string(text))),
-        Err(_) => Ok(None),
-    }
+    Ok(text_of(meant))
 }
 
 // The text without so many delimiters on both sides.
@@ -284,7 +293,9 @@ pub fn number_of(text: &str) -> Option<Num>
 
 /// The decimal that a number's text writes with digits; nothing where it writes none.
 pub fn decimal_of(text: &str) -> Option<Decimal>
-    ensures { result ≡ decimal_of text.now }
+    ensures value { result ≡ decimal_of text.now }
+    // The decimal that is computed is the one that the text writes.
+    ensures written { (d : DecimalNumber) → (decimal_of text.now ≡ Some d) ↔ (IsDecimal d × Writes text.now d) }
 {
     match Decimal::parse(text) {
         Ok(decimal) => Some(decimal),

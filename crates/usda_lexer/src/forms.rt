@@ -1,5 +1,5 @@
 //! How far numbers, strings, assets and paths go.
-ghost use Rattle.std.specs.Prelude.{◌≡◌, ◌<◌, ◌≤◌, ◌+◌, ◌-◌, ◌^◌, IfSome, length, slice_index, drop, false};
+ghost use Rattle.std.specs.Prelude.{◌≡◌, ℕ, ◌<◌, ◌≤◌, ◌+◌, ◌^◌, IfSome, List, ◌∷◌, length, false};
 ghost use Rattle.sdf_values.specs.NumberTexts.{is_digit, is_sign, is_mark};
 ghost use Rattle.usda_lexer.specs.Forms.{digits_len, sign_len, with_digits, exponent_len, pointed_len, mantissa_len, scaled_len, behind_sign_len, number_len, closed_line, closed_string, closed_tripled, more_ats, closed_asset, begins_twice, string_len, asset_len, EndsIn};
 
@@ -118,13 +118,13 @@ pub fn number_len(bytes: &[u8]) -> usize
     ensures ends { 0 < result → EndsIn 0 bytes.now result }
 {
     let sign = sign_len(bytes);
-    let rest = &bytes[sign..];
+    let (_, rest) = bytes.split_at(sign);
     let mantissa = mantissa_len(rest);
     if mantissa == 0 {
-        0
-    } else {
-        sign + mantissa + exponent_len(&rest[mantissa..])
+        return 0;
     }
+    let (_, behind) = rest.split_at(mantissa);
+    sign + mantissa + exponent_len(behind)
 }
 
 /// The rest of a token of which one byte stands before: its length up to the first such byte on the same line.
@@ -166,6 +166,23 @@ fn closed_string(quote: u8, bytes: &[u8]) -> Option<usize>
     None
 }
 
+// Whether the byte behind this one is escaped, and how many quotes stand in a row up to this one.
+fn after_tripled(quote: u8, escaped: bool, run: usize, c: u8) -> (bool, usize)
+    requires { run < 3 }
+    ensures goes { result.1 < 3 → (n : ℕ) (rest : List ℕ) → closed_tripled quote escaped run n (c ∷ rest) ≡ closed_tripled quote result.0 result.1 (n + 1) rest }
+    ensures closes { result.1 ≡ 3 → (n : ℕ) (rest : List ℕ) → closed_tripled quote escaped run n (c ∷ rest) ≡ Some (n + 1) }
+    ensures last { result.1 ≡ 3 → c ≡ quote }
+    ensures few { result.1 ≤ 3 }
+{
+    if escaped {
+        (false, 0)
+    } else if c == quote {
+        (false, run + 1)
+    } else {
+        (c == b'\\', 0)
+    }
+}
+
 // The rest of a string over lines, behind its three quotes.
 fn closed_tripled(quote: u8, bytes: &[u8]) -> Option<usize>
     requires { quote < 128 }
@@ -175,18 +192,12 @@ fn closed_tripled(quote: u8, bytes: &[u8]) -> Option<usize>
     let mut escaped = false;
     let mut run: usize = 0;
     for (i, c) in bytes.iter().enumerate() {
-        if escaped {
-            escaped = false;
-            run = 0;
-        } else if *c == quote {
-            if run == 2 {
-                return Some(i + 4);
-            }
-            run += 1;
-        } else {
-            escaped = *c == b'\\';
-            run = 0;
+        let (next, quotes) = after_tripled(quote, escaped, run, *c);
+        if quotes == 3 {
+            return Some(i + 4);
         }
+        escaped = next;
+        run = quotes;
     }
     None
 }

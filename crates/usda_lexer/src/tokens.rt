@@ -1,8 +1,8 @@
 //! The tokens of a source, one after the other.
-ghost use Rattle.std.specs.Prelude.{◌≡◌, ◌∷◌, [], ◌≢◌, ◌<◌, ◌≤◌, ◌+◌, ◌-◌, IfOk, IfSome, IsTrue, take, drop, length, Some, None, Ok, Err};
+ghost use Rattle.std.specs.Prelude.{◌≡◌, ◌∷◌, [], ◌≢◌, ◌<◌, ◌≤◌, ◌+◌, ◌-◌, IfOk, IfErr, IfSome, IsTrue, take, drop, length, Some, None, Ok, Err};
 ghost use Rattle.std.specs.Str.{IsCharBoundary, IsUtf8};
 ghost use Rattle.usda_lexer.specs.Forms.{number_len, EndsIn};
-ghost use Rattle.usda_lexer.specs.Words.{found, name_kind, begins_number_word, quoted_or_mark, minus_or_mark, number_or_mark, next_word, word_of, left, AnswersNew, AnswersNext, AnswersPeek, Finds, StandsIn};
+ghost use Rattle.usda_lexer.specs.Words.{found, name_kind, begins_number_word, quoted_or_mark, minus_or_mark, number_or_mark, next_word, word_of, left, AnswersNew, AnswersNext, AnswersPeek, Finds, IsAt, StandsAt, StandsIn, word_in_front};
 
 use crate::blanks::gap_len;
 use crate::escapes::decimal_of;
@@ -15,6 +15,7 @@ use std::marker::Model;
 fn quoted_or_mark(at: usize, first: u8, rest: &[u8]) -> Result<(TokenKind, usize), LexFault>
     ensures value { result ≡ quoted_or_mark at first rest.now }
     ensures ends { IfOk result (λ f. EndsIn 0 (first ∷ rest.now) f.1) }
+    ensures fault { IfErr result (λ e. IsAt at e) }
 {
     let (kind, len) = match first {
         b'"' | b'\'' => (TokenKind::String, string_len(first, rest)),
@@ -56,6 +57,7 @@ fn begins_number_word(text: &str) -> bool
 fn minus_or_mark(at: usize, text: &str) -> Result<(TokenKind, usize), LexFault>
     ensures value { result ≡ minus_or_mark at text.now }
     ensures boundary { IfOk result (λ f. (0 < f.1) × IsCharBoundary text.now f.1) }
+    ensures fault { IfErr result (λ e. IsAt at e) }
 {
     let Some((first, rest)) = text.as_bytes().split_first() else {
         return Err(LexFault::BadByte { at });
@@ -73,6 +75,7 @@ fn minus_or_mark(at: usize, text: &str) -> Result<(TokenKind, usize), LexFault>
 fn number_or_mark(at: usize, text: &str) -> Result<(TokenKind, usize), LexFault>
     ensures value { result ≡ number_or_mark at (number_len text.now) text.now }
     ensures boundary { IfOk result (λ f. (0 < f.1) × IsCharBoundary text.now f.1) }
+    ensures fault { IfErr result (λ e. IsAt at e) }
 {
     let len = number_len(text.as_bytes());
     if len == 0 {
@@ -90,6 +93,7 @@ fn number_or_mark(at: usize, text: &str) -> Result<(TokenKind, usize), LexFault>
 fn found(at: usize, text: &str) -> Result<(TokenKind, usize), LexFault>
     ensures value { result ≡ found at text.now }
     ensures boundary { IfOk result (λ f. (0 < f.1) × IsCharBoundary text.now f.1) }
+    ensures fault { IfErr result (λ e. IsAt at e) }
 {
     let len = name_len(text);
     if len == 0 {
@@ -97,6 +101,26 @@ fn found(at: usize, text: &str) -> Result<(TokenKind, usize), LexFault>
     }
     let (name, _) = text.split_at(len);
     Ok((name_kind(name), len))
+}
+
+// The token that stands at a place of the source, before which only blanks and comments stand.
+fn token_at<'s>(source: &'s str, start: usize) -> Result<Option<Token<'s>>, LexFault>
+    requires { IsCharBoundary source.now start }
+    ensures value { Finds result (word_in_front start (drop start source.now)) }
+    ensures place { StandsAt result source.now start }
+{
+    let (_, rest) = source.split_at(start);
+    if rest.is_empty() {
+        return Ok(None);
+    }
+    let (kind, len) = found(start, rest)?;
+    let (text, _) = rest.split_at(len);
+    Ok(Some(Token {
+        kind,
+        text,
+        start,
+        end: start + len,
+    }))
 }
 
 /// The tokens of a source, one after the other.
@@ -146,37 +170,27 @@ impl<'s> Tokens<'s> {
         ensures answer { AnswersNext result self.old self.new }
         ensures place { StandsIn result self.old }
     {
-        let found = self.look();
-        if let Ok(Some(token)) = found {
-            self.at = token.end;
+        match self.look() {
+            Ok(Some(token)) => {
+                self.at = token.end;
+                Ok(Some(token))
+            }
+            Ok(None) => Ok(None),
+            Err(fault) => Err(fault),
         }
-        found
     }
 
     // The next token.
+    #[tactic(auto, unfolding(crate::specs::Words::next_word))]
     fn look(&self) -> Result<Option<Token<'s>>, LexFault>
         ensures value { Finds result (next_word self.now.at (drop self.now.at self.now.source)) }
         ensures place { StandsIn result self.now }
         ensures boundary { IfOk result (λ o. IfSome o (λ t. IsCharBoundary self.now.source t.end)) }
     {
-        let (_, left) = self.source.split_at(self.at);
-        let start = match gap_len(left) {
-            Ok(gap) => self.at + gap,
-            Err(gap) => {
-                return Err(LexFault::Unclosed { at: self.at + gap });
-            }
-        };
-        let (_, text) = self.source.split_at(start);
-        if text.is_empty() {
-            return Ok(None);
+        let (_, rest) = self.source.split_at(self.at);
+        match gap_len(rest) {
+            Ok(gap) => token_at(self.source, self.at + gap),
+            Err(gap) => Err(LexFault::Unclosed { at: self.at + gap }),
         }
-        let (kind, len) = found(start, text)?;
-        let (text, _) = text.split_at(len);
-        Ok(Some(Token {
-            kind,
-            text,
-            start,
-            end: start + len,
-        }))
     }
 }
