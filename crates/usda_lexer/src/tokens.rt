@@ -180,6 +180,13 @@ impl<'s> Tokens<'s> {
         }
     }
 
+    /// How many bytes the source has.
+    pub fn source_len(&self) -> usize
+        ensures { result ≡ length self.now.source }
+    {
+        self.source.len()
+    }
+
     // The next token.
     #[tactic(auto, unfolding(crate::specs::Words::next_word))]
     fn look(&self) -> Result<Option<Token<'s>>, LexFault>
