@@ -1,0 +1,20 @@
+//! The tokens of the whole text format.
+//!
+//! A token's text is a part of the source, and nothing is copied. No call of [`Tokens`] takes memory. Contracts see the
+//! tokens as their source and the place up to which they were taken; `left` are the tokens from there on.
+#![tactic(auto)]
+
+mod blanks;
+mod escapes;
+mod forms;
+mod name;
+mod place;
+#[cfg(test)]
+mod tests;
+mod token;
+mod tokens;
+
+pub use escapes::{asset_text, decimal_of, number_of, path_text, string_text};
+pub use place::{Place, place_of};
+pub use token::{LexFault, Mark, Token, TokenKind};
+pub use tokens::Tokens;
