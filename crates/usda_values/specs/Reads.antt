@@ -1,0 +1,71 @@
+-- A value that is read from tokens, or the first token with which it is refused.
+use Rattle.std.specs.Prelude.{◌≡◌, ℕ, ◌<◌, ◌-◌, Bool, true, false, if◌then◌else◌, List, [], ◌∷◌, length, Option, Some, None, Result, Ok, Err}
+use Rattle.sdf_values.specs.declared.refusal.RefusalKind.{RefusalKind}
+use Rattle.sdf_values.specs.declared.refusal.RefusalKind.TheVariants.{Syntax, NumberTooLong, NotUtf8}
+use Rattle.sdf_values.specs.declared.value.Value.{Value}
+use Rattle.usda_lexer.specs.declared.token.LexFault.{LexFault}
+use Rattle.usda_lexer.specs.declared.token.LexFault.TheVariants as lexing
+use Rattle.usda_lexer.specs.Words.{Word, Lexing, Lexer, left}
+use Rattle.usda_values.specs.declared.fault.ActFault.{ActFault}
+use Rattle.usda_values.specs.declared.fault.ActFault.TheVariants as fault
+use Rattle.usda_values.specs.declared.fault.ValueFault.{ValueFault}
+use Rattle.usda_values.specs.declared.fault.ValueFault.TheVariants.{Refused, NoMemory}
+use Rattle.usda_values.specs.declared.draft.ValueDraft.{ValueDraft}
+use Rattle.usda_values.specs.Drafts.{Acted, value_act, is_complete, value_of}
+
+-- what a call that may want memory makes of a draft
+abbrev pub Does : Result (Unit {0}) ActFault → ValueDraft → Acted → Type 0
+Does (Ok u) new acted = acted ≡ Ok new
+Does (Err (fault.Refused k)) new acted = acted ≡ Err k
+Does (Err fault.NoMemory) new acted = Unit {0}
+
+-- a value and the tokens behind it; or the kind of the first refusal, its place, and the tokens from the refused one on
+pub data Reading : Type 0 where
+  got : Value → Lexing → Reading
+  refused : RefusalKind → ℕ → Lexing → Reading
+
+abbrev pub kind_of_fault : LexFault → RefusalKind
+kind_of_fault (lexing.NumberTooLong at) = NumberTooLong
+kind_of_fault (lexing.NotUtf8 at) = NotUtf8
+kind_of_fault (lexing.Unclosed at) = Syntax
+kind_of_fault (lexing.BadByte at) = Syntax
+
+abbrev pub place_of_fault : LexFault → ℕ
+place_of_fault (lexing.NumberTooLong at) = at
+place_of_fault (lexing.NotUtf8 at) = at
+place_of_fault (lexing.Unclosed at) = at
+place_of_fault (lexing.BadByte at) = at
+
+abbrev pub lexing_of : List Word → Option LexFault → Lexing
+lexing_of ws f = record { words = ws; fault = f }
+
+-- at the end of the tokens, which is that of the text or a fault
+abbrev pub no_more : Option LexFault → ℕ → Reading
+no_more None end = refused Syntax end (lexing_of [] None)
+no_more (Some f) end = refused (kind_of_fault f) (place_of_fault f) (lexing_of [] (Some f))
+
+abbrev pub behind_act : Acted → Word → List Word → Option LexFault → (ValueDraft → Reading) → Reading
+behind_act (Err k) w ws f more = refused k w.start (lexing_of (w ∷ ws) f)
+behind_act (Ok next) w ws f more = if is_complete next then got (value_of next) (lexing_of ws f) else more next
+
+-- The value that these tokens complete. The text ends at `end`, behind them or behind the fault.
+abbrev pub reads : List Word → Option LexFault → ℕ → ValueDraft → Reading
+reads [] f end d = no_more f end
+reads (w ∷ ws) f end d = behind_act (value_act w.kind w.text d) w ws f (λ next. reads ws f end next)
+
+-- the value that the tokens of a lexer complete
+abbrev pub reads_left : Lexer → ValueDraft → Reading
+reads_left t d = reads (left t).words (left t).fault (length t.source) d
+
+-- what reading a value answers, and what it leaves
+abbrev pub AnswersRead : Result Value ValueFault → ValueDraft → Lexer → Lexer → Type 0
+AnswersRead (Ok v) d old new = reads_left old d ≡ got v (left new)
+AnswersRead (Err (Refused k at)) d old new = reads_left old d ≡ refused k at (left new)
+AnswersRead (Err NoMemory) d old new = Unit {0}
+
+-- what one token more answers, and whether the value is complete
+abbrev pub AnswersStep : Result Bool ValueFault → ValueDraft → ValueDraft → Lexer → Lexer → Type 0
+AnswersStep (Ok false) d next old new = (reads_left old d ≡ reads_left new next) × (length new.source - new.at < length old.source - old.at)
+AnswersStep (Ok true) d next old new = reads_left old d ≡ got (value_of next) (left new)
+AnswersStep (Err (Refused k at)) d next old new = reads_left old d ≡ refused k at (left new)
+AnswersStep (Err NoMemory) d next old new = Unit {0}

@@ -1,0 +1,95 @@
+//! Values and dictionaries from tokens.
+ghost use Rattle.std.specs.Prelude.{◌≡◌, IfOk};
+ghost use Rattle.usda_values.specs.Drafts.{draft_of};
+ghost use Rattle.usda_values.specs.declared.level.Place.TheVariants as place;
+ghost use Rattle.usda_values.specs.Reads.{AnswersRead, AnswersStep, kind_of_fault, place_of_fault};
+
+use crate::draft::ValueDraft;
+use crate::fault::{ActFault, ValueFault};
+use crate::shape::Shape;
+use sdf_values::{RefusalKind, Value};
+use std::alloc::Global;
+use usda_lexer::{LexFault, Tokens};
+
+/// Reads one value, of which nothing is known. After a refusal the tokens stand at the one that was refused.
+pub fn read_value(alloc: Global, tokens: &mut Tokens<'_>) -> Result<Value, ValueFault>
+    ensures { AnswersRead result (draft_of place.Value Shape.Untyped) tokens.old tokens.new }
+{
+    read(ValueDraft::new(alloc, Shape::Untyped), tokens)
+}
+
+/// Reads one value of which this is expected. After a refusal the tokens stand at the one that was refused.
+pub fn read_shaped(
+    alloc: Global,
+    shape: Shape,
+    tokens: &mut Tokens<'_>,
+) -> Result<Value, ValueFault>
+    ensures { AnswersRead result (draft_of place.Value shape) tokens.old tokens.new }
+{
+    read(ValueDraft::new(alloc, shape), tokens)
+}
+
+/// Reads a dictionary. After a refusal the tokens stand at the one that was refused.
+pub fn read_dict(alloc: Global, tokens: &mut Tokens<'_>) -> Result<Value, ValueFault>
+    ensures { AnswersRead result (draft_of place.Dictionary Shape.Dictionary) tokens.old tokens.new }
+{
+    read(ValueDraft::dictionary(alloc), tokens)
+}
+
+// The value that the tokens complete.
+fn read(draft: ValueDraft, tokens: &mut Tokens<'_>) -> Result<Value, ValueFault>
+    ensures { AnswersRead result draft tokens.old tokens.new }
+{
+    let mut draft = draft;
+    loop {
+        match step(&mut draft, tokens) {
+            Ok(false) => {}
+            Ok(true) => return Ok(draft.into_value()),
+            Err(fault) => return Err(fault),
+        }
+    }
+}
+
+// One token more; whether the value is complete.
+fn step(draft: &mut ValueDraft, tokens: &mut Tokens<'_>) -> Result<bool, ValueFault>
+    ensures { AnswersStep result draft.old draft.new tokens.old tokens.new }
+{
+    match tokens.peek() {
+        Ok(Some(token)) => match draft.give(token.kind, token.text) {
+            Ok(()) => {
+                let _taken = tokens.next();
+                Ok(draft.is_complete())
+            }
+            Err(ActFault::Refused(kind)) => Err(ValueFault::Refused {
+                kind,
+                at: token.start,
+            }),
+            Err(ActFault::NoMemory) => Err(ValueFault::NoMemory),
+        },
+        Ok(None) => Err(ValueFault::Refused {
+            kind: RefusalKind::Syntax,
+            at: tokens.source_len(),
+        }),
+        Err(fault) => Err(fault_of(fault)),
+    }
+}
+
+// Why there is no further token.
+fn fault_of(fault: LexFault) -> ValueFault
+    ensures { result ≡ ValueFault.Refused (kind_of_fault fault) (place_of_fault fault) }
+{
+    match fault {
+        LexFault::NumberTooLong { at } => ValueFault::Refused {
+            kind: RefusalKind::NumberTooLong,
+            at,
+        },
+        LexFault::NotUtf8 { at } => ValueFault::Refused {
+            kind: RefusalKind::NotUtf8,
+            at,
+        },
+        LexFault::Unclosed { at } | LexFault::BadByte { at } => ValueFault::Refused {
+            kind: RefusalKind::Syntax,
+            at,
+        },
+    }
+}
