@@ -60,6 +60,13 @@ impl PrimPath {
         }
     }
 
+    /// The path of these names; takes no memory.
+    pub fn of(names: Items<Text>) -> PrimPath
+        ensures { result ≡ names }
+    {
+        PrimPath { names }
+    }
+
     /// The path of a name below this one.
     pub fn below(&self, name: &Text) -> Result<PrimPath, AllocError>
         ensures { IfOk result (λ p. p ≡ self.now ++ name.now ∷ []) }
