@@ -2,6 +2,8 @@
 #![tactic(auto)]
 
 mod output;
+#[cfg(test)]
+mod session_tests;
 mod status;
 #[cfg(test)]
 mod tests;
