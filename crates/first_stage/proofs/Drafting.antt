@@ -23,7 +23,7 @@ after_first ps i p lt is = drop_more ps i p lt ∙ ap (λ (q : FirstPrim). q ∷
 -- the prim at a place, with all below it, and then the others
 pub with_next : (path : List (List ℕ)) (ps : List FirstPrim) (i : ℕ) (p : FirstPrim) (d : Draft) → i < length ps → p ≡ get_or ps i p
     → with_prims path (prims_of (drop i ps)) d ≡ with_prims path (prims_of (drop (i + 1) ps)) (with_prims (path ++ (out-FirstPrim p).name ∷ []) (prims_of (out-FirstPrim p).prims)
-      (with_prim (path ++ (out-FirstPrim p).name ∷ []) (out-FirstPrim p).type_name (out-FirstPrim p).attrs (prim_names (prims_of (out-FirstPrim p).prims)) d))
+    (with_prim (path ++ (out-FirstPrim p).name ∷ []) (out-FirstPrim p).type_name (out-FirstPrim p).attrs (prim_names (prims_of (out-FirstPrim p).prims)) d))
 with_next path ps i p d lt is =
     ap (λ (qs : List FirstPrim). with_prims path (prims_of qs) d) (after_first ps i p lt is)
     ∙ ap (λ (f : Forest). with_prims path (join f (prims_of (drop (i + 1) ps))) d) (prim_of_out p) ∙ with_one path p (prims_of (drop (i + 1) ps)) d

@@ -47,11 +47,7 @@ fn attrs_of(alloc: Global, names: &[Text], values: &[i32]) -> Result<Items<Attr>
 
 /// What is composed at a path.
 #[tactic(auto, unfolding(crate::specs::Tables::entry_of, crate::specs::Tables::entry_by))]
-pub fn entry_at(
-    alloc: Global,
-    world: &FirstWorld,
-    path: &PrimPath,
-) -> Result<Entry, AllocError>
+pub fn entry_at(alloc: Global, world: &FirstWorld, path: &PrimPath) -> Result<Entry, AllocError>
     ensures { IfOk result (λ e. e ≡ entry_of world.now path.now) }
 {
     let Some(row) = world.row_at(path.names()) else {
@@ -75,10 +71,7 @@ pub fn entry_at(
 }
 
 /// The world after a batch, of which either all operations are made or none.
-pub fn apply_batch(
-    world: &FirstWorld,
-    batch: &Batch,
-) -> Result<FirstWorld, ApplyRefused<EditFault>>
+pub fn apply_batch(world: &FirstWorld, batch: &Batch) -> Result<FirstWorld, ApplyRefused<EditFault>>
     ensures ok { IfOk result (λ after. applied world.now batch.now ≡ Ok after) }
     ensures refused { IfErr result (λ e. IfOp e (λ op fault. applied world.now batch.now ≡ Err (op, fault))) }
 {

@@ -74,12 +74,7 @@ impl Composer for FirstComposer {
         entry.children.len()
     }
 
-    fn child_at(
-        &self,
-        place: &PrimPath,
-        entry: &Entry,
-        i: usize,
-    ) -> Result<PrimPath, AllocError> {
+    fn child_at(&self, place: &PrimPath, entry: &Entry, i: usize) -> Result<PrimPath, AllocError> {
         match entry.children.get(i) {
             Some(name) => place.below(name),
             None => unreachable!(),

@@ -101,9 +101,9 @@ scan_more start scanned old piece new s e = rw e (record {
   before = s.before;
   within = omega (arith, s.within, length-append old piece);
   no_feed =
-    let from : drop start (old ++ piece) ≡ drop start old ++ piece = drop-append-le start old piece (omega (arith, s.before, s.within)) in
-    let front : take (scanned - start) (drop start old ++ piece) ≡ take (scanned - start) (drop start old) = take-append-le (scanned - start) (drop start old) piece (omega (arith, length-drop start old, s.within)) in
-    rw (from, front) s.no_feed;
+      let from : drop start (old ++ piece) ≡ drop start old ++ piece = drop-append-le start old piece (omega (arith, s.before, s.within)) in
+      let front : take (scanned - start) (drop start old ++ piece) ≡ take (scanned - start) (drop start old) = take-append-le (scanned - start) (drop start old) piece (omega (arith, length-drop start old, s.within)) in
+      rw (from, front) s.no_feed;
 })
 
 -- the bytes behind the start, none of which is a line feed
@@ -173,9 +173,13 @@ front_last start bytes piece before mid after s some short c end kept =
     let len : length d ≡ length bytes - start = length-drop start bytes in
     let e : start + (length bytes - start) ≡ length bytes = omega arith in
     let none : drop (start + (length bytes - start)) bytes ≡ [] = drop_of_length-le bytes (omega (arith, e)) in
-    let line : lines_of d ≡ d ∷ [] = lines-last d (omega (arith, len)) (held_scanned start bytes s) in
-    (omega arith, omega (arith, e), omega (arith, e), weaken before after (λ (more : List ℕ). more ≡ []) _ (at_end before mid after piece c end kept)
-      (λ more nothing. rw (nothing, none, all_rest start bytes) (ap lines_of (append-nil d) ∙ line ∙ ap (λ (ls : List (List ℕ)). d ∷ ls) (sym lines-nil))))
+    let line : lines_of d ≡ d ∷ [] = lines-last d (omega (arith, len)) (held_scanned start bytes s) in (
+      omega arith,
+      omega (arith, e),
+      omega (arith, e),
+      weaken before after (λ (more : List ℕ). more ≡ []) _ (at_end before mid after piece c end kept)
+          (λ more nothing. rw (nothing, none, all_rest start bytes) (ap lines_of (append-nil d) ∙ line ∙ ap (λ (ls : List (List ℕ)). d ∷ ls) (sym lines-nil))),
+    )
 
 pub front_end : (start : ℕ) (bytes piece : List ℕ) (before mid after : Option (List ℕ)) → length bytes ≤ start → Consumes before mid piece → IsAtEnd mid → Keeps mid after → IsFront End start bytes before after
 front_end start bytes piece before mid after none c end kept = (drop_of_length-le bytes none, at_end before mid after piece c end kept)

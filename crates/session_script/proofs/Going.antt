@@ -138,7 +138,6 @@ ends (Err (Refused n kind)) s new line more unrefused none nothing (ops, batch, 
 ends (Err ReadFault) s new line more unrefused none nothing e = absurd e
 ends (Err NoMemory) s new line more unrefused none nothing e = absurd e
 
-
 -- ---- the loop over lines
 
 pub still_unrefused : (loop mid : State) (y z : Option (List ℕ)) → loop.stopped ≡ None → Feeds loop mid y z → mid.stopped ≡ None

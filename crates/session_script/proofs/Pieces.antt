@@ -49,10 +49,10 @@ cuts_more s start i text pieces k within e = record {
   before = omega (arith, k.before);
   within = omega arith;
   whole =
-    let here : pieces_of s (drop i text) ≡ onto (get_or text i 0) (pieces_of s (drop (i + 1) text)) = at_drop_more (pieces_of s) text i 0 within ∙ pieces-more s (get_or text i 0) (drop (i + 1) text) e in
-    let joined = glue-push (take (i - start) (drop start text)) (get_or text i 0) (pieces_of s (drop (i + 1) text)) in
-    ap (λ (l : List ℕ). pieces ++ glue l (pieces_of s (drop (i + 1) text))) (take_next text start i k.before within)
-    ∙ ap (λ (ps : List (List ℕ)). pieces ++ ps) (joined ∙ ap (glue (take (i - start) (drop start text))) (sym here)) ∙ k.whole;
+      let here : pieces_of s (drop i text) ≡ onto (get_or text i 0) (pieces_of s (drop (i + 1) text)) = at_drop_more (pieces_of s) text i 0 within ∙ pieces-more s (get_or text i 0) (drop (i + 1) text) e in
+      let joined = glue-push (take (i - start) (drop start text)) (get_or text i 0) (pieces_of s (drop (i + 1) text)) in
+      ap (λ (l : List ℕ). pieces ++ glue l (pieces_of s (drop (i + 1) text))) (take_next text start i k.before within)
+      ∙ ap (λ (ps : List (List ℕ)). pieces ++ ps) (joined ∙ ap (glue (take (i - start) (drop start text))) (sym here)) ∙ k.whole;
 }
 
 pub cuts_here : (s start i : ℕ) (text : List ℕ) (pieces : List (List ℕ)) → Cuts s start i text pieces → i < length text → (get_or text i 0 == s) ≡ true
@@ -64,12 +64,12 @@ cuts_here s start i text pieces k within e =
       before = omega arith;
       within = omega arith;
       whole =
-        let here : pieces_of s (drop i text) ≡ [] ∷ rest = at_drop_more (pieces_of s) text i 0 within ∙ pieces-cut s (get_or text i 0) (drop (i + 1) text) e in
-        let none : i + 1 - (i + 1) ≡ 0 = omega arith in
-        let first : glue piece ([] ∷ rest) ≡ piece ∷ rest = glue-first piece [] rest ∙ ap (λ (l : List ℕ). l ∷ rest) (append-nil piece) in
-        ap (λ (n : ℕ). (pieces ++ piece ∷ []) ++ glue (take n (drop (i + 1) text)) rest) none
-        ∙ append_assoc pieces (piece ∷ []) rest
-        ∙ ap (λ (ps : List (List ℕ)). pieces ++ ps) (sym (ap (glue piece) here ∙ first)) ∙ k.whole;
+          let here : pieces_of s (drop i text) ≡ [] ∷ rest = at_drop_more (pieces_of s) text i 0 within ∙ pieces-cut s (get_or text i 0) (drop (i + 1) text) e in
+          let none : i + 1 - (i + 1) ≡ 0 = omega arith in
+          let first : glue piece ([] ∷ rest) ≡ piece ∷ rest = glue-first piece [] rest ∙ ap (λ (l : List ℕ). l ∷ rest) (append-nil piece) in
+          ap (λ (n : ℕ). (pieces ++ piece ∷ []) ++ glue (take n (drop (i + 1) text)) rest) none
+          ∙ append_assoc pieces (piece ∷ []) rest
+          ∙ ap (λ (ps : List (List ℕ)). pieces ++ ps) (sym (ap (glue piece) here ∙ first)) ∙ k.whole;
     }
 
 pub cuts_end : (s start i : ℕ) (text : List ℕ) (pieces : List (List ℕ)) → Cuts s start i text pieces → length text ≤ i → pieces ++ drop start text ∷ [] ≡ pieces_of s text

@@ -98,7 +98,11 @@ pub fn read_front<S: Source>(
         }
         if !read_more(bytes, source)? {
             let len = bytes.len() - start;
-            return Ok(if len == 0 { Front::End } else { Front::Line(len) });
+            return Ok(if len == 0 {
+                Front::End
+            } else {
+                Front::Line(len)
+            });
         }
     }
 }

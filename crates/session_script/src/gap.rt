@@ -1,6 +1,5 @@
 //! Blanks and comments between the words of a line.
 
-
 /// Where a gap between two words stands.
 #[derive(Clone, Copy, Debug, PartialEq, Eq)]
 pub enum Gap {

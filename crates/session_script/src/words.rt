@@ -98,11 +98,7 @@ fn is_name(text: &[u8]) -> bool
 }
 
 // The pieces of a text between these separators.
-fn pieces_of<'t>(
-    alloc: Global,
-    text: &'t [u8],
-    separator: u8,
-) -> Result<Vec<&'t [u8]>, AllocError>
+fn pieces_of<'t>(alloc: Global, text: &'t [u8], separator: u8) -> Result<Vec<&'t [u8]>, AllocError>
     ensures { IfOk result (λ pieces. map (λ p. p.now) pieces.items ≡ pieces_of separator text.now) }
 {
     let mut pieces = Vec::new(alloc);

@@ -304,7 +304,6 @@ EndsScript (Err (Refused line kind)) status = status ≡ ScriptRefused line kind
 EndsScript (Err ScriptReadFault) status = status ≡ ReadFault
 EndsScript (Err ScriptNoMemory) status = status ≡ NoMemory
 
-
 told_told : (x y z : Option (List ℕ)) (P Q R : List ℕ → List ℕ → Type 0) → BothTold x y P → BothTold y z Q → ((a b c : List ℕ) → P a b → Q b c → R a c) → BothTold x z R
 told_told None y z P Q R p q h = tt
 told_told (Some a) None z P Q R p q h = absurd p

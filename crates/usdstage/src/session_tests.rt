@@ -144,17 +144,42 @@ fn lines_are_answered_up_to_the_end_or_to_the_first_refused_one(
             "published 1: batches 0, prims 1\n",
             "usdstage: script line 2: BadLine",
         ),
-        ("no commit", b"begin", "", "usdstage: script line 2: Unfinished"),
-        ("no commit behind a line feed", b"begin\n", "", "usdstage: script line 2: Unfinished"),
-        ("no begin", b"commit\n", "", "usdstage: script line 1: BadLine"),
-        ("two begins", b"begin\nbegin\n", "", "usdstage: script line 2: BadLine"),
+        (
+            "no commit",
+            b"begin",
+            "",
+            "usdstage: script line 2: Unfinished",
+        ),
+        (
+            "no commit behind a line feed",
+            b"begin\n",
+            "",
+            "usdstage: script line 2: Unfinished",
+        ),
+        (
+            "no begin",
+            b"commit\n",
+            "",
+            "usdstage: script line 1: BadLine",
+        ),
+        (
+            "two begins",
+            b"begin\nbegin\n",
+            "",
+            "usdstage: script line 2: BadLine",
+        ),
         (
             "an operation outside a batch",
             b"set @root.usda@ /A.x 2\n",
             "",
             "usdstage: script line 1: BadLine",
         ),
-        ("a publish in a batch", b"begin\npublish\n", "", "usdstage: script line 2: BadLine"),
+        (
+            "a publish in a batch",
+            b"begin\npublish\n",
+            "",
+            "usdstage: script line 2: BadLine",
+        ),
         (
             "a number past 32 bits",
             b"begin\nset @root.usda@ /A.x 2147483648\n",
@@ -173,9 +198,24 @@ fn lines_are_answered_up_to_the_end_or_to_the_first_refused_one(
             "published 1: batches 0, prims 1\n",
             "usdstage: script line 2: BadLine",
         ),
-        ("a comment without its end", b"/* publish\n", "", "usdstage: script line 1: BadLine"),
-        ("a word too many", b"publish publish\n", "", "usdstage: script line 1: BadLine"),
-        ("no layer's name", b"begin\nset @@ /A.x 2\n", "", "usdstage: script line 2: BadLine"),
+        (
+            "a comment without its end",
+            b"/* publish\n",
+            "",
+            "usdstage: script line 1: BadLine",
+        ),
+        (
+            "a word too many",
+            b"publish publish\n",
+            "",
+            "usdstage: script line 1: BadLine",
+        ),
+        (
+            "no layer's name",
+            b"begin\nset @@ /A.x 2\n",
+            "",
+            "usdstage: script line 2: BadLine",
+        ),
     ];
     for (what, script, replies, line) in table {
         for step in [1, 7, 100_000] {
@@ -213,7 +253,12 @@ fn faults_of_the_script_and_the_sink_end_a_session(rt: HostRuntime) -> Result<()
     // the reads and the writes that fail, what was written, and the line
     let table = [
         (1, 9, opening, reading),
-        (2, 9, "published 0: batches 0, prims 0\npublished 1: batches 0, prims 0\n", reading),
+        (
+            2,
+            9,
+            "published 0: batches 0, prims 0\npublished 1: batches 0, prims 0\n",
+            reading,
+        ),
         (9, 1, "", writing),
         (9, 2, opening, writing),
     ];

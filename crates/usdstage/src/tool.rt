@@ -50,11 +50,7 @@ fn not_yet(alloc: Global, root: &str) -> Status
 }
 
 // The root's layer, or how the run ends without one.
-fn read_root<F: LayerFiles>(
-    alloc: Global,
-    root: &str,
-    files: &mut F,
-) -> Result<FirstLayer, Status>
+fn read_root<F: LayerFiles>(alloc: Global, root: &str, files: &mut F) -> Result<FirstLayer, Status>
     ensures told { IfSome (F.files files.old) (λ f. IsRead (f root.now) root.now result) }
     ensures shallow { IfOk result (λ layer. nesting (layer_of layer) ≤ 64) }
     ensures flat { IfOk result (λ layer. flattened (layer_of layer) ≡ layer_of layer) }

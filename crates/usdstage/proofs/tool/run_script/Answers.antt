@@ -18,7 +18,7 @@ loop-steps-preserved g c =
     let w = c.in-Whole.ensures.whole refl in
     record {
       told = goes_on (g.S.Source.left c.args.script.now) (g.S.Source.left c.loop-steps.script) (g.S.Source.left c.next.new.source) (g.K.Sink.taken c.args.out.now) (g.K.Sink.taken c.loop-steps.out) (g.K.Sink.taken c.carry_out.new.out)
-        c.args.session c.loop-steps.session c.carry_out.new.session c.loop-steps.steps c.next.new.self c.in-Ok-Some.step i.told n w.0 w.1;
+          c.args.session c.loop-steps.session c.carry_out.new.session c.loop-steps.steps c.next.new.self c.in-Ok-Some.step i.told n w.0 w.1;
       read_later = omega (arith, i.read_later, c.in-Ok-Some.ensures.later);
       write_later = omega (arith, i.write_later, c.in-Whole.ensures.later);
     }

@@ -34,7 +34,7 @@ returns-in_err-step-in-Line-clause-answer g c =
     let e = p.1 ∙ ap Err p.2 in
     answered c.from_residual-in_err-step-in-Line.result c.take_front.new.self.line c.args.self.now c.loop-self.self c.next_front.new.self c.take_front.new.self _ _ _ _ i.told n.feeds f.3
     (λ b q. answer_of_take c.from_residual-in_err-step-in-Line.result c.next_front.new.self c.take_front.new.self b c.in_err-step-in-Line.field-0.0 e
-      (takes (Err c.in_err-step-in-Line.field-0.0) c.in-Line.len c.next_front.new.self c.take_front.new.self b none f.1 f.2 q c.in_err-step-in-Line.ensures))
+    (takes (Err c.in_err-step-in-Line.field-0.0) c.in-Line.len c.next_front.new.self c.take_front.new.self b none f.1 f.2 q c.in_err-step-in-Line.ensures))
 
 pub returns-in-Some-2-clause-answer : goal.returns-in-Some-2-clause-answer
 returns-in-Some-2-clause-answer g c =
@@ -55,7 +55,7 @@ loop-self-preserved g c =
     let took = rw c.in_default-2.is at c.in_ok-step-in-Line.ensures in
     record {
       told = goes_further c.args.self.now c.loop-self.self c.next_front.new.self c.take_front.new.self _ _ _ _ i.told n.feeds f.3
-      (λ b q. takes (Ok None) c.in-Line.len c.next_front.new.self c.take_front.new.self b none f.1 f.2 q took);
+          (λ b q. takes (Ok None) c.in-Line.len c.next_front.new.self c.take_front.new.self b none f.1 f.2 q took);
       goes_on = ap (λ (s : State). s.stopped) took.2 ∙ none;
       same_line = ap (λ (s : State). s.line) took.2 ∙ ap (λ (s : State). s.line) n.feeds.1 ∙ i.same_line;
       taken = omega (arith, ap (λ (s : State). s.taken) took.2, ap (λ (s : State). s.taken) n.feeds.1, i.taken);
