@@ -42,6 +42,47 @@ expect "a folder as the root" 3 '' 'usdstage: reading failed' flatten folder.usd
 expect "an absent root" 5 '' 'usdstage: none.usda: absent' flatten none.usda
 expect "another form" 10 '' 'usdstage: over.usda: not yet' flatten over.usda
 
+printf '#usda 1.0\ndef "A" { int x = 1 }' >"$folder/b.usda"
+
+# session NAME STATUS OUTPUT LINE SCRIPT: a session on b.usda, whose script stands on standard input
+session() {
+    local name=$1 status=$2 output=$3 line=$4
+    (cd "$folder" && printf '%b' "$5" | "$top/usdstage" session b.usda >out.txt 2>err.txt)
+    local got=$?
+    if [ "$got" = "$status" ] && [ "$(cat "$folder/out.txt")" = "$output" ] && [ "$(cat "$folder/err.txt")" = "$line" ]; then
+        passed=$((passed + 1))
+    else
+        failed=$((failed + 1))
+        echo "$name: status $got (wanted $status)"
+        echo "  written: $(head -c 200 "$folder/out.txt")"
+        echo "  said:    $(cat "$folder/err.txt") (wanted $line)"
+    fi
+}
+
+session "a session" 0 $'published 0: batches 0, prims 1\nbatch 1 accepted\npublished 1: batches 1, prims 1\ndefault /A.x: 2' '' \
+    'begin\nset @b.usda@ /A.x 2\ncommit\npublish\ndefault /A.x\n'
+session "a refused line" 6 $'published 0: batches 0, prims 1\npublished 1: batches 0, prims 1' 'usdstage: script line 2: BadLine' \
+    'publish\nnonsense\npublish\n'
+session "no commit" 6 'published 0: batches 0, prims 1' 'usdstage: script line 2: Unfinished' 'begin'
+
+# a person who types sees each answer before the next line
+cd "$folder"
+coproc typed { "$top/usdstage" session b.usda 2>err.txt; }
+cd "$top"
+read -r -t 60 first <&"${typed[0]}"
+echo 'default /A.x' >&"${typed[1]}"
+read -r -t 60 second <&"${typed[0]}"
+echo 'publish' >&"${typed[1]}"
+read -r -t 60 third <&"${typed[0]}"
+eval "exec ${typed[1]}>&-"
+wait
+if [ "$first" = 'published 0: batches 0, prims 1' ] && [ "$second" = 'default /A.x: 1' ] && [ "$third" = 'published 1: batches 0, prims 1' ]; then
+    passed=$((passed + 1))
+else
+    failed=$((failed + 1))
+    echo "lines that are typed: $first; $second; $third"
+fi
+
 if [ -w /dev/full ]; then
     said=$(cd "$folder" && "$top/usdstage" flatten a.usda 2>&1 >/dev/full </dev/null)
     if [ $? = 4 ] && [ "$said" = 'usdstage: writing failed' ]; then

@@ -11,10 +11,25 @@ use Rattle.first_writer.specs.Canonical.{canonical}
 use Rattle.io_edges.specs.Edges.{most, FetchTells}
 use Rattle.io_edges.specs.declared.Fetched.TheVariants.{Found}
 use Rattle.usdstage.specs.Command.{command_of}
-use Rattle.usdstage.proofs.Flat.{flattened_form}
-use Rattle.usdstage.specs.Outcome.{IsOutput, IsOutcome, IsDue, EndsAsDue, IsOtherForm, IsNamed, EndsEarly, IsText}
+use Rattle.usdstage.specs.Outcome.{IsCourse, CommandCourse, FileCourse, LayerCourse, LayerOutcome, ScriptOutcome, IsWriteError, IsFront, IsOutcome, IsScript, EndsAsDue, IsOtherForm, IsNamed, EndsEarly, IsRead, ended_by}
 use Rattle.usdstage.specs.declared.status.Status.{Status}
-use Rattle.usdstage.specs.declared.status.Status.TheVariants.{Done, Usage, ReadFault, WriteFault, RootRefused, NotYet, NoMemory}
+use Rattle.usdstage.specs.declared.status.Status.TheVariants.{Done, Usage, ReadFault, WriteFault, RootRefused, NotYet, ScriptRefused, NoMemory}
+use Rattle.usdstage.specs.declared.words.Verb.{Verb}
+use Rattle.usdstage.specs.declared.words.Verb.TheVariants.{Flatten, Session}
+use Rattle.first_layer.specs.declared.FirstLayer.{FirstLayer}
+use Rattle.first_layer.specs.Layer.{layer_of}
+use Rattle.session_script.specs.declared.faults.ScriptKind.{ScriptKind}
+use Rattle.session_script.specs.Reading.{Steps, steps_of, ended, step}
+use Rattle.session_script.specs.Reading as reading
+use Rattle.session_script.specs.Told.{BothTold}
+use Rattle.session_script.specs.States.{State, steps_left, AnswersNext}
+use Rattle.session_script.specs.declared.faults.ScriptFault.{ScriptFault}
+use Rattle.session_script.specs.declared.faults.ScriptFault.TheVariants.{Refused, ReadFault as ScriptReadFault, NoMemory as ScriptNoMemory}
+use Rattle.first_stage.specs.Drafts.{table_of}
+use Rattle.first_session.specs.Replies.{replies, refusal, output, opening, opening_text, reply_to, after}
+use Rattle.first_session.specs.Replies as sessions
+use Rattle.session_script.specs.declared.steps.Step.{Step}
+use Rattle.usdstage.specs.Stage.{flattened}
 
 abbrev Files : Type 0
 Files = List ℕ → Option (List ℕ)
@@ -40,22 +55,23 @@ whole_file bytes short = take_all most bytes (omega arith)
 short_file : (bytes : List ℕ) → length (take most bytes) ≤ 67108864 → length bytes ≤ 67108864
 short_file bytes short = omega (arith, length-take most bytes)
 
-pub told_ok : (told : Option Files) (root fetched : List ℕ) (layer : Forest) (text : Vec ℕ) → IfSome told (λ f. FetchTells Found (f root) [] fetched) → IsFirstForm fetched layer → text.items ≡ canonical layer
-    → IfSome told (λ f. IsText (f root) root (Ok text))
-told_ok None root fetched layer text gave form canon = tt
-told_ok (Some f) root fetched layer text (bytes, file, e) form canon =
-    let front : IsFirstForm (take most bytes) layer = subst (λ (x : List ℕ). IsFirstForm x layer) e form in
+pub told_ok : (told : Option Files) (root fetched : List ℕ) (layer : FirstLayer) → IfSome told (λ f. FetchTells Found (f root) [] fetched) → IsFirstForm fetched (layer_of layer)
+    → IfSome told (λ f. IsRead (f root) root (Ok layer))
+told_ok None root fetched layer gave form = tt
+told_ok (Some f) root fetched layer (bytes, file, e) form =
+    let front : IsFirstForm (take most bytes) (layer_of layer) = subst (λ (x : List ℕ). IsFirstForm x (layer_of layer)) e form in
     let whole : take most bytes ≡ bytes = whole_file bytes (short_file bytes front.size) in
-    (bytes, layer, file, subst (λ (x : List ℕ). IsFirstForm x layer) whole front, canon ∙ ap canonical (sym (flattened_form fetched layer form)))
+    (bytes, file, subst (λ (x : List ℕ). IsFirstForm x (layer_of layer)) whole front)
 
 pub told_not_yet : (told : Option Files) (root fetched : List ℕ) (status : Status) → IfSome told (λ f. FetchTells Found (f root) [] fetched) → ((layer : Forest) → IsFirstForm fetched layer → ⊥)
-    → IsNamed status (λ n. ⊥) (λ n. n ≡ root) → IfSome told (λ f. IsText (f root) root (Err status))
+    → IsNamed status (λ n. ⊥) (λ n. n ≡ root) → IfSome told (λ f. IsRead (f root) root (Err status))
 told_not_yet None root fetched status gave refused named = tt
 told_not_yet (Some f) root fetched Done gave refused named = absurd named
 told_not_yet (Some f) root fetched Usage gave refused named = absurd named
 told_not_yet (Some f) root fetched ReadFault gave refused named = absurd named
 told_not_yet (Some f) root fetched WriteFault gave refused named = absurd named
 told_not_yet (Some f) root fetched (RootRefused name) gave refused named = absurd named
+told_not_yet (Some f) root fetched (ScriptRefused line kind) gave refused named = absurd named
 told_not_yet (Some f) root fetched NoMemory gave refused named = tt
 told_not_yet (Some f) root fetched (NotYet name) (bytes, file, e) refused named = (
   bytes,
@@ -68,126 +84,283 @@ told_not_yet (Some f) root fetched (NotYet name) (bytes, file, e) refused named 
 
 -- ---- a run that writes nothing
 
-renamed : (words : List (List ℕ)) (root name : List ℕ) → command_of words ≡ Some root → name ≡ root → command_of words ≡ Some name
-renamed words root name command e = command ∙ ap Some (sym e)
+abbrev Words : Type 0
+Words = List (List ℕ)
 
-pub early : (told : Option Files) (words : List (List ℕ)) (root : List ℕ) (status : Status) (out : Option (List ℕ)) → command_of words ≡ Some root → EndsEarly (Err status)
-    → IfSome told (λ f. IsText (f root) root (Err status)) → IfSome told (λ f. (written : List ℕ) × IsOutcome words f status written × Appends out out written)
-early None words root status out command kind text = tt
-early (Some f) words root Done out command kind text = absurd kind
-early (Some f) words root Usage out command kind text = absurd kind
-early (Some f) words root ReadFault out command kind text = ([], (root, command, refl), appends_none out)
-early (Some f) words root WriteFault out command kind text = absurd kind
-early (Some f) words root (RootRefused name) out command kind (named, none) = ([], (renamed words root name command named, ap f named ∙ none, refl), appends_none out)
-early (Some f) words root (NotYet name) out command kind (bytes, named, file, refused) = ([], (bytes, renamed words root name command named, ap f named ∙ file, refused, refl), appends_none out)
-early (Some f) words root NoMemory out command kind text = ([], (root, command, inl refl), appends_none out)
+abbrev Command : Type 0
+Command = Option (Verb × List ℕ)
 
-same_root : (words : List (List ℕ)) (root other : List ℕ) → command_of words ≡ Some root → command_of words ≡ Some other → root ≡ other
-same_root words root other a b = let f : Some root ≡ Some other = sym a ∙ b in cc
+-- the course of a command behind the root's layer
+pub lay : (words : Words) (f : Files) (verb : Verb) (root bytes script text : List ℕ) (prims : Forest) (status : Status) → command_of words ≡ Some (verb, root) → f root ≡ Some bytes → IsFirstForm bytes prims
+    → LayerCourse verb root prims script text status → IsCourse words f script text status
+lay words f verb root bytes script text prims status command file form course = rw (command, file) (inr (prims, form, course))
 
-usage_due : (words : List (List ℕ)) (f : Files) (due : Status) → command_of words ≡ None → IsDue words f due → (Usage ≡ due) ⊎ (Usage ≡ NoMemory)
-usage_due words f Done none (text, o) = let both : None ≡ Some o.root = sym none ∙ o.command in absurd cc
-usage_due words f Usage none d = inl refl
-usage_due words f ReadFault none d = absurd d
-usage_due words f WriteFault none d = absurd d
-usage_due words f (RootRefused name) none (named, gone) = let both : None ≡ Some name = sym none ∙ named in absurd cc
-usage_due words f (NotYet name) none (bytes, named, file, refused) = let both : None ≡ Some name = sym none ∙ named in absurd cc
-usage_due words f NoMemory none d = absurd d
+pub usage_outcome : (told : Option Files) (words : Words) (left out : Option (List ℕ)) → command_of words ≡ None
+    → IfSome told (λ f. (s : List ℕ) → IsScript (command_of words) left s → (written : List ℕ) × IsOutcome words f s Usage written × Appends out out written)
+usage_outcome None words left out none = tt
+usage_outcome (Some f) words left out none = λ s is. ([], rw none (refl, refl), appends_none out)
 
-absent_due : (words : List (List ℕ)) (f : Files) (root name : List ℕ) (due : Status) → command_of words ≡ Some root → name ≡ root → f root ≡ None → IsDue words f due → (RootRefused name ≡ due) ⊎ (RootRefused name ≡ NoMemory)
-absent_due words f root name Done command is none (text, o) =
-    let here : f root ≡ Some o.bytes = ap f (same_root words root o.root command o.command) ∙ o.file in
-    let both : None ≡ Some o.bytes = sym none ∙ here in absurd cc
-absent_due words f root name Usage command is none d = let both : Some root ≡ None = sym command ∙ d in absurd cc
-absent_due words f root name ReadFault command is none d = absurd d
-absent_due words f root name WriteFault command is none d = absurd d
-absent_due words f root name (RootRefused other) command is none (named, gone) = inl (ap RootRefused (is ∙ same_root words root other command named))
-absent_due words f root name (NotYet other) command is none (bytes, named, file, refused) =
-    let here : f root ≡ Some bytes = ap f (same_root words root other command named) ∙ file in
-    let both : None ≡ Some bytes = sym none ∙ here in absurd cc
-absent_due words f root name NoMemory command is none d = absurd d
-
-other_due : (words : List (List ℕ)) (f : Files) (root name found : List ℕ) (due : Status) → command_of words ≡ Some root → name ≡ root → f root ≡ Some found → IsOtherForm found → IsDue words f due → (NotYet name ≡ due) ⊎ (NotYet name ≡ NoMemory)
-other_due words f root name found Done command is had refused (text, o) =
-    let here : f root ≡ Some o.bytes = ap f (same_root words root o.root command o.command) ∙ o.file in
-    let both : Some found ≡ Some o.bytes = sym had ∙ here in
-    let same : found ≡ o.bytes = cc in
-    absurd (refused o.prims (subst (λ (x : List ℕ). IsFirstForm x o.prims) (sym same) o.form))
-other_due words f root name found Usage command is had refused d = let both : Some root ≡ None = sym command ∙ d in absurd cc
-other_due words f root name found ReadFault command is had refused d = absurd d
-other_due words f root name found WriteFault command is had refused d = absurd d
-other_due words f root name found (RootRefused other) command is had refused (named, gone) =
-    let here : f root ≡ None = ap f (same_root words root other command named) ∙ gone in
-    let both : Some found ≡ None = sym had ∙ here in absurd cc
-other_due words f root name found (NotYet other) command is had refused (bytes, named, file, others) = inl (ap NotYet (is ∙ same_root words root other command named))
-other_due words f root name found NoMemory command is had refused d = absurd d
-
--- words that are no command are due as such
-pub usage_complete : (told : Option Files) (words : List (List ℕ)) (R W : Type 0) → command_of words ≡ None → IfSome told (λ f. (R → ⊥) → (W → ⊥) → EndsAsDue words f Usage)
-usage_complete None words R W none = tt
-usage_complete (Some f) words R W none = λ calm dry due d. usage_due words f due none d
-
--- a run that ends early ends as it should, unless memory runs out
-pub early_complete : (told : Option Files) (words : List (List ℕ)) (root : List ℕ) (status : Status) (R W : Type 0) → command_of words ≡ Some root → EndsEarly (Err status)
-    → IfSome told (λ f. IsText (f root) root (Err status)) → (status ≡ ReadFault → R)
-    → IfSome told (λ f. (R → ⊥) → (W → ⊥) → EndsAsDue words f status)
-early_complete None words root status R W command kind text cause = tt
-early_complete (Some f) words root Done R W command kind text cause = absurd kind
-early_complete (Some f) words root Usage R W command kind text cause = absurd kind
-early_complete (Some f) words root ReadFault R W command kind text cause = λ calm dry due is. absurd (calm (cause refl))
-early_complete (Some f) words root WriteFault R W command kind text cause = absurd kind
-early_complete (Some f) words root (RootRefused name) R W command kind (is, none) cause = λ calm dry due d. absent_due words f root name due command is none d
-early_complete (Some f) words root (NotYet name) R W command kind (found, is, had, refused) cause = λ calm dry due d. other_due words f root name found due command is had refused d
-early_complete (Some f) words root NoMemory R W command kind text cause = λ calm dry due is. inr refl
+-- a run that ends before a layer is read has written nothing
+pub early : (told : Option Files) (words : Words) (verb : Verb) (root : List ℕ) (status : Status) (left out : Option (List ℕ)) → command_of words ≡ Some (verb, root) → EndsEarly (Err status)
+    → IfSome told (λ f. IsRead (f root) root (Err status)) → IfSome told (λ f. (s : List ℕ) → IsScript (command_of words) left s → (written : List ℕ) × IsOutcome words f s status written × Appends out out written)
+early None words verb root status left out command kind text = tt
+early (Some f) words verb root Done left out command kind text = absurd kind
+early (Some f) words verb root Usage left out command kind text = absurd kind
+early (Some f) words verb root ReadFault left out command kind text = λ s is. ([], inl refl, appends_none out)
+early (Some f) words verb root WriteFault left out command kind text = absurd kind
+early (Some f) words verb root (RootRefused name) left out command kind (named, none) = λ s is. ([], rw (command, none) (refl, ap RootRefused named), appends_none out)
+early (Some f) words verb root (NotYet name) left out command kind (bytes, named, file, refused) = λ s is. ([], rw (command, file) (inl (refused, refl, ap NotYet named)), appends_none out)
+early (Some f) words verb root (ScriptRefused line kind) left out command k text = absurd k
+early (Some f) words verb root NoMemory left out command kind text = λ s is. ([], inl refl, appends_none out)
 
 -- ---- a run that writes
 
-output : (words : List (List ℕ)) (f : Files) (root : List ℕ) (text : Vec ℕ) (written more : List ℕ) → command_of words ≡ Some root → IsText (f root) root (Ok text) → text.items ≡ written ++ more → IsOutput words f (written ++ more)
-output words f root text written more command (bytes, layer, file, form, canon) e = record { root = root; bytes = bytes; prims = layer; command = command; file = file; form = form; canon = sym e ∙ canon }
+pub late : (words : Words) (f : Files) (verb : Verb) (root bytes script written : List ℕ) (prims : Forest) (status : Status) → command_of words ≡ Some (verb, root) → f root ≡ Some bytes → IsFirstForm bytes prims
+    → LayerOutcome verb root prims script status written → IsOutcome words f script status written
+late words f verb root bytes script written prims Done command file form o = lay words f verb root bytes script written prims Done command file form o
+late words f verb root bytes script written prims Usage command file form o = absurd o
+late words f verb root bytes script written prims (RootRefused name) command file form o = absurd o
+late words f verb root bytes script written prims (NotYet name) command file form o = absurd o
+late words f verb root bytes script written prims (ScriptRefused line kind) command file form o = lay words f verb root bytes script written prims (ScriptRefused line kind) command file form o
+late words f verb root bytes script written prims ReadFault command file form (more, due, o) = inr (more, due, lay words f verb root bytes script (written ++ more) prims due command file form o)
+late words f verb root bytes script written prims WriteFault command file form (more, due, o) = (more, due, lay words f verb root bytes script (written ++ more) prims due command file form o)
+late words f verb root bytes script written prims NoMemory command file form (inl none) = inl none
+late words f verb root bytes script written prims NoMemory command file form (inr (more, due, o)) = inr (more, due, lay words f verb root bytes script (written ++ more) prims due command file form o)
 
-pub all_written : (told : Option Files) (words : List (List ℕ)) (root : List ℕ) (text : Vec ℕ) (a b : Option (List ℕ)) → command_of words ≡ Some root → IfSome told (λ f. IsText (f root) root (Ok text)) → Appends a b text.items
-    → IfSome told (λ f. (written : List ℕ) × IsOutcome words f Done written × Appends a b written)
-all_written None words root text a b command told appends = tt
-all_written (Some f) words root text a b command (bytes, layer, file, form, canon) appends = (text.items, record { root = root; bytes = bytes; prims = layer; command = command; file = file; form = form; canon = canon }, appends)
+pub flat_outcome : (told : Option Files) (words : Words) (root : List ℕ) (layer : FirstLayer) (status : Status) (left a b : Option (List ℕ)) → command_of words ≡ Some (Flatten, root)
+    → IfSome told (λ f. IsRead (f root) root (Ok layer)) → ((s : List ℕ) → (written : List ℕ) × LayerOutcome Flatten root (layer_of layer) s status written × Appends a b written)
+    → IfSome told (λ f. (s : List ℕ) → IsScript (command_of words) left s → (written : List ℕ) × IsOutcome words f s status written × Appends a b written)
+flat_outcome None words root layer status left a b command read o = tt
+flat_outcome (Some f) words root layer status left a b command (bytes, file, form) o = λ s is. let w = o s in (w.0, late words f Flatten root bytes s w.0 (layer_of layer) status command file form w.1, w.2)
 
-pub front_written : (told : Option Files) (words : List (List ℕ)) (root : List ℕ) (text : Vec ℕ) (n : ℕ) (a b : Option (List ℕ)) → command_of words ≡ Some root → IfSome told (λ f. IsText (f root) root (Ok text)) → Appends a b (take n text.items)
-    → IfSome told (λ f. (written : List ℕ) × IsOutcome words f WriteFault written × Appends a b written)
-front_written None words root text n a b command told appends = tt
-front_written (Some f) words root text n a b command told appends =
-    (take n text.items, (drop n text.items, output words f root text (take n text.items) (drop n text.items) command told (sym (take-append-drop n text.items))), appends)
+told_script : (left : Option (List ℕ)) (s : List ℕ) (P : List ℕ → Type 0) → left ≡ Some s → IfSome left P → P s
+told_script None s P e p = absurd cc
+told_script (Some x) s P e p = let same : x ≡ s = cc in subst P same p
 
-pub front_kept : (told : Option Files) (words : List (List ℕ)) (root : List ℕ) (text : Vec ℕ) (n : ℕ) (a b : Option (List ℕ)) → command_of words ≡ Some root → IfSome told (λ f. IsText (f root) root (Ok text)) → Appends a b (take n text.items)
-    → IfSome told (λ f. (written : List ℕ) × IsOutcome words f NoMemory written × Appends a b written)
-front_kept None words root text n a b command told appends = tt
-front_kept (Some f) words root text n a b command told appends =
-    (take n text.items, (root, command, inr (drop n text.items, output words f root text (take n text.items) (drop n text.items) command told (sym (take-append-drop n text.items)))), appends)
+pub session_outcome : (told : Option Files) (words : Words) (root : List ℕ) (layer : FirstLayer) (status : Status) (left a b : Option (List ℕ)) → command_of words ≡ Some (Session, root)
+    → IfSome told (λ f. IsRead (f root) root (Ok layer)) → IfSome left (λ s. (written : List ℕ) × LayerOutcome Session root (layer_of layer) s status written × Appends a b written)
+    → IfSome told (λ f. (s : List ℕ) → IsScript (command_of words) left s → (written : List ℕ) × IsOutcome words f s status written × Appends a b written)
+session_outcome None words root layer status left a b command read o = tt
+session_outcome (Some f) words root layer status left a b command (bytes, file, form) o = λ s is.
+    let here : left ≡ Some s = rw command at is in
+    let w = told_script left s (λ (s : List ℕ). (written : List ℕ) × LayerOutcome Session root (layer_of layer) s status written × Appends a b written) here o in
+    (w.0, late words f Session root bytes s w.0 (layer_of layer) status command file form w.1, w.2)
 
-done_due : (words : List (List ℕ)) (f : Files) (root : List ℕ) (text : Vec ℕ) (due : Status) → command_of words ≡ Some root → IsText (f root) root (Ok text) → IsDue words f due → (Done ≡ due) ⊎ (Done ≡ NoMemory)
-done_due words f root text Done command is d = inl refl
-done_due words f root text Usage command is d = let both : Some root ≡ None = sym command ∙ d in absurd cc
-done_due words f root text ReadFault command is d = absurd d
-done_due words f root text WriteFault command is d = absurd d
-done_due words f root text (RootRefused other) command (bytes, layer, file, form, canon) (named, gone) =
-    let here : f root ≡ None = ap f (same_root words root other command named) ∙ gone in
-    let both : Some bytes ≡ None = sym file ∙ here in absurd cc
-done_due words f root text (NotYet other) command (bytes, layer, file, form, canon) (more, named, had, refused) =
-    let here : f root ≡ Some more = ap f (same_root words root other command named) ∙ had in
-    let both : Some bytes ≡ Some more = sym file ∙ here in
-    let same : bytes ≡ more = cc in
-    absurd (refused layer (subst (λ (x : List ℕ). IsFirstForm x layer) same form))
-done_due words f root text NoMemory command is d = absurd d
+-- ---- a run ends as it should
 
--- a run that wrote all of the text ends as it should
-pub done_complete : (told : Option Files) (words : List (List ℕ)) (root : List ℕ) (text : Vec ℕ) (R W : Type 0) → command_of words ≡ Some root → IfSome told (λ f. IsText (f root) root (Ok text))
-    → IfSome told (λ f. (R → ⊥) → (W → ⊥) → EndsAsDue words f Done)
-done_complete None words root text R W command is = tt
-done_complete (Some f) words root text R W command is = λ calm dry due d. done_due words f root text due command is d
+layer_once : (verb : Verb) (root : List ℕ) (p q : Forest) (script t u : List ℕ) (a b : Status) → LayerCourse verb root p script t a → LayerCourse verb root q script u b → a ≡ b
+layer_once Flatten root p q script t u a b x y = x.1 ∙ sym y.1
+layer_once Session root p q script t u a b x y = x.1 ∙ sym y.1
 
--- a run at which a write failed, or memory ran out, has to say so
-pub failed_complete : (told : Option Files) (words : List (List ℕ)) (R W : Type 0) → W → IfSome told (λ f. (R → ⊥) → (W → ⊥) → EndsAsDue words f WriteFault)
-failed_complete None words R W rose = tt
-failed_complete (Some f) words R W rose = λ calm dry due d. absurd (dry rose)
+file_once : (verb : Verb) (root : List ℕ) (file : Option (List ℕ)) (script t u : List ℕ) (a b : Status) → FileCourse verb root file script t a → FileCourse verb root file script u b → a ≡ b
+file_once verb root None script t u a b x y = x.1 ∙ sym y.1
+file_once verb root (Some bytes) script t u a b (inl x) (inl y) = x.2 ∙ sym y.2
+file_once verb root (Some bytes) script t u a b (inl x) (inr y) = absurd (x.0 y.0 y.1)
+file_once verb root (Some bytes) script t u a b (inr x) (inl y) = absurd (y.0 x.0 x.1)
+file_once verb root (Some bytes) script t u a b (inr x) (inr y) = layer_once verb root x.0 y.0 script t u a b x.2 y.2
 
-pub memory_complete : (told : Option Files) (words : List (List ℕ)) (R W : Type 0) → IfSome told (λ f. (R → ⊥) → (W → ⊥) → EndsAsDue words f NoMemory)
-memory_complete None words R W = tt
-memory_complete (Some f) words R W = λ calm dry due d. inr refl
+command_once : (c : Command) (f : Files) (script t u : List ℕ) (a b : Status) → CommandCourse c f script t a → CommandCourse c f script u b → a ≡ b
+command_once None f script t u a b x y = x.1 ∙ sym y.1
+command_once (Some c) f script t u a b x y = file_once c.0 c.1 (f c.1) script t u a b x y
+
+-- a run without faults ends in one way
+pub ends : (words : Words) (f : Files) (script written : List ℕ) (status : Status) (R S W : Type 0) → (status ≡ ReadFault → R ⊎ S) → (status ≡ WriteFault → W) → IsOutcome words f script status written
+    → (R → ⊥) → (S → ⊥) → (W → ⊥) → EndsAsDue words f script status
+ends words f script written Done R S W read write o r s w = λ text due d. inl (command_once (command_of words) f script written text Done due o d)
+ends words f script written Usage R S W read write o r s w = λ text due d. inl (command_once (command_of words) f script written text Usage due o d)
+ends words f script written (RootRefused name) R S W read write o r s w = λ text due d. inl (command_once (command_of words) f script written text (RootRefused name) due o d)
+ends words f script written (NotYet name) R S W read write o r s w = λ text due d. inl (command_once (command_of words) f script written text (NotYet name) due o d)
+ends words f script written (ScriptRefused line kind) R S W read write o r s w = λ text due d. inl (command_once (command_of words) f script written text (ScriptRefused line kind) due o d)
+ends words f script written ReadFault R S W read write o r s w = λ text due d. elim (read refl) [ inl x ↦ absurd (r x) | inr x ↦ absurd (s x) ]
+ends words f script written WriteFault R S W read write o r s w = λ text due d. absurd (w (write refl))
+ends words f script written NoMemory R S W read write o r s w = λ text due d. inr refl
+
+-- the outcome says how it ends
+pub complete : (told : Option Files) (words : Words) (status : Status) (left a b : Option (List ℕ)) (R S W : Type 0) → (status ≡ ReadFault → R ⊎ S) → (status ≡ WriteFault → W)
+    → IfSome told (λ f. (s : List ℕ) → IsScript (command_of words) left s → (written : List ℕ) × IsOutcome words f s status written × Appends a b written)
+    → IfSome told (λ f. (s : List ℕ) → IsScript (command_of words) left s → (R → ⊥) → (S → ⊥) → (W → ⊥) → EndsAsDue words f s status)
+complete None words status left a b R S W read write o = tt
+complete (Some f) words status left a b R S W read write o = λ s is r q w. let x = o s is in ends words f s x.0 status R S W read write x.1 r q w
+
+-- ---- a flattened layer
+
+pub flat_done : (root script : List ℕ) (prims : Forest) (text : List ℕ) → flattened prims ≡ prims → text ≡ canonical prims → LayerCourse Flatten root prims script text Done
+flat_done root script prims text flat e = (e ∙ ap canonical (sym flat), refl)
+
+pub flat_front : (root script : List ℕ) (prims : Forest) (text : List ℕ) (n : ℕ) → flattened prims ≡ prims → text ≡ canonical prims
+    → (more : List ℕ) × (due : Status) × LayerCourse Flatten root prims script (take n text ++ more) due
+flat_front root script prims text n flat e = (drop n text, Done, (take-append-drop n text ∙ e ∙ ap canonical (sym flat), refl))
+
+-- ---- the replies to a script
+
+-- what a session wrote so far, and the steps that are left of those of its script
+pub record Reached (start now : sessions.Session) (all left : Steps) (a b : Option (List ℕ)) : Type 0 where
+  pub written : List ℕ
+  pub appends : Appends a b written
+  pub whole : written ++ replies now left ≡ replies start all
+  pub same : refusal left ≡ refusal all
+
+replies-step : (s : sessions.Session) (line : ℕ) (next : Step) (more : Steps) → replies s (step line next more) ≡ reply_to s next ++ replies (after s next) more
+unfolding replies
+replies-step s line next more = refl
+
+replies-ended : (s : sessions.Session) → replies s ended ≡ []
+unfolding replies
+replies-ended s = refl
+
+replies-refused : (s : sessions.Session) (line : ℕ) (kind : ScriptKind) → replies s (reading.refused line kind) ≡ []
+unfolding replies
+replies-refused s line kind = refl
+
+appends_then : (a b c : Option (List ℕ)) (x y : List ℕ) → Appends a b x → Appends b c y → Appends a c (x ++ y)
+appends_then None b c x y p q = tt
+appends_then (Some a) None c x y p q = absurd p
+appends_then (Some a) (Some b) None x y p q = absurd q
+appends_then (Some a) (Some b) (Some c) x y p q = q ∙ ap (λ (l : List ℕ). l ++ y) p ∙ append_assoc a x y
+
+-- one step more, whose reply was written whole
+pub reached_more : (start now next : sessions.Session) (all before left : Steps) (a b c : Option (List ℕ)) (line : ℕ) (s : Step) → Reached start now all before a b → before ≡ step line s left
+    → Appends b c (reply_to now s) → next ≡ after now s → Reached start next all left a c
+reached_more start now next all before left a b c line s r e wrote is =
+    let here : replies now before ≡ reply_to now s ++ replies next left = ap (replies now) e ∙ replies-step now line s left ∙ ap (λ (n : sessions.Session). reply_to now s ++ replies n left) (sym is) in
+    record {
+      written = r.written ++ reply_to now s;
+      appends = appends_then a b c r.written (reply_to now s) r.appends wrote;
+      whole = append_assoc r.written (reply_to now s) (replies next left) ∙ ap (λ (l : List ℕ). r.written ++ l) (sym here) ∙ r.whole;
+      same = ap refusal (sym e) ∙ r.same;
+    }
+
+-- the front of a reply was written
+pub reached_front : (start now : sessions.Session) (all before left : Steps) (a b c : Option (List ℕ)) (line n : ℕ) (s : Step) → Reached start now all before a b → before ≡ step line s left
+    → Appends b c (take n (reply_to now s)) → (written : List ℕ) × ((more : List ℕ) × (written ++ more ≡ replies start all)) × Appends a c written
+reached_front start now all before left a b c line n s r e wrote =
+    let reply = reply_to now s in
+    let rest = replies (after now s) left in
+    let here : replies now before ≡ reply ++ rest = ap (replies now) e ∙ replies-step now line s left in
+    let cut : take n reply ++ (drop n reply ++ rest) ≡ replies now before = sym (append_assoc (take n reply) (drop n reply) rest) ∙ ap (λ (l : List ℕ). l ++ rest) (take-append-drop n reply) ∙ sym here in
+    (r.written ++ take n reply, (drop n reply ++ rest, append_assoc r.written (take n reply) (drop n reply ++ rest) ∙ ap (λ (l : List ℕ). r.written ++ l) cut ∙ r.whole), appends_then a b c r.written (take n reply) r.appends wrote)
+
+-- the run stops between two steps
+pub reached_here : (start now : sessions.Session) (all left : Steps) (a b : Option (List ℕ)) → Reached start now all left a b → (written : List ℕ) × ((more : List ℕ) × (written ++ more ≡ replies start all)) × Appends a b written
+reached_here start now all left a b r = (r.written, (replies now left, r.whole), r.appends)
+
+pub reached_end : (start now : sessions.Session) (all left : Steps) (a b : Option (List ℕ)) → Reached start now all left a b → left ≡ ended → (written : List ℕ) × ((written ≡ replies start all) × (refusal all ≡ None)) × Appends a b written
+reached_end start now all left a b r e =
+    let none : replies now left ≡ [] = ap (replies now) e ∙ replies-ended now in
+    (r.written, (sym (append-nil r.written) ∙ ap (λ (l : List ℕ). r.written ++ l) (sym none) ∙ r.whole, sym r.same ∙ ap refusal e), r.appends)
+
+pub reached_refusal : (start now : sessions.Session) (all left : Steps) (a b : Option (List ℕ)) (line : ℕ) (kind : ScriptKind) → Reached start now all left a b → left ≡ reading.refused line kind
+    → (written : List ℕ) × ((written ≡ replies start all) × (refusal all ≡ Some (line, kind))) × Appends a b written
+reached_refusal start now all left a b line kind r e =
+    let none : replies now left ≡ [] = ap (replies now) e ∙ replies-refused now line kind in
+    (r.written, (sym (append-nil r.written) ∙ ap (λ (l : List ℕ). r.written ++ l) (sym none) ∙ r.whole, sym r.same ∙ ap refusal e), r.appends)
+
+-- ---- a session from its opening on
+
+ended_at : (root : List ℕ) (prims : Forest) (all written : List ℕ) (status : Status) → written ≡ replies (opening (table_of root prims)) (steps_of all) → status ≡ ended_by (refusal (steps_of all))
+    → LayerCourse Session root prims all (opening_text (table_of root prims) ++ written) status
+ended_at root prims all written status e is = (ap (λ (l : List ℕ). opening_text (table_of root prims) ++ l) e, is)
+
+front_at : (root : List ℕ) (prims : Forest) (all written more : List ℕ) → written ++ more ≡ replies (opening (table_of root prims)) (steps_of all)
+    → (rest : List ℕ) × (due : Status) × LayerCourse Session root prims all ((opening_text (table_of root prims) ++ written) ++ rest) due
+front_at root prims all written more e = (more, ended_by (refusal (steps_of all)), (append_assoc (opening_text (table_of root prims)) written more ∙ ap (λ (l : List ℕ). opening_text (table_of root prims) ++ l) e, refl))
+
+by_status : (root : List ℕ) (prims : Forest) (all written : List ℕ) (status : Status) → ScriptOutcome (opening (table_of root prims)) (steps_of all) status written
+    → LayerOutcome Session root prims all status (opening_text (table_of root prims) ++ written)
+by_status root prims all written Done (e, r) = ended_at root prims all written Done e (ap ended_by (sym r))
+by_status root prims all written Usage o = absurd o
+by_status root prims all written (RootRefused name) o = absurd o
+by_status root prims all written (NotYet name) o = absurd o
+by_status root prims all written (ScriptRefused line kind) (e, r) = ended_at root prims all written (ScriptRefused line kind) e (ap ended_by (sym r))
+by_status root prims all written ReadFault (more, e) = front_at root prims all written more e
+by_status root prims all written WriteFault (more, e) = front_at root prims all written more e
+by_status root prims all written NoMemory (more, e) = inr (front_at root prims all written more e)
+
+opening_more : (root : List ℕ) (prims : Forest) (all : List ℕ) (n : ℕ) → (more : List ℕ) × (due : Status) × LayerCourse Session root prims all (take n (opening_text (table_of root prims)) ++ more) due
+opening_more root prims all n =
+    let text = opening_text (table_of root prims) in
+    let rest = replies (opening (table_of root prims)) (steps_of all) in
+    (drop n text ++ rest, ended_by (refusal (steps_of all)), (sym (append_assoc (take n text) (drop n text) rest) ∙ ap (λ (l : List ℕ). l ++ rest) (take-append-drop n text), refl))
+
+-- what was written behind the opening, and before it the reply to the opening
+pub opened_outcome : (root : List ℕ) (prims : Forest) (all written : List ℕ) (status : Status) (a b c : Option (List ℕ)) → Appends a b (opening_text (table_of root prims)) → Appends b c written
+    → ScriptOutcome (opening (table_of root prims)) (steps_of all) status written
+    → (text : List ℕ) × LayerOutcome Session root prims all status text × Appends a c text
+opened_outcome root prims all written status a b c first then o = (opening_text (table_of root prims) ++ written, by_status root prims all written status o, appends_then a b c (opening_text (table_of root prims)) written first then)
+
+-- the front of the reply to the opening was written
+pub opening_front : (root : List ℕ) (prims : Forest) (all : List ℕ) (n : ℕ) (status : Status) (a b : Option (List ℕ)) → IsWriteError status → Appends a b (take n (opening_text (table_of root prims)))
+    → (text : List ℕ) × LayerOutcome Session root prims all status text × Appends a b text
+opening_front root prims all n status a b (inl e) wrote = (take n (opening_text (table_of root prims)), rw e (opening_more root prims all n), wrote)
+opening_front root prims all n status a b (inr e) wrote = (take n (opening_text (table_of root prims)), rw e (inr (opening_more root prims all n)), wrote)
+
+-- ---- the loop over the steps
+
+-- how a run ends where the script gives no step more
+abbrev pub EndsScript : Result (Option Step) ScriptFault → Status → Type 0
+EndsScript (Ok None) status = status ≡ Done
+EndsScript (Ok (Some s)) status = ⊥
+EndsScript (Err (Refused line kind)) status = status ≡ ScriptRefused line kind
+EndsScript (Err ScriptReadFault) status = status ≡ ReadFault
+EndsScript (Err ScriptNoMemory) status = status ≡ NoMemory
+
+told_told : (x y z : Option (List ℕ)) (P Q R : List ℕ → List ℕ → Type 0) → BothTold x y P → BothTold y z Q → ((a b c : List ℕ) → P a b → Q b c → R a c) → BothTold x z R
+told_told None y z P Q R p q h = tt
+told_told (Some a) None z P Q R p q h = absurd p
+told_told (Some a) (Some b) None P Q R p q h = absurd q
+told_told (Some a) (Some b) (Some c) P Q R p q h = h a b c p q
+
+told_first : (x y : Option (List ℕ)) (P : List ℕ → List ℕ → Type 0) (Q : List ℕ → Type 0) → BothTold x y P → ((a b : List ℕ) → P a b → Q a) → IfSome x Q
+told_first None y P Q p h = tt
+told_first (Some a) None P Q p h = absurd p
+told_first (Some a) (Some b) P Q p h = h a b p
+
+-- a step that is carried out
+pub goes_on : (x y z a b c : Option (List ℕ)) (start now next : sessions.Session) (old new : State) (s : Step)
+    → BothTold x y (λ all rest. Reached start now (steps_of all) (steps_left old rest) a b) → BothTold y z (λ p q. AnswersNext (Ok (Some s)) new.line (steps_left old p) (steps_left new q))
+    → Appends b c (reply_to now s) → next ≡ after now s → BothTold x z (λ all rest. Reached start next (steps_of all) (steps_left new rest) a c)
+goes_on x y z a b c start now next old new s r n wrote is =
+    told_told x y z _ _ _ r n (λ all p q have asked. reached_more start now next (steps_of all) (steps_left old p) (steps_left new q) a b c new.line s have asked wrote is)
+
+as_error : (start : sessions.Session) (all : Steps) (a c : Option (List ℕ)) (status : Status) → IsWriteError status → (written : List ℕ) × ((more : List ℕ) × (written ++ more ≡ replies start all)) × Appends a c written
+    → (written : List ℕ) × ScriptOutcome start all status written × Appends a c written
+as_error start all a c status (inl e) w = rw e w
+as_error start all a c status (inr e) w = rw e w
+
+-- a step whose reply was not written whole
+pub breaks_off : (x y z a b c : Option (List ℕ)) (start now : sessions.Session) (old new : State) (s : Step) (n : ℕ) (status : Status) → IsWriteError status
+    → BothTold x y (λ all rest. Reached start now (steps_of all) (steps_left old rest) a b) → BothTold y z (λ p q. AnswersNext (Ok (Some s)) new.line (steps_left old p) (steps_left new q))
+    → Appends b c (take n (reply_to now s)) → IfSome x (λ all. (written : List ℕ) × ScriptOutcome start (steps_of all) status written × Appends a c written)
+breaks_off x y z a b c start now old new s n status kind r q wrote =
+    told_first x z (λ all _. (written : List ℕ) × ScriptOutcome start (steps_of all) status written × Appends a c written) _
+    (told_told x y z _ _ _ r q (λ all p rest have asked. as_error start (steps_of all) a c status kind (reached_front start now (steps_of all) (steps_left old p) (steps_left new rest) a b c new.line n s have asked wrote))) (λ all rest o. o)
+
+-- the script gives no step more
+pub gives_none : (x y z a b : Option (List ℕ)) (start now : sessions.Session) (old new : State) (r : Result (Option Step) ScriptFault) (status : Status) → EndsScript r status
+    → BothTold x y (λ all rest. Reached start now (steps_of all) (steps_left old rest) a b) → BothTold y z (λ p q. AnswersNext r new.line (steps_left old p) (steps_left new q))
+    → IfSome x (λ all. (written : List ℕ) × ScriptOutcome start (steps_of all) status written × Appends a b written)
+gives_none x y z a b start now old new (Ok None) status kind r q =
+    told_first x z (λ all _. (written : List ℕ) × ScriptOutcome start (steps_of all) status written × Appends a b written) _
+    (told_told x y z _ _ _ r q (λ all p rest have asked. rw kind (reached_end start now (steps_of all) (steps_left old p) a b have asked.0))) (λ all rest o. o)
+gives_none x y z a b start now old new (Ok (Some s)) status kind r q = absurd kind
+gives_none x y z a b start now old new (Err (Refused line k)) status kind r q =
+    told_first x z (λ all _. (written : List ℕ) × ScriptOutcome start (steps_of all) status written × Appends a b written) _
+    (told_told x y z _ _ _ r q (λ all p rest have asked. rw kind (reached_refusal start now (steps_of all) (steps_left old p) a b line k have asked.0))) (λ all rest o. o)
+gives_none x y z a b start now old new (Err ScriptReadFault) status kind r q =
+    told_first x z (λ all _. (written : List ℕ) × ScriptOutcome start (steps_of all) status written × Appends a b written) _
+    (told_told x y z _ _ _ r q (λ all p rest have asked. rw kind (reached_here start now (steps_of all) (steps_left old p) a b have))) (λ all rest o. o)
+gives_none x y z a b start now old new (Err ScriptNoMemory) status kind r q =
+    told_first x z (λ all _. (written : List ℕ) × ScriptOutcome start (steps_of all) status written × Appends a b written) _
+    (told_told x y z _ _ _ r q (λ all p rest have asked. rw kind (reached_here start now (steps_of all) (steps_left old p) a b have))) (λ all rest o. o)
+
+-- nothing was written yet
+pub starts : (x b : Option (List ℕ)) (session : sessions.Session) (fresh : State) → fresh ≡ record { taken = 0; held = []; lines = 0; batch = None; line = 0; stopped = None }
+    → BothTold x x (λ all rest. Reached session session (steps_of all) (steps_left fresh rest) b b)
+starts None b session fresh e = tt
+starts (Some all) b session fresh e = rw e (record { written = []; appends = appends_none b; whole = refl; same = refl })
+
+told_end : (x y z : Option (List ℕ)) (P : List ℕ → List ℕ → Type 0) → BothTold x y P → BothTold y z (λ _ b. b ≡ []) → BothTold x z (λ _ b. b ≡ [])
+told_end x y z P p q = told_told x y z P (λ _ b. b ≡ []) (λ _ b. b ≡ []) p q (λ a b c h e. e)
+
+pub ends_empty : (x y z : Option (List ℕ)) (P : List ℕ → List ℕ → Type 0) → BothTold x y P → BothTold y z (λ _ b. b ≡ []) → BothTold x z (λ _ b. b ≡ [])
+ends_empty x y z P p q = told_end x y z P p q

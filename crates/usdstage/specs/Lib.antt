@@ -1,4 +1,5 @@
 pub mod Command
+pub mod Kinds
 pub mod Outcome
 pub mod Stage
 pub mod Statuses

@@ -1,51 +1,84 @@
 -- What the program answers and writes.
 use Rattle.std.specs.Prelude.{◌≡◌, ℕ, ◌⊎◌, List, [], ◌++◌, Option, Some, None, Result, Ok, Err}
-use Rattle.std.specs.Global.{Vec}
+use Rattle.first_layer.specs.declared.FirstLayer.{FirstLayer}
 use Rattle.first_layer.specs.Forest.{Forest}
+use Rattle.first_layer.specs.Layer.{layer_of}
 use Rattle.first_reader.specs.Grammar.{IsFirstForm}
 use Rattle.first_writer.specs.Canonical.{canonical}
+use Rattle.session_script.specs.declared.faults.ScriptKind.{ScriptKind}
+use Rattle.session_script.specs.Reading.{Steps, steps_of}
+use Rattle.first_stage.specs.Drafts.{table_of}
+use Rattle.first_session.specs.Replies.{Session as SessionState, output, replies, refusal}
 use Rattle.usdstage.specs.Command.{command_of}
 use Rattle.usdstage.specs.Stage.{flattened}
+use Rattle.usdstage.specs.declared.words.Verb.{Verb}
+use Rattle.usdstage.specs.declared.words.Verb.TheVariants.{Flatten, Session}
 use Rattle.usdstage.specs.declared.status.Status.{Status}
-use Rattle.usdstage.specs.declared.status.Status.TheVariants.{Done, Usage, ReadFault, WriteFault, RootRefused, NotYet, NoMemory}
-
--- the text that a run of these words over these files writes: that of the flattened layer of the root
-pub record IsOutput (words : List (List ℕ)) (files : List ℕ → Option (List ℕ)) (text : List ℕ) : Type 0 where
-  pub root : List ℕ
-  pub bytes : List ℕ
-  pub prims : Forest
-  pub command : command_of words ≡ Some root
-  pub file : files root ≡ Some bytes
-  pub form : IsFirstForm bytes prims
-  pub canon : text ≡ canonical (flattened prims)
+use Rattle.usdstage.specs.declared.status.Status.TheVariants.{Done, Usage, ReadFault, WriteFault, RootRefused, NotYet, ScriptRefused, NoMemory}
 
 -- no layer of the first form has these bytes
 abbrev pub IsOtherForm : List ℕ → Type 0
 IsOtherForm bytes = (prims : Forest) → IsFirstForm bytes prims → ⊥
 
--- What is answered has its cause, and what was written is the output or the front of it.
-abbrev pub IsOutcome : List (List ℕ) → (List ℕ → Option (List ℕ)) → Status → List ℕ → Type 0
-IsOutcome words files Done written = IsOutput words files written
-IsOutcome words files Usage written = (command_of words ≡ None) × (written ≡ [])
-IsOutcome words files ReadFault written = (root : List ℕ) × (command_of words ≡ Some root) × (written ≡ [])
-IsOutcome words files WriteFault written = (more : List ℕ) × IsOutput words files (written ++ more)
-IsOutcome words files (RootRefused name) written = (command_of words ≡ Some name) × (files name ≡ None) × (written ≡ [])
-IsOutcome words files (NotYet name) written = (bytes : List ℕ) × (command_of words ≡ Some name) × (files name ≡ Some bytes) × IsOtherForm bytes × (written ≡ [])
-IsOutcome words files NoMemory written = (root : List ℕ) × (command_of words ≡ Some root) × ((written ≡ []) ⊎ ((more : List ℕ) × IsOutput words files (written ++ more)))
+-- how a script ends that is refused at this line, or nowhere
+abbrev pub ended_by : Option (ℕ × ScriptKind) → Status
+ended_by None = Done
+ended_by (Some at) = ScriptRefused at.0 at.1
 
--- how a run of these words over these files ends where nothing fails and memory suffices
-abbrev pub IsDue : List (List ℕ) → (List ℕ → Option (List ℕ)) → Status → Type 0
-IsDue words files Done = (text : List ℕ) × IsOutput words files text
-IsDue words files Usage = command_of words ≡ None
-IsDue words files ReadFault = ⊥
-IsDue words files WriteFault = ⊥
-IsDue words files (RootRefused name) = (command_of words ≡ Some name) × (files name ≡ None)
-IsDue words files (NotYet name) = (bytes : List ℕ) × (command_of words ≡ Some name) × (files name ≡ Some bytes) × IsOtherForm bytes
-IsDue words files NoMemory = ⊥
+-- What is written and how the run ends, where nothing fails and memory suffices, on a root of these prims: `flatten` writes the
+-- text of the flattened layer, and `session` the replies to the lines of the script up to its end or to the first refused one.
+abbrev pub LayerCourse : Verb → List ℕ → Forest → List ℕ → List ℕ → Status → Type 0
+LayerCourse Flatten root prims script text status = (text ≡ canonical (flattened prims)) × (status ≡ Done)
+LayerCourse Session root prims script text status = (text ≡ output (table_of root prims) (steps_of script)) × (status ≡ ended_by (refusal (steps_of script)))
+
+-- the same on a root of these bytes, or on none
+abbrev pub FileCourse : Verb → List ℕ → Option (List ℕ) → List ℕ → List ℕ → Status → Type 0
+FileCourse verb root None script text status = (text ≡ []) × (status ≡ RootRefused root)
+FileCourse verb root (Some bytes) script text status = (IsOtherForm bytes × (text ≡ []) × (status ≡ NotYet root)) ⊎ ((prims : Forest) × IsFirstForm bytes prims × LayerCourse verb root prims script text status)
+
+-- the same of a command, or of words that are none
+abbrev pub CommandCourse : Option (Verb × List ℕ) → (List ℕ → Option (List ℕ)) → List ℕ → List ℕ → Status → Type 0
+CommandCourse None files script text status = (text ≡ []) × (status ≡ Usage)
+CommandCourse (Some c) files script text status = FileCourse c.0 c.1 (files c.1) script text status
+
+-- what a run of these words over these files and this script writes, and how it ends, where nothing fails and memory suffices
+abbrev pub IsCourse : List (List ℕ) → (List ℕ → Option (List ℕ)) → List ℕ → List ℕ → Status → Type 0
+IsCourse words files script text status = CommandCourse (command_of words) files script text status
+
+-- what was written is the front of what such a run writes
+abbrev pub IsFront : List (List ℕ) → (List ℕ → Option (List ℕ)) → List ℕ → List ℕ → Type 0
+IsFront words files script written = (more : List ℕ) × (due : Status) × IsCourse words files script (written ++ more) due
+
+-- What was answered and written: all that the run writes, with its end; or, at a fault or want of memory, nothing or the front of it.
+abbrev pub IsOutcome : List (List ℕ) → (List ℕ → Option (List ℕ)) → List ℕ → Status → List ℕ → Type 0
+IsOutcome words files script Done written = IsCourse words files script written Done
+IsOutcome words files script Usage written = IsCourse words files script written Usage
+IsOutcome words files script (RootRefused name) written = IsCourse words files script written (RootRefused name)
+IsOutcome words files script (NotYet name) written = IsCourse words files script written (NotYet name)
+IsOutcome words files script (ScriptRefused line kind) written = IsCourse words files script written (ScriptRefused line kind)
+IsOutcome words files script ReadFault written = (written ≡ []) ⊎ IsFront words files script written
+IsOutcome words files script WriteFault written = IsFront words files script written
+IsOutcome words files script NoMemory written = (written ≡ []) ⊎ IsFront words files script written
+
+-- the same of a run behind the root's fetch
+abbrev pub LayerOutcome : Verb → List ℕ → Forest → List ℕ → Status → List ℕ → Type 0
+LayerOutcome verb root prims script Done written = LayerCourse verb root prims script written Done
+LayerOutcome verb root prims script Usage written = ⊥
+LayerOutcome verb root prims script (RootRefused name) written = ⊥
+LayerOutcome verb root prims script (NotYet name) written = ⊥
+LayerOutcome verb root prims script (ScriptRefused line kind) written = LayerCourse verb root prims script written (ScriptRefused line kind)
+LayerOutcome verb root prims script ReadFault written = (more : List ℕ) × (due : Status) × LayerCourse verb root prims script (written ++ more) due
+LayerOutcome verb root prims script WriteFault written = (more : List ℕ) × (due : Status) × LayerCourse verb root prims script (written ++ more) due
+LayerOutcome verb root prims script NoMemory written = (written ≡ []) ⊎ ((more : List ℕ) × (due : Status) × LayerCourse verb root prims script (written ++ more) due)
+
+-- the script that a command reads; what reads none may be told of any
+abbrev pub IsScript : Option (Verb × List ℕ) → Option (List ℕ) → List ℕ → Type 0
+IsScript None left script = Unit {0}
+IsScript (Some c) left script = elim c.0 [ Flatten ↦ Unit {0} | Session ↦ left ≡ Some script ]
 
 -- the run ended as it should, unless memory ran out
-abbrev pub EndsAsDue : List (List ℕ) → (List ℕ → Option (List ℕ)) → Status → Type 0
-EndsAsDue words files status = (due : Status) → IsDue words files due → (status ≡ due) ⊎ (status ≡ NoMemory)
+abbrev pub EndsAsDue : List (List ℕ) → (List ℕ → Option (List ℕ)) → List ℕ → Status → Type 0
+EndsAsDue words files script status = (text : List ℕ) (due : Status) → IsCourse words files script text due → (status ≡ due) ⊎ (status ≡ NoMemory)
 
 -- a status that names the root as absent or as not read by now, unless memory ran out
 abbrev pub IsNamed : Status → (List ℕ → Type 0) → (List ℕ → Type 0) → Type 0
@@ -56,25 +89,43 @@ IsNamed Done P Q = ⊥
 IsNamed Usage P Q = ⊥
 IsNamed ReadFault P Q = ⊥
 IsNamed WriteFault P Q = ⊥
+IsNamed (ScriptRefused line kind) P Q = ⊥
 
--- the statuses of a run that writes nothing
-abbrev pub EndsEarly : Result (Vec ℕ) Status → Type 0
-EndsEarly (Ok text) = Unit {0}
+-- the root's layer, or how the run ends without one, where the root's file is this one
+abbrev pub IsRead : Option (List ℕ) → List ℕ → Result FirstLayer Status → Type 0
+IsRead file root (Ok layer) = (bytes : List ℕ) × (file ≡ Some bytes) × IsFirstForm bytes (layer_of layer)
+IsRead file root (Err Done) = ⊥
+IsRead file root (Err Usage) = ⊥
+IsRead file root (Err ReadFault) = Unit {0}
+IsRead file root (Err WriteFault) = ⊥
+IsRead file root (Err (RootRefused name)) = (name ≡ root) × (file ≡ None)
+IsRead file root (Err (NotYet name)) = (bytes : List ℕ) × (name ≡ root) × (file ≡ Some bytes) × IsOtherForm bytes
+IsRead file root (Err (ScriptRefused line kind)) = ⊥
+IsRead file root (Err NoMemory) = Unit {0}
+
+-- the statuses of a run that reads no layer
+abbrev pub EndsEarly : Result FirstLayer Status → Type 0
+EndsEarly (Ok layer) = Unit {0}
 EndsEarly (Err Done) = ⊥
 EndsEarly (Err Usage) = ⊥
 EndsEarly (Err ReadFault) = Unit {0}
 EndsEarly (Err WriteFault) = ⊥
 EndsEarly (Err (RootRefused name)) = Unit {0}
 EndsEarly (Err (NotYet name)) = Unit {0}
+EndsEarly (Err (ScriptRefused line kind)) = ⊥
 EndsEarly (Err NoMemory) = Unit {0}
 
--- what a run writes, or how it ends without, where the root's file is this one
-abbrev pub IsText : Option (List ℕ) → List ℕ → Result (Vec ℕ) Status → Type 0
-IsText file root (Ok text) = (bytes : List ℕ) × (prims : Forest) × (file ≡ Some bytes) × IsFirstForm bytes prims × (text.items ≡ canonical (flattened prims))
-IsText file root (Err Done) = ⊥
-IsText file root (Err Usage) = ⊥
-IsText file root (Err ReadFault) = Unit {0}
-IsText file root (Err WriteFault) = ⊥
-IsText file root (Err (RootRefused name)) = (name ≡ root) × (file ≡ None)
-IsText file root (Err (NotYet name)) = (bytes : List ℕ) × (name ≡ root) × (file ≡ Some bytes) × IsOtherForm bytes
-IsText file root (Err NoMemory) = Unit {0}
+-- what a session answers and writes behind its opening, by the steps of its script
+abbrev pub ScriptOutcome : SessionState → Steps → Status → List ℕ → Type 0
+ScriptOutcome session steps Done written = (written ≡ replies session steps) × (refusal steps ≡ None)
+ScriptOutcome session steps Usage written = ⊥
+ScriptOutcome session steps (RootRefused name) written = ⊥
+ScriptOutcome session steps (NotYet name) written = ⊥
+ScriptOutcome session steps (ScriptRefused line kind) written = (written ≡ replies session steps) × (refusal steps ≡ Some (line, kind))
+ScriptOutcome session steps ReadFault written = (more : List ℕ) × (written ++ more ≡ replies session steps)
+ScriptOutcome session steps WriteFault written = (more : List ℕ) × (written ++ more ≡ replies session steps)
+ScriptOutcome session steps NoMemory written = (more : List ℕ) × (written ++ more ≡ replies session steps)
+
+-- a status that a write ends with which did not write all
+abbrev pub IsWriteError : Status → Type 0
+IsWriteError status = (status ≡ WriteFault) ⊎ (status ≡ NoMemory)

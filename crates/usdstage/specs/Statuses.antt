@@ -1,7 +1,9 @@
 -- The exit status and the line of each way to end.
 use Rattle.std.specs.Prelude.{ℕ, List, [], ◌++◌, codes}
+use Rattle.std.specs.Fmt.{decimal}
+use Rattle.usdstage.specs.Kinds.{kind_text}
 use Rattle.usdstage.specs.declared.status.Status.{Status}
-use Rattle.usdstage.specs.declared.status.Status.TheVariants.{Done, Usage, ReadFault, WriteFault, RootRefused, NotYet, NoMemory}
+use Rattle.usdstage.specs.declared.status.Status.TheVariants.{Done, Usage, ReadFault, WriteFault, RootRefused, NotYet, ScriptRefused, NoMemory}
 
 abbrev pub exit_code : Status → ℕ
 exit_code Done = 0
@@ -9,6 +11,7 @@ exit_code Usage = 2
 exit_code ReadFault = 3
 exit_code WriteFault = 4
 exit_code (RootRefused name) = 5
+exit_code (ScriptRefused line kind) = 6
 exit_code NoMemory = 9
 exit_code (NotYet name) = 10
 
@@ -20,4 +23,5 @@ status_line ReadFault = codes "usdstage: reading failed"
 status_line WriteFault = codes "usdstage: writing failed"
 status_line (RootRefused name) = codes "usdstage: " ++ name ++ codes ": absent"
 status_line (NotYet name) = codes "usdstage: " ++ name ++ codes ": not yet"
+status_line (ScriptRefused line kind) = codes "usdstage: script line " ++ decimal line ++ codes ": " ++ kind_text kind
 status_line NoMemory = codes "usdstage: out of memory"

@@ -1,14 +1,16 @@
-//! Flattens a layer of the first form: `usdstage flatten ROOT`.
+//! Flattens a layer of the first form, `usdstage flatten ROOT`, or carries out the script of a session on it, `usdstage session ROOT`.
 #![tactic(auto)]
 
 mod output;
+#[cfg(test)]
+mod session_tests;
 mod status;
 #[cfg(test)]
 mod tests;
 mod tool;
 mod words;
 
-use io_edges::{FolderFiles, FreeGate, StdSink, SureSource};
+use io_edges::{FolderFiles, FreeGate, StdSink, StdSource};
 use status::Status;
 use std::alloc::AllocError;
 use std::io::ErrorKind;
@@ -41,7 +43,7 @@ fn run(rt: &HostRuntime) -> Result<Status, AllocError> {
         return Ok(Status::Usage);
     };
     let mut files = FolderFiles::new(rt.clone()?);
-    let mut script = SureSource::new(Vec::new(rt.alloc()), 1);
+    let mut script = StdSource::new(rt.stdin());
     let mut out = StdSink::new(io::writer(rt));
     Ok(run_tool(
         rt,

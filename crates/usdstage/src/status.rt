@@ -1,8 +1,11 @@
 //! How a run ends.
 
 ghost use Rattle.std.specs.Prelude.{◌≡◌, ◌++◌, IfOk, codes, string_bytes};
+ghost use Rattle.std.specs.Fmt.{decimal};
+ghost use Rattle.usdstage.specs.Kinds.{kind_text};
 
 use plain_data::Text;
+use session_script::ScriptKind;
 use std::alloc::{AllocError, Global};
 
 /// How a run has ended. The words are judged first, then the root's file, then its text.
@@ -12,7 +15,7 @@ pub enum Status {
     Done,
     /// The words are no command.
     Usage,
-    /// A fetch failed.
+    /// A fetch failed, or a read of the script.
     ReadFault,
     /// A write failed. What was taken before is the front of the output.
     WriteFault,
@@ -26,6 +29,13 @@ pub enum Status {
         /// The root's name.
         name: Text,
     },
+    /// This line of the script, counted from 1, is refused. All lines before it were answered.
+    ScriptRefused {
+        /// The line's number. Where the script ends too early, it is that after the last line.
+        line: u64,
+        /// What is wrong with it.
+        kind: ScriptKind,
+    },
     /// Memory ran out. What was taken before is the front of the output.
     NoMemory,
 }
@@ -37,6 +47,29 @@ fn line_about(alloc: Global, name: &Text, what: &str) -> Result<String, AllocErr
     let mut line = String::from_str(alloc, "usdstage: ")?;
     line.push_str(name.as_str())?;
     line.push_str(what)?;
+    Ok(line)
+}
+
+// What is wrong with a line of a script, in a word.
+fn kind_text(kind: ScriptKind) -> &'static str
+    ensures { result.now ≡ kind_text kind }
+{
+    match kind {
+        ScriptKind::BadLine => "BadLine",
+        ScriptKind::Unfinished => "Unfinished",
+        ScriptKind::TooLong => "TooLong",
+    }
+}
+
+// The line about a line of the script.
+fn line_about_script(alloc: Global, number: u64, kind: ScriptKind) -> Result<String, AllocError>
+    ensures { IfOk result (λ line. string_bytes line ≡ codes "usdstage: script line " ++ decimal number ++ codes ": " ++ kind_text kind) }
+{
+    let mut line = String::from_str(alloc, "usdstage: script line ")?;
+    let number = number.to_string(alloc)?;
+    line.push_str(number.as_str())?;
+    line.push_str(": ")?;
+    line.push_str(kind_text(kind))?;
     Ok(line)
 }
 
@@ -53,6 +86,7 @@ impl Status {
             Status::ReadFault => 3,
             Status::WriteFault => 4,
             Status::RootRefused { .. } => 5,
+            Status::ScriptRefused { .. } => 6,
             Status::NoMemory => 9,
             Status::NotYet { .. } => 10,
         }
@@ -69,6 +103,7 @@ impl Status {
             Status::WriteFault => Ok(String::from_str(alloc, "usdstage: writing failed")?),
             Status::RootRefused { name } => line_about(alloc, name, ": absent"),
             Status::NotYet { name } => line_about(alloc, name, ": not yet"),
+            Status::ScriptRefused { line, kind } => line_about_script(alloc, *line, *kind),
             Status::NoMemory => Ok(String::from_str(alloc, "usdstage: out of memory")?),
         }
     }

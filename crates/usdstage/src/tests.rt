@@ -4,6 +4,7 @@ use crate::status::Status;
 use crate::tool::{run_in_memory, run_tool};
 use io_edges::{FreeGate, MemoryFiles, MemorySink, SureFiles, SureSink, SureSource};
 use plain_data::Text;
+use session_script::ScriptKind;
 use std::alloc::Global;
 use std::test::Fail;
 
@@ -51,8 +52,9 @@ fn ending_of(alloc: Global, status: &Status, taken: &[u8]) -> Result<Ending, Fai
 fn run(alloc: Global, words: &[&str], root: &[u8]) -> Result<Ending, Fail> {
     let words = words_of(alloc, words)?;
     let mut files = SureFiles::new(files_of(alloc, root)?);
+    let mut script = SureSource::new(Vec::new(alloc), 1);
     let mut out = SureSink::new(alloc, 1000);
-    let status = run_in_memory(&(), alloc, &words, &mut files, &mut out);
+    let status = run_in_memory(&(), alloc, &words, &mut files, &mut script, &mut out);
     ending_of(alloc, &status, out.taken())
 }
 
@@ -409,12 +411,17 @@ fn each_way_to_end_has_its_line_and_its_exit_status(rt: HostRuntime) -> Result<(
     let not_yet = Status::NotYet {
         name: Text::of(alloc, "a.usda")?,
     };
+    let script_refused = Status::ScriptRefused {
+        line: 12,
+        kind: ScriptKind::TooLong,
+    };
     let table = [
         (&Status::Done, "", 0),
         (&Status::Usage, "usdstage: not a command", 2),
         (&Status::ReadFault, "usdstage: reading failed", 3),
         (&Status::WriteFault, "usdstage: writing failed", 4),
         (&refused, "usdstage: a.usda: absent", 5),
+        (&script_refused, "usdstage: script line 12: TooLong", 6),
         (&Status::NoMemory, "usdstage: out of memory", 9),
         (&not_yet, "usdstage: a.usda: not yet", 10),
     ];

@@ -1,8 +1,17 @@
 //! The words that are a command.
 
 ghost use Rattle.std.specs.Prelude.{◌≡◌, map, string_bytes};
-ghost use Rattle.std.specs.Option.{option_copied};
-ghost use Rattle.usdstage.specs.Command.{is_root, command_of};
+ghost use Rattle.std.specs.Option.{option_map};
+ghost use Rattle.usdstage.specs.Command.{is_root, verb_of, command_of};
+
+/// What a command asks for.
+#[derive(Clone, Copy, Debug, PartialEq, Eq)]
+pub enum Verb {
+    /// The flattened layer.
+    Flatten,
+    /// A session by a script.
+    Session,
+}
 
 // Not empty, no option, and without `/`.
 fn is_root(name: &[u8]) -> bool
@@ -11,17 +20,32 @@ fn is_root(name: &[u8]) -> bool
     !name.is_empty() && name[0] != b'-' && !name.contains(&b'/')
 }
 
-/// The root layer's name, where the words are `flatten` and that name.
-pub fn command_of(words: &[String]) -> Option<&str>
-    ensures { option_copied result ≡ command_of (map string_bytes words.now) }
+// What the first word asks for.
+fn verb_of(word: &str) -> Option<Verb>
+    ensures { result ≡ verb_of word.now }
+{
+    if word == "flatten" {
+        Some(Verb::Flatten)
+    } else if word == "session" {
+        Some(Verb::Session)
+    } else {
+        None
+    }
+}
+
+/// What is asked for and the root layer's name, where the words are a verb and that name.
+pub fn command_of(words: &[String]) -> Option<(Verb, &str)>
+    ensures { option_map (λ x. (x.0, x.1.now)) result ≡ command_of (map string_bytes words.now) }
 {
     if words.len() != 2 {
         return None;
     }
     let root = words[1].as_str();
-    if words[0].as_str() == "flatten" && is_root(root.as_bytes()) {
-        Some(root)
-    } else {
-        None
+    if !is_root(root.as_bytes()) {
+        return None;
+    }
+    match verb_of(words[0].as_str()) {
+        Some(verb) => Some((verb, root)),
+        None => None,
     }
 }

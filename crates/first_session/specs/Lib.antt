@@ -1,0 +1,4 @@
+pub mod Publishing
+pub mod Replies
+pub mod Shows
+pub mod Texts

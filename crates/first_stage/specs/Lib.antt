@@ -1,0 +1,5 @@
+pub mod Drafts
+pub mod Laws
+pub mod Order
+pub mod Shapes
+pub mod Tables

@@ -1,0 +1,63 @@
+use Rattle.std.proofs.Common.{◌≡◌, ◌∙◌, ◌≤◌, ap, sym, refl, arith, Err, Ok, Some, None, List, ℕ, rules}
+use Rattle.std.proofs.lemmas.Result.{err_from_is_err_and}
+use Rattle.session_script.specs.declared.faults.ScriptFault.TheVariants.{Refused}
+use Rattle.session_script.specs.declared.faults.ScriptKind.TheVariants.{TooLong}
+use Rattle.session_script.specs.States.{State}
+use Rattle.session_script.proofs.Going.{answered, goes_further, still_unrefused, ends, too_long, stops, takes, answer_of_take}
+use Rattle.session_script.proofs.script.Script.next.Goals as goal
+
+pub returns-in-End-clause-answer : goal.returns-in-End-clause-answer
+returns-in-End-clause-answer g c =
+    let i = c.loop-self.invariant in
+    let n = c.in_ok-next_front.ensures in
+    let f = rw c.in-End.is at n.front in
+    let none = still_unrefused c.loop-self.self c.next_front.new.self _ _ i.goes_on n.feeds in
+    answered c.end.result c.end.new.self.line c.args.self.now c.loop-self.self c.next_front.new.self c.end.new.self _ _ _ (λ more. more ≡ _) i.told n.feeds f.1
+    (λ b nothing. ends c.end.result c.next_front.new.self c.end.new.self c.end.new.self.line b none f.0 nothing c.end.ensures)
+
+pub returns-in-TooLong-clause-answer : goal.returns-in-TooLong-clause-answer
+returns-in-TooLong-clause-answer g c =
+    let i = c.loop-self.invariant in
+    let n = c.in_ok-next_front.ensures in
+    let f = rw c.in-TooLong.is at n.front in
+    let none = still_unrefused c.loop-self.self c.next_front.new.self _ _ i.goes_on n.feeds in
+    rw c.stop.ensures.fault (answered (Err (Refused _ TooLong)) c.stop.new.self.line c.args.self.now c.loop-self.self c.next_front.new.self c.stop.new.self _ _ _ _ i.told n.feeds f
+    (λ b q. stops c.next_front.new.self c.stop.new.self b TooLong _ (too_long c.next_front.new.self b none q.0 q.1 q.2 q.3) c.stop.ensures.after refl))
+
+pub returns-in_err-step-in-Line-clause-answer : goal.returns-in_err-step-in-Line-clause-answer
+returns-in_err-step-in-Line-clause-answer g c =
+    let i = c.loop-self.invariant in
+    let n = c.in_ok-next_front.ensures in
+    let f = rw c.in-Line.is at n.front in
+    let none = still_unrefused c.loop-self.self c.next_front.new.self _ _ i.goes_on n.feeds in
+    let p = err_from_is_err_and c.from_residual-in_err-step-in-Line.result c.from_residual-in_err-step-in-Line.ensures.1 in
+    let e = p.1 ∙ ap Err p.2 in
+    answered c.from_residual-in_err-step-in-Line.result c.take_front.new.self.line c.args.self.now c.loop-self.self c.next_front.new.self c.take_front.new.self _ _ _ _ i.told n.feeds f.3
+    (λ b q. answer_of_take c.from_residual-in_err-step-in-Line.result c.next_front.new.self c.take_front.new.self b c.in_err-step-in-Line.field-0.0 e
+    (takes (Err c.in_err-step-in-Line.field-0.0) c.in-Line.len c.next_front.new.self c.take_front.new.self b none f.1 f.2 q c.in_err-step-in-Line.ensures))
+
+pub returns-in-Some-2-clause-answer : goal.returns-in-Some-2-clause-answer
+returns-in-Some-2-clause-answer g c =
+    let i = c.loop-self.invariant in
+    let n = c.in_ok-next_front.ensures in
+    let f = rw c.in-Line.is at n.front in
+    let none = still_unrefused c.loop-self.self c.next_front.new.self _ _ i.goes_on n.feeds in
+    let took = rw c.in-Some-2.is at c.in_ok-step-in-Line.ensures in
+    answered (Ok (Some c.in-Some-2.step)) c.take_front.new.self.line c.args.self.now c.loop-self.self c.next_front.new.self c.take_front.new.self _ _ _ _ i.told n.feeds f.3
+    (λ b q. takes (Ok (Some c.in-Some-2.step)) c.in-Line.len c.next_front.new.self c.take_front.new.self b none f.1 f.2 q took)
+
+pub loop-self-preserved : goal.loop-self-preserved
+loop-self-preserved g c =
+    let i = c.loop-self.invariant in
+    let n = c.in_ok-next_front.ensures in
+    let f = rw c.in-Line.is at n.front in
+    let none = still_unrefused c.loop-self.self c.next_front.new.self _ _ i.goes_on n.feeds in
+    let took = rw c.in_default-2.is at c.in_ok-step-in-Line.ensures in
+    record {
+      told = goes_further c.args.self.now c.loop-self.self c.next_front.new.self c.take_front.new.self _ _ _ _ i.told n.feeds f.3
+          (λ b q. takes (Ok None) c.in-Line.len c.next_front.new.self c.take_front.new.self b none f.1 f.2 q took);
+      goes_on = ap (λ (s : State). s.stopped) took.2 ∙ none;
+      same_line = ap (λ (s : State). s.line) took.2 ∙ ap (λ (s : State). s.line) n.feeds.1 ∙ i.same_line;
+      taken = omega (arith, ap (λ (s : State). s.taken) took.2, ap (λ (s : State). s.taken) n.feeds.1, i.taken);
+      later = omega (arith, n.later, i.later);
+    }

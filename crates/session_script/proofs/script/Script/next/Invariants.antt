@@ -1,0 +1,16 @@
+use Rattle.std.proofs.Common.{◌≡◌, ◌-◌, ◌≤◌, None}
+use Rattle.session_script.specs.Told.{BothTold}
+use Rattle.session_script.specs.States.{steps_left}
+use Rattle.session_script.proofs.script.Script.next.Given as goal
+
+abbrev pub invariant-loop-self : goal.invariant-loop-self
+invariant-loop-self g l = record {
+  told : BothTold (g.S.Source.left l.initial.source) (g.S.Source.left l.source) (λ a b. steps_left l.self b ≡ steps_left l.initial.self a);
+  goes_on : l.self.stopped ≡ None;
+  same_line : l.self.line ≡ l.initial.self.line;
+  taken : l.initial.self.taken ≤ l.self.taken;
+  later : g.S.Source.faults l.initial.source ≤ g.S.Source.faults l.source;
+}
+
+abbrev pub decreases-loop-self : goal.decreases-loop-self
+decreases-loop-self g l = 16777216 - l.self.taken

@@ -1,0 +1,61 @@
+//! Why a script is not read on.
+
+use std::alloc::AllocError;
+
+/// What is wrong with a line.
+#[derive(Clone, Copy, Debug, PartialEq, Eq)]
+pub enum ScriptKind {
+    /// It is no line of a script, or stands where it may not.
+    BadLine,
+    /// The script ends before the `commit` of a batch.
+    Unfinished,
+    /// The script has more than 16,777,216 bytes, and this line has the first one too many.
+    TooLong,
+}
+
+/// Why a line was not read.
+#[derive(Clone, Copy, Debug, PartialEq, Eq)]
+pub enum LineFault {
+    /// It is no line of a script.
+    Bad,
+    /// Memory ran out.
+    NoMemory,
+}
+
+impl From<AllocError> for LineFault {
+    ghost use Rattle.std.specs.Prelude.{◌≡◌};
+    ghost use Rattle.session_script.specs.declared.faults.LineFault.TheVariants.{NoMemory};
+
+    ghost from_gives = { λ _ e. e ≡ NoMemory };
+
+    fn from(_e: AllocError) -> LineFault {
+        LineFault::NoMemory
+    }
+}
+
+/// Why a script gave no step.
+#[derive(Clone, Copy, Debug, PartialEq, Eq)]
+pub enum ScriptFault {
+    /// This line, counted from 1, is refused, and nothing behind it is read.
+    Refused {
+        /// The line's number. Where the script ends too early, it is that after the last line.
+        line: u64,
+        /// What is wrong with it.
+        kind: ScriptKind,
+    },
+    /// The source failed.
+    ReadFault,
+    /// Memory ran out.
+    NoMemory,
+}
+
+impl From<AllocError> for ScriptFault {
+    ghost use Rattle.std.specs.Prelude.{◌≡◌};
+    ghost use Rattle.session_script.specs.declared.faults.ScriptFault.TheVariants.{NoMemory};
+
+    ghost from_gives = { λ _ e. e ≡ NoMemory };
+
+    fn from(_e: AllocError) -> ScriptFault {
+        ScriptFault::NoMemory
+    }
+}

@@ -1,0 +1,167 @@
+//! The script, step by step.
+
+ghost use Rattle.std.specs.Prelude.{◌≡◌, ◌+◌, ◌<◌, ◌≤◌, ◌++◌, [], List, ℕ, length, drop, take, true, false, Ok, Err, None, Some, IfOk, IsSome};
+ghost use Rattle.io_edges.specs.Causes.{Rose};
+ghost use Rattle.session_script.specs.Fronts.{IsReadError};
+
+use crate::faults::{LineFault, ScriptFault, ScriptKind};
+use crate::front::{Front, read_front};
+use crate::grammar::line_of;
+use crate::moves::{Moved, take_line};
+use crate::steps::{Op, Step};
+use io_edges::Source;
+use plain_data::Items;
+use std::alloc::Global;
+use std::marker::Model;
+
+/// A script that is read from a source, line by line. It keeps the bytes that it has read.
+#[derive(Drop)]
+pub struct Script {
+    alloc: Global,
+    bytes: Vec<u8>,
+    start: usize,
+    scanned: usize,
+    lines: u64,
+    batch: Option<Items<Op>>,
+    line: u64,
+    stopped: Option<(u64, ScriptKind)>,
+}
+
+impl Model for Script {
+    ghost use Rattle.std.specs.Prelude.{drop};
+    ghost use Rattle.session_script.specs.States.{State, IsKept};
+
+    ghost Value = { State };
+
+    ghost view = { λ s. record { taken = s.start; held = drop s.start s.bytes.items; lines = s.lines; batch = s.batch; line = s.line; stopped = s.stopped } };
+
+    ghost invariant = { λ s. IsKept s.start s.scanned s.lines s.bytes.items };
+}
+
+// So many bytes from a place on.
+fn part_of(bytes: &[u8], start: usize, len: usize) -> &[u8]
+    requires { start + len ≤ length bytes.now }
+    ensures { result.now ≡ take len (drop start bytes.now) }
+{
+    &bytes[start..start + len]
+}
+
+impl Script {
+    ghost use Rattle.session_script.specs.Told.{BothTold};
+    ghost use Rattle.session_script.specs.States.{AnswersNext, Counts, EndsScript, Feeds, FrontIs, TakesLine, stopped_at, steps_left};
+    ghost use Rattle.session_script.specs.Reading.{move};
+    ghost use Rattle.session_script.specs.Grammar.{line_of};
+
+    /// A script of which nothing was read.
+    pub fn new(alloc: Global) -> Script
+        ensures { result ≡ record { taken = 0; held = []; lines = 0; batch = None; line = 0; stopped = None } }
+    {
+        Script {
+            alloc,
+            bytes: Vec::new(alloc),
+            start: 0,
+            scanned: 0,
+            lines: 0,
+            batch: None,
+            line: 0,
+            stopped: None,
+        }
+    }
+
+    /// The number of the line that ended the step answered last, counted from 1; 0 before.
+    pub fn line(&self) -> u64
+        ensures { result ≡ self.now.line }
+    {
+        self.line
+    }
+
+    // The line in front, read from the source where none is held.
+    fn next_front<S: Source>(&mut self, source: &mut S) -> Result<Front, ScriptFault>
+        ensures feeds { Feeds self.old self.new (S.left source.old) (S.left source.new) }
+        ensures front { IfOk result (λ f. FrontIs f self.new (S.left source.old) (S.left source.new)) }
+        ensures short { self.new.taken ≤ 16777216 }
+        ensures later { S.faults source.old ≤ S.faults source.new }
+        ensures cause { result ≡ Err ScriptFault.ReadFault → Rose (S.faults source.old) (S.faults source.new) }
+        ensures faults { IsReadError result }
+    {
+        read_front(&mut self.bytes, self.start, &mut self.scanned, source)
+    }
+
+    // Refuses the line behind those that were taken.
+    fn stop(&mut self, kind: ScriptKind) -> ScriptFault
+        ensures fault { result ≡ ScriptFault.Refused (self.old.lines + 1) kind }
+        ensures after { self.new ≡ stopped_at self.old kind }
+    {
+        let line = self.lines + 1;
+        self.stopped = Some((line, kind));
+        ScriptFault::Refused { line, kind }
+    }
+
+    // Takes the line in front, of so many bytes. After want of memory all is as before.
+    fn take_front(&mut self, len: usize) -> Result<Option<Step>, ScriptFault>
+        requires some { 0 < len }
+        requires within { len ≤ length self.old.held }
+        requires short { self.old.taken + len ≤ 16777216 }
+        ensures { TakesLine result len self.old self.new (move self.old.batch (line_of (take len self.old.held))) }
+    {
+        let line = match line_of(self.alloc, part_of(&self.bytes, self.start, len)) {
+            Ok(line) => line,
+            Err(LineFault::Bad) => return Err(self.stop(ScriptKind::BadLine)),
+            Err(LineFault::NoMemory) => return Err(ScriptFault::NoMemory),
+        };
+        match take_line(self.alloc, &mut self.batch, line)? {
+            Moved::Refuses => Err(self.stop(ScriptKind::BadLine)),
+            Moved::GoesOn => {
+                self.start = self.start + len;
+                self.scanned = self.start;
+                self.lines = self.lines + 1;
+                Ok(None)
+            }
+            Moved::Asks(step) => {
+                self.start = self.start + len;
+                self.scanned = self.start;
+                self.lines = self.lines + 1;
+                self.line = self.lines;
+                Ok(Some(step))
+            }
+        }
+    }
+
+    // What comes of the end of the script.
+    fn end(&mut self) -> Result<Option<Step>, ScriptFault>
+        ensures { EndsScript result self.old self.new }
+    {
+        if self.batch.is_some() {
+            Err(self.stop(ScriptKind::Unfinished))
+        } else {
+            Ok(None)
+        }
+    }
+
+    /// The next step; nothing at the end of the script. It reads from the source only where no whole line is held.
+    /// After a refusal every call answers it again. After a fault or want of memory the next call goes on from there.
+    pub fn next<S: Source>(&mut self, source: &mut S) -> Result<Option<Step>, ScriptFault>
+        // The answer is the first of the steps that were left, and the others are left after it: however the source cuts the bytes, they are the steps of all its bytes.
+        ensures answer { BothTold (S.left source.old) (S.left source.new) (λ a b. AnswersNext result self.new.line (steps_left self.old a) (steps_left self.new b)) }
+        ensures end { result ≡ Ok None → BothTold (S.left source.old) (S.left source.new) (λ _ b. b ≡ []) }
+        ensures counts { Counts result self.old self.new }
+        ensures again { IsSome self.old.stopped → (self.new ≡ self.old) × (source.new ≡ source.old) }
+        ensures later { S.faults source.old ≤ S.faults source.new }
+        ensures cause { result ≡ Err ScriptFault.ReadFault → Rose (S.faults source.old) (S.faults source.new) }
+    {
+        if let Some((line, kind)) = self.stopped {
+            return Err(ScriptFault::Refused { line, kind });
+        }
+        loop {
+            match self.next_front(source)? {
+                Front::End => return self.end(),
+                Front::TooLong => return Err(self.stop(ScriptKind::TooLong)),
+                Front::Line(len) => {
+                    if let Some(step) = self.take_front(len)? {
+                        return Ok(Some(step));
+                    }
+                }
+            }
+        }
+    }
+}
