@@ -163,15 +163,23 @@ fn appended(alloc: Global, text: &str, name: &str) -> Result<String, Fail> {
     }
 }
 
-/// A path with another front, in print, or the place of the refusal; `-` where it does not begin with the front.
-fn moved(alloc: Global, path: &str, front: &str, by: &str) -> Result<String, Fail> {
+/// A path with another front, where that is a prim's path other than `/`.
+fn moved(path: &Path, front: &Path, by: &Path) -> Result<Option<Path>, PathFault> {
+    if by.is_property() {
+        return Ok(None);
+    }
+    if by.is_root() {
+        return Ok(None);
+    }
+    path.replace_prefix(front, by)
+}
+
+/// The same in print, or the place of the refusal; `-` where the path does not begin with the front.
+fn moved_text(alloc: Global, path: &str, front: &str, by: &str) -> Result<String, Fail> {
     let path = Path::parse(alloc, path)?;
     let front = Path::parse(alloc, front)?;
     let by = Path::parse(alloc, by)?;
-    if by.is_property() || by.is_root() {
-        return Ok(String::from_str(alloc, "no prim")?);
-    }
-    match path.replace_prefix(&front, &by) {
+    match moved(&path, &front, &by) {
         Ok(Some(there)) => Ok(there.print()?),
         Ok(None) => Ok(String::from_str(alloc, "-")?),
         Err(PathFault::Bad { at }) => Ok(format!(in alloc; "{at}")?),
@@ -200,7 +208,7 @@ fn paths_are_made_of_others(rt: HostRuntime) -> Result<(), Fail> {
         ["/Model/geo", "/Mod", "/World/char", "-"],
         ["/Model/geo", "/Model", deep.as_str(), "0"],
     ] {
-        assert_eq!(rt; moved(rt.alloc(), *text, *front, *by)?.as_str(), *want);
+        assert_eq!(rt; moved_text(rt.alloc(), *text, *front, *by)?.as_str(), *want);
     }
     Ok(())
 }
