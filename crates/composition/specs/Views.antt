@@ -1,0 +1,182 @@
+-- What a prim is on the stage: the composed view of a path, and the stage of a world.
+use Rattle.std.specs.Prelude.{ℕ, zero, suc, Bool, true, false, not, ◌||◌, List, [], ◌∷◌, ◌++◌, map, flat_map, filter_map, Option, Some, None}
+use Rattle.std.specs.Prelude.{codes}
+use Rattle.std.specs.List.{list_any, list_all}
+use Rattle.list_ops.specs.ListEdits.{firsts}
+use Rattle.sdf_paths.specs.Order.{text_cmp}
+use Rattle.sdf_paths.specs.Paths.{is_prim_name}
+use Rattle.sdf_paths.specs.declared.element.Element.TheVariants.{Prim}
+use Rattle.sdf_specs.specs.Entries.{MetaEntries, SampleEntries}
+use Rattle.sdf_specs.specs.Tables.{with_key}
+use Rattle.sdf_specs.specs.declared.items.Specifier.{Specifier}
+use Rattle.sdf_specs.specs.declared.items.Specifier.TheVariants.{Over}
+use Rattle.sdf_specs.specs.declared.property.Property.{Property}
+use Rattle.sdf_specs.specs.declared.property.Property.TheVariants.{Attr, Rel}
+use Rattle.sdf_values.specs.Scales.{Offset}
+use Rattle.sdf_values.specs.declared.type_name.TypeName.{TypeName}
+use Rattle.sdf_values.specs.declared.value.Value.{Value}
+use Rattle.sdf_values.specs.declared.value.Value.TheVariants as value
+use Rattle.composition.specs.Texts.{Text}
+use Rattle.composition.specs.Paths.{Path, Limits}
+use Rattle.composition.specs.World.{World, Heading, headed, no_layer, refused, LayerHead, StackName, Root, identity}
+use Rattle.composition.specs.Stacks.{stack}
+use Rattle.composition.specs.Arcs.{opinions_at, is_empty}
+use Rattle.composition.specs.Nodes.{Node, ArcMap, Choices}
+use Rattle.composition.specs.Opinions.{Said, said_at_all, is_by_class}
+use Rattle.composition.specs.Merging.{merged_all}
+use Rattle.composition.specs.Fields.{Naming, names_of, children_naming, all_children, all_properties, listed_children, unlisted_children, child_path, specifier_of, type_of, strings_of, meta_of, is_inactive}
+use Rattle.composition.specs.Values.{PropertySaid, specs_of, counting, given, deciding_default, deciding_samples, time_faults}
+use Rattle.composition.specs.Targets.{targets_of, target_faults}
+use Rattle.composition.specs.Faults.{Fault, sublayer, time_outside, target_outside, child_too_long, overgrown, same_fault, Index, index}
+
+-- a property on the stage
+pub data PropertyView : Type 0 where
+  attribute : (name : Text) (ty : TypeName) (custom uniform : Bool) (default : Option Value) (samples : SampleEntries) (connections : Option (List Path)) (meta : MetaEntries) → PropertyView
+  relationship : (name : Text) (custom : Bool) (targets : Option (List Path)) (meta : MetaEntries) → PropertyView
+
+-- a site: the maps and the offset lead from it to the stage
+pub record SiteView : Type 0 where
+  pub stack : StackName
+  pub path : Path
+  pub maps : List ArcMap
+  pub offset : Offset
+  pub by_class : Bool
+  pub has_spec : Bool
+
+-- what a prim is on the stage; `since` is the version in which it was last changed
+pub record PrimView : Type 0 where
+  pub specifier : Specifier
+  pub type_name : Option Text
+  pub meta : MetaEntries
+  pub api_schemas : Option (List Text)
+  pub clip_sets : Option (List Text)
+  pub properties : List PropertyView
+  pub children : List Text
+  pub choices : Choices
+  pub sites : List SiteView
+  pub faults : List Fault
+  pub since : ℕ
+
+abbrev pub empty_view : PrimView
+empty_view = record {
+  specifier = Over;
+  type_name = None;
+  meta = [];
+  api_schemas = None;
+  clip_sets = None;
+  properties = [];
+  children = [];
+  choices = [];
+  sites = [];
+  faults = [];
+  since = 0;
+}
+
+abbrev pub is_custom : Property → Bool
+is_custom (Attr name ty custom uniform default samples connections meta) = custom
+is_custom (Rel name custom targets meta) = custom
+
+abbrev pub property_meta : Property → MetaEntries
+property_meta (Attr name ty custom uniform default samples connections meta) = meta
+property_meta (Rel name custom targets meta) = meta
+
+module _ (l : Limits) where
+  -- a property by its strongest spec and all that count
+  abbrev pub view_by : Text → List PropertySaid → Property → PropertyView
+  view_by name ps (Attr own ty custom uniform default samples connections meta) =
+      let gs = map given ps in
+      attribute name ty (list_any (λ p. is_custom p.property) ps) uniform (deciding_default gs) (deciding_samples gs) (targets_of l ps) (merged_all (map (λ p. property_meta p.property) ps))
+  view_by name ps (Rel own custom targets meta) =
+      relationship name (list_any (λ p. is_custom p.property) ps) (targets_of l ps) (merged_all (map (λ p. property_meta p.property) ps))
+
+  abbrev pub property_view : Text → List PropertySaid → List PropertyView
+  property_view name [] = []
+  property_view name (p ∷ ps) = view_by name (p ∷ ps) p.property ∷ []
+
+  abbrev pub property_faults : Text → List PropertySaid → List Fault
+  property_faults name ps = map time_outside (time_faults name ps) ++ map target_outside (target_faults l name ps)
+
+  module _ (w : World) where
+    abbrev pub site_view : Node → SiteView
+    site_view n = record {
+      stack = n.stack;
+      path = n.path;
+      maps = n.maps;
+      offset = n.offset;
+      by_class = is_by_class n;
+      has_spec = is_empty n.path || not (is_empty (opinions_at l w (stack l w n.stack) n.path));
+    }
+
+    abbrev pub counting_of : List Said → List Text → List (Text × List PropertySaid)
+    counting_of said names = map (λ name. (name, counting (specs_of name said))) names
+
+    abbrev pub view_from : Path → Index → List Said → PrimView
+    view_from p i said =
+        let meta : MetaEntries = meta_of said in
+        let names : List Text = elim (is_inactive meta) [ true ↦ [] | false ↦ all_children said ] in
+        let properties : List (Text × List PropertySaid) = counting_of said (all_properties said) in
+        record {
+          specifier = specifier_of said;
+          type_name = type_of said;
+          meta = meta;
+          api_schemas = strings_of (λ s. s.spec.body.api_schemas) said;
+          clip_sets = strings_of (λ s. s.spec.body.clip_sets) said;
+          properties = flat_map (λ e. property_view e.0 e.1) properties;
+          children = listed_children l p names;
+          choices = i.choices;
+          sites = map site_view i.sites;
+          faults = firsts same_fault (i.faults ++ flat_map (λ e. property_faults e.0 e.1) properties ++ map child_too_long (unlisted_children l p names));
+          since = 0;
+        }
+
+    abbrev pub view_by_index : Path → Option Index → PrimView
+    view_by_index p None = record empty_view { faults = overgrown ∷ [] }
+    view_by_index p (Some i) = view_from p i (said_at_all l w i.sites)
+
+    -- ---- the root
+
+    abbrev pub with_default_prim : LayerHead → MetaEntries
+    with_default_prim h = elim h.default_prim [ None ↦ h.meta | Some text ↦ with_key text_cmp (codes "defaultPrim") (value.Text text) h.meta ]
+
+    abbrev pub head_meta : Heading → List MetaEntries
+    head_meta (headed h) = with_default_prim h ∷ []
+    head_meta no_layer = []
+    head_meta (refused r) = []
+
+    -- the metadata of the session layer, if any, and of the root layer
+    abbrev pub root_meta : MetaEntries
+    root_meta = merged_all (elim w.session [ None ↦ [] | Some s ↦ head_meta (w.heading s) ] ++ head_meta (w.heading w.root))
+
+    abbrev pub root_naming : Text → Option Naming
+    root_naming layer = elim (w.roots layer) [ None ↦ None | Some r ↦ Some (children_naming r.names r.order) ]
+
+    abbrev pub root_children : List Text
+    root_children = names_of (filter_map (λ e. root_naming e.0) (stack l w Root).layers)
+
+    abbrev pub root_site : SiteView
+    root_site = record { stack = Root; path = []; maps = []; offset = identity; by_class = false; has_spec = true }
+
+    -- `/` has the metadata of the session and the root layer alone, the children of the root stack and its sublayer faults
+    abbrev pub root_view : PrimView
+    root_view = record empty_view {
+      meta = root_meta;
+      children = listed_children l [] root_children;
+      sites = root_site ∷ [];
+      faults = firsts same_fault (map sublayer (stack l w Root).faults ++ map child_too_long (unlisted_children l [] root_children));
+    }
+
+    -- the composed view of a path, whether it is on the stage or not; at what is no plain prim path there is nothing
+    abbrev pub view : Path → PrimView
+    view [] = root_view
+    view (e ∷ p) = elim (list_all is_prim_name (e ∷ p)) [ true ↦ view_by_index (e ∷ p) (index l w (e ∷ p)) | false ↦ empty_view ]
+
+    -- ---- the stage
+
+    -- a path and what its views list below it, depth first, so many names deep
+    abbrev pub walked : ℕ → Path → List (Path × PrimView)
+    walked zero p = (p, view p) ∷ []
+    walked (suc k) p = let v = view p in (p, v) ∷ flat_map (λ name. walked k (child_path p name)) v.children
+
+    -- `/` and each name that a path on the stage lists
+    abbrev pub stage : List (Path × PrimView)
+    stage = walked l.names []

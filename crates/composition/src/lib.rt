@@ -1,0 +1,2 @@
+//! What composition makes of a world of layers: definitions alone.
+#![tactic(auto)]

@@ -1,0 +1,38 @@
+-- A world of 3 layers.
+use Rattle.std.specs.Prelude.{codes, pos, false, [], ◌∷◌, Some, None}
+use Rattle.sdf_paths.specs.declared.element.Element.TheVariants.{Prim, Selection}
+use Rattle.sdf_specs.specs.Blank.{no_edits}
+use Rattle.sdf_specs.specs.declared.items.Specifier.TheVariants.{Def, Over}
+use Rattle.sdf_specs.specs.declared.property.Property.TheVariants.{Attr}
+use Rattle.sdf_values.specs.declared.type_name.ElementType.TheVariants as element
+use Rattle.sdf_values.specs.declared.value.Value.TheVariants as value
+use Rattle.composition.specs.World.{World}
+use Rattle.composition_worlds.specs.Listed.{present, listed_world}
+
+abbrev pub world : World
+world = listed_world (codes "root.usda") None ((
+  (codes "root.usda"),
+  present (record {
+    head = record { sublayers = ([]); default_prim = None; meta = ([]); root_names = ((codes "A") ∷ (codes "B") ∷ []); root_order = ([]) };
+    specs = (
+        ((Prim (codes "A") ∷ []), (record { arcs = record { inherits = no_edits; specializes = no_edits; references = (record { explicit = (Some ((record { asset = (Some (codes "r.usda")); path = (Some (Prim (codes "R") ∷ Prim (codes "T") ∷ [])); offset = (record { offset = (pos 0); scale = (pos 1000000) }) }) ∷ [])); deleted = ([]); added = ([]); prepended = ([]); appended = ([]); ordered = ([]) }); payloads = no_edits; variant_sets = no_edits; selections = ([]) }; body = record { specifier = Def; type_name = None; meta = ([]); api_schemas = no_edits; clip_sets = no_edits; children = ([]); child_order = ([]); properties = ([]); property_order = ([]); variant_names = ([]) } })) ∷
+        ((Prim (codes "B") ∷ []), (record { arcs = record { inherits = no_edits; specializes = no_edits; references = (record { explicit = (Some ((record { asset = (Some (codes "r.usda")); path = (Some (Prim (codes "R") ∷ Prim (codes "T") ∷ [])); offset = (record { offset = (pos 0); scale = (pos 1) }) }) ∷ [])); deleted = ([]); added = ([]); prepended = ([]); appended = ([]); ordered = ([]) }); payloads = no_edits; variant_sets = no_edits; selections = ([]) }; body = record { specifier = Def; type_name = None; meta = ([]); api_schemas = no_edits; clip_sets = no_edits; children = ([]); child_order = ([]); properties = ([]); property_order = ([]); variant_names = ([]) } })) ∷ []);
+  }),
+) ∷ (
+  (codes "r.usda"),
+  present (record {
+    head = record { sublayers = ([]); default_prim = None; meta = ([]); root_names = ((codes "R") ∷ []); root_order = ([]) };
+    specs = (
+        ((Prim (codes "R") ∷ []), (record { arcs = record { inherits = no_edits; specializes = no_edits; references = (record { explicit = (Some ((record { asset = (Some (codes "v.usda")); path = (Some (Prim (codes "V") ∷ [])); offset = (record { offset = (pos 0); scale = (pos 2) }) }) ∷ [])); deleted = ([]); added = ([]); prepended = ([]); appended = ([]); ordered = ([]) }); payloads = no_edits; variant_sets = (record { explicit = (Some ((codes "s") ∷ [])); deleted = ([]); added = ([]); prepended = ([]); appended = ([]); ordered = ([]) }); selections = ([]) }; body = record { specifier = Def; type_name = None; meta = ([]); api_schemas = no_edits; clip_sets = no_edits; children = ([]); child_order = ([]); properties = ([]); property_order = ([]); variant_names = ((record { set = (codes "s"); variants = ((codes "x") ∷ []) }) ∷ []) } })) ∷
+        ((Prim (codes "R") ∷ Selection (codes "s") (codes "x") ∷ []), (record { arcs = record { inherits = no_edits; specializes = no_edits; references = no_edits; payloads = no_edits; variant_sets = no_edits; selections = ([]) }; body = record { specifier = Over; type_name = None; meta = ([]); api_schemas = no_edits; clip_sets = no_edits; children = ((codes "T") ∷ []); child_order = ([]); properties = ([]); property_order = ([]); variant_names = ([]) } })) ∷
+        ((Prim (codes "R") ∷ Selection (codes "s") (codes "x") ∷ Prim (codes "T") ∷ []), (record { arcs = record { inherits = no_edits; specializes = no_edits; references = no_edits; payloads = no_edits; variant_sets = no_edits; selections = ([]) }; body = record { specifier = Def; type_name = None; meta = ([]); api_schemas = no_edits; clip_sets = no_edits; children = ([]); child_order = ([]); properties = ((Attr (codes "v") (record { element = element.Int; array = false }) false false (Some (value.Whole (pos 1))) ([]) no_edits ([])) ∷ []); property_order = ([]); variant_names = ([]) } })) ∷ []);
+  }),
+) ∷ (
+  (codes "v.usda"),
+  present (record {
+    head = record { sublayers = ([]); default_prim = None; meta = ([]); root_names = ((codes "V") ∷ []); root_order = ([]) };
+    specs = (
+        ((Prim (codes "V") ∷ []), (record { arcs = record { inherits = no_edits; specializes = no_edits; references = no_edits; payloads = no_edits; variant_sets = no_edits; selections = (((codes "s"), (codes "x")) ∷ []) }; body = record { specifier = Def; type_name = None; meta = ([]); api_schemas = no_edits; clip_sets = no_edits; children = ([]); child_order = ([]); properties = ([]); property_order = ([]); variant_names = ([]) } })) ∷ []);
+  }),
+) ∷
+    [])

@@ -1,0 +1,37 @@
+-- A world of 3 layers.
+use Rattle.std.specs.Prelude.{codes, pos, false, [], ◌∷◌, Some, None}
+use Rattle.sdf_paths.specs.declared.element.Element.TheVariants.{Prim}
+use Rattle.sdf_specs.specs.Blank.{no_edits}
+use Rattle.sdf_specs.specs.declared.items.Specifier.TheVariants.{Def, Class}
+use Rattle.sdf_specs.specs.declared.property.Property.TheVariants.{Attr}
+use Rattle.sdf_values.specs.declared.type_name.ElementType.TheVariants as element
+use Rattle.sdf_values.specs.declared.value.Value.TheVariants as value
+use Rattle.composition.specs.World.{World}
+use Rattle.composition_worlds.specs.Listed.{present, listed_world}
+
+abbrev pub world : World
+world = listed_world (codes "root.usda") None ((
+  (codes "root.usda"),
+  present (record {
+    head = record { sublayers = ([]); default_prim = None; meta = ([]); root_names = ((codes "A") ∷ []); root_order = ([]) };
+    specs = (
+        ((Prim (codes "A") ∷ []), (record { arcs = record { inherits = no_edits; specializes = no_edits; references = (record { explicit = (Some ((record { asset = (Some (codes "m.usda")); path = (Some (Prim (codes "M") ∷ Prim (codes "b") ∷ [])); offset = (record { offset = (pos 0); scale = (pos 1) }) }) ∷ [])); deleted = ([]); added = ([]); prepended = ([]); appended = ([]); ordered = ([]) }); payloads = no_edits; variant_sets = no_edits; selections = ([]) }; body = record { specifier = Def; type_name = None; meta = ([]); api_schemas = no_edits; clip_sets = no_edits; children = ([]); child_order = ([]); properties = ([]); property_order = ([]); variant_names = ([]) } })) ∷ []);
+  }),
+) ∷ (
+  (codes "m.usda"),
+  present (record {
+    head = record { sublayers = ([]); default_prim = None; meta = ([]); root_names = ((codes "M") ∷ (codes "K") ∷ []); root_order = ([]) };
+    specs = (
+        ((Prim (codes "M") ∷ []), (record { arcs = record { inherits = no_edits; specializes = no_edits; references = (record { explicit = (Some ((record { asset = (Some (codes "n.usda")); path = (Some (Prim (codes "N") ∷ [])); offset = (record { offset = (pos 0); scale = (pos 1) }) }) ∷ [])); deleted = ([]); added = ([]); prepended = ([]); appended = ([]); ordered = ([]) }); payloads = no_edits; variant_sets = no_edits; selections = ([]) }; body = record { specifier = Def; type_name = None; meta = ([]); api_schemas = no_edits; clip_sets = no_edits; children = ([]); child_order = ([]); properties = ([]); property_order = ([]); variant_names = ([]) } })) ∷
+        ((Prim (codes "K") ∷ []), (record { arcs = record { inherits = no_edits; specializes = no_edits; references = no_edits; payloads = no_edits; variant_sets = no_edits; selections = ([]) }; body = record { specifier = Class; type_name = None; meta = ([]); api_schemas = no_edits; clip_sets = no_edits; children = ((codes "b") ∷ []); child_order = ([]); properties = ([]); property_order = ([]); variant_names = ([]) } })) ∷
+        ((Prim (codes "K") ∷ Prim (codes "b") ∷ []), (record { arcs = record { inherits = no_edits; specializes = no_edits; references = no_edits; payloads = no_edits; variant_sets = no_edits; selections = ([]) }; body = record { specifier = Def; type_name = None; meta = ([]); api_schemas = no_edits; clip_sets = no_edits; children = ([]); child_order = ([]); properties = ((Attr (codes "x") (record { element = element.Int; array = false }) false false (Some (value.Whole (pos 1))) ([]) no_edits ([])) ∷ []); property_order = ([]); variant_names = ([]) } })) ∷ []);
+  }),
+) ∷ (
+  (codes "n.usda"),
+  present (record {
+    head = record { sublayers = ([]); default_prim = None; meta = ([]); root_names = ((codes "N") ∷ []); root_order = ([]) };
+    specs = (
+        ((Prim (codes "N") ∷ []), (record { arcs = record { inherits = (record { explicit = (Some ((Prim (codes "K") ∷ []) ∷ [])); deleted = ([]); added = ([]); prepended = ([]); appended = ([]); ordered = ([]) }); specializes = no_edits; references = no_edits; payloads = no_edits; variant_sets = no_edits; selections = ([]) }; body = record { specifier = Def; type_name = None; meta = ([]); api_schemas = no_edits; clip_sets = no_edits; children = ([]); child_order = ([]); properties = ([]); property_order = ([]); variant_names = ([]) } })) ∷ []);
+  }),
+) ∷
+    [])

@@ -1,0 +1,18 @@
+-- A world of 1 layers.
+use Rattle.std.specs.Prelude.{codes, [], ◌∷◌, Some, None}
+use Rattle.sdf_paths.specs.declared.element.Element.TheVariants.{Prim}
+use Rattle.sdf_specs.specs.Blank.{no_edits}
+use Rattle.sdf_specs.specs.declared.items.Specifier.TheVariants.{Class}
+use Rattle.composition.specs.World.{World}
+use Rattle.composition_worlds.specs.Listed.{present, listed_world}
+
+abbrev pub world : World
+world = listed_world (codes "root.usda") None ((
+  (codes "root.usda"),
+  present (record {
+    head = record { sublayers = ([]); default_prim = (Some (codes "/_c")); meta = ([]); root_names = ((codes "_c") ∷ []); root_order = ([]) };
+    specs = (
+        ((Prim (codes "_c") ∷ []), (record { arcs = record { inherits = (record { explicit = (Some ((Prim (codes "_c") ∷ []) ∷ [])); deleted = ([]); added = ([]); prepended = ([]); appended = ([]); ordered = ([]) }); specializes = no_edits; references = no_edits; payloads = no_edits; variant_sets = no_edits; selections = (((codes "t"), (codes "x")) ∷ []) }; body = record { specifier = Class; type_name = None; meta = ([]); api_schemas = no_edits; clip_sets = no_edits; children = ([]); child_order = ([]); properties = ([]); property_order = ([]); variant_names = ([]) } })) ∷ []);
+  }),
+) ∷
+    [])

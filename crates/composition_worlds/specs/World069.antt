@@ -1,0 +1,21 @@
+-- A world of 1 layers.
+use Rattle.std.specs.Prelude.{codes, pos, false, [], ◌∷◌, None}
+use Rattle.sdf_paths.specs.declared.element.Element.TheVariants.{Prim}
+use Rattle.sdf_specs.specs.Blank.{no_edits}
+use Rattle.sdf_specs.specs.declared.items.Specifier.TheVariants.{Over}
+use Rattle.sdf_values.specs.declared.type_name.ElementType.TheVariants as element
+use Rattle.sdf_values.specs.declared.value.DictType.TheVariants as dict_type
+use Rattle.sdf_values.specs.declared.value.Value.TheVariants as value
+use Rattle.composition.specs.World.{World}
+use Rattle.composition_worlds.specs.Listed.{present, listed_world}
+
+abbrev pub world : World
+world = listed_world (codes "root.usda") None ((
+  (codes "root.usda"),
+  present (record {
+    head = record { sublayers = ([]); default_prim = None; meta = ([]); root_names = ((codes "B") ∷ []); root_order = ([]) };
+    specs = (
+        ((Prim (codes "B") ∷ []), (record { arcs = record { inherits = no_edits; specializes = (record { explicit = None; deleted = ([]); added = ([]); prepended = ([]); appended = ((Prim (codes "B") ∷ []) ∷ []); ordered = ([]) }); references = no_edits; payloads = no_edits; variant_sets = no_edits; selections = ([]) }; body = record { specifier = Over; type_name = None; meta = (((codes "customData"), (value.Dict ((record { key = (codes "b"); ty = (dict_type.Plain (record { element = element.Int; array = false })); value = (value.Whole (pos 8)) }) ∷ []))) ∷ []); api_schemas = no_edits; clip_sets = no_edits; children = ([]); child_order = ([]); properties = ([]); property_order = ([]); variant_names = ([]) } })) ∷ []);
+  }),
+) ∷
+    [])

@@ -1,0 +1,18 @@
+-- A world of 1 layers.
+use Rattle.std.specs.Prelude.{codes, pos, [], ◌∷◌, Some, None}
+use Rattle.sdf_paths.specs.declared.element.Element.TheVariants.{Prim}
+use Rattle.sdf_specs.specs.Blank.{no_edits}
+use Rattle.sdf_specs.specs.declared.items.Specifier.TheVariants.{Def}
+use Rattle.composition.specs.World.{World}
+use Rattle.composition_worlds.specs.Listed.{present, listed_world}
+
+abbrev pub world : World
+world = listed_world (codes "root.usda") None ((
+  (codes "root.usda"),
+  present (record {
+    head = record { sublayers = ([]); default_prim = None; meta = ([]); root_names = ((codes "A") ∷ []); root_order = ([]) };
+    specs = (
+        ((Prim (codes "A") ∷ []), (record { arcs = record { inherits = no_edits; specializes = no_edits; references = (record { explicit = (Some ((record { asset = (Some (codes "root.usda")); path = (Some (Prim (codes "A") ∷ [])); offset = (record { offset = (pos 0); scale = (pos 1) }) }) ∷ [])); deleted = ([]); added = ([]); prepended = ([]); appended = ([]); ordered = ([]) }); payloads = no_edits; variant_sets = no_edits; selections = ([]) }; body = record { specifier = Def; type_name = None; meta = ([]); api_schemas = no_edits; clip_sets = no_edits; children = ([]); child_order = ([]); properties = ([]); property_order = ([]); variant_names = ([]) } })) ∷ []);
+  }),
+) ∷
+    [])

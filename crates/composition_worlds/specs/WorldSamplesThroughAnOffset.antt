@@ -1,0 +1,22 @@
+-- A world of 2 layers.
+use Rattle.std.specs.Prelude.{codes, pos, false, [], ◌∷◌, None}
+use Rattle.sdf_paths.specs.declared.element.Element.TheVariants.{Prim}
+use Rattle.sdf_specs.specs.Blank.{no_edits}
+use Rattle.sdf_specs.specs.declared.items.Specifier.TheVariants.{Def}
+use Rattle.sdf_specs.specs.declared.property.Property.TheVariants.{Attr}
+use Rattle.sdf_values.specs.declared.type_name.ElementType.TheVariants as element
+use Rattle.sdf_values.specs.declared.value.Value.TheVariants as value
+use Rattle.composition.specs.World.{World}
+use Rattle.composition_worlds.specs.Listed.{present, listed_world}
+
+abbrev pub world : World
+world = listed_world (codes "root.usda") None (
+    ((codes "root.usda"), present (record { head = record { sublayers = ((record { asset = (codes "s.usda"); offset = (record { offset = (pos 10); scale = (pos 2) }) }) ∷ []); default_prim = None; meta = ([]); root_names = ([]); root_order = ([]) }; specs = ([]) })) ∷ (
+      (codes "s.usda"),
+      present (record {
+        head = record { sublayers = ([]); default_prim = None; meta = ([]); root_names = ((codes "A") ∷ []); root_order = ([]) };
+        specs = (
+            ((Prim (codes "A") ∷ []), (record { arcs = record { inherits = no_edits; specializes = no_edits; references = no_edits; payloads = no_edits; variant_sets = no_edits; selections = ([]) }; body = record { specifier = Def; type_name = None; meta = ([]); api_schemas = no_edits; clip_sets = no_edits; children = ([]); child_order = ([]); properties = ((Attr (codes "x") (record { element = element.Int; array = false }) false false None (((pos 1000000000000000000), (value.Whole (pos 7))) ∷ ((pos 5000000000000000000), (value.Whole (pos 8))) ∷ []) no_edits ([])) ∷ []); property_order = ([]); variant_names = ([]) } })) ∷ []);
+      }),
+    ) ∷
+    [])

@@ -1,0 +1,15 @@
+// What composition makes of a small world, as closed equations.
+ghost use Rattle.std.specs.Prelude.{◌≡◌, codes, pos, negsuc, [], ◌∷◌};
+ghost use Rattle.sdf_paths.specs.declared.element.Element.TheVariants.{Prim, Property};
+ghost use Rattle.std.specs.Prelude.{true, false, Some, None};
+ghost use Rattle.sdf_values.specs.declared.decimal.Num.TheVariants as num;
+ghost use Rattle.sdf_values.specs.declared.value.Value.TheVariants as value;
+ghost use Rattle.composition_worlds.specs.Replies.{replies, children, sites, faults, value_at_time, default, samples, targets, no_property, no_value, is_value, are_samples, are_targets};
+ghost use Rattle.composition_worlds.specs.World035.{world as world_035};
+
+/// Prim by prim.
+pub fn world_035()
+    ensures { (replies world_035 ([]) (children ∷ sites ∷ faults ∷ []) ([]) ≡ record { text = (codes "children /: [\"H\", \"M\"]\nsites /: 1\n  @root.usda@ /\nfaults /: 0\n"); answers = ([]) })
+        × (replies world_035 (Prim (codes "H") ∷ []) (children ∷ sites ∷ faults ∷ []) ((default (codes "p:q")) ∷ (value_at_time (codes "r") (pos 0)) ∷ []) ≡ record { text = (codes "children /H: []\nsites /H: 1\n  @root.usda@ /H\nfaults /H: 1\n  ArcCycle @root.usda@</H> inherits </H>\n"); answers = (no_value ∷ no_property ∷ []) })
+        × (replies world_035 (Prim (codes "M") ∷ []) (children ∷ sites ∷ faults ∷ []) ((targets (codes "p:q")) ∷ (samples (codes "r")) ∷ []) ≡ record { text = (codes "children /M: []\nsites /M: 1\n  @root.usda@ /M\nfaults /M: 0\n"); answers = (no_property ∷ no_property ∷ []) }) }
+{}

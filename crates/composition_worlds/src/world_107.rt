@@ -1,0 +1,24 @@
+// What composition makes of a small world, as closed equations.
+ghost use Rattle.std.specs.Prelude.{◌≡◌, codes, pos, negsuc, [], ◌∷◌};
+ghost use Rattle.sdf_paths.specs.declared.element.Element.TheVariants.{Prim, Property};
+ghost use Rattle.std.specs.Prelude.{true, false, Some, None};
+ghost use Rattle.sdf_values.specs.declared.decimal.Num.TheVariants as num;
+ghost use Rattle.sdf_values.specs.declared.value.Value.TheVariants as value;
+ghost use Rattle.composition_worlds.specs.Replies.{replies, children, sites, faults, value_at_time, default, samples, targets, no_property, no_value, is_value, are_samples, are_targets};
+ghost use Rattle.composition_worlds.specs.World107.{world as world_107};
+
+/// Prim by prim.
+pub fn world_107()
+    ensures { (replies world_107 ([]) (children ∷ sites ∷ faults ∷ []) ([]) ≡ record { text = (codes "children /: [\"D\", \"_k\", \"E\", \"H\"]\nsites /: 1\n  @root.usda@ /\nfaults /: 0\n"); answers = ([]) })
+        × (replies world_107 (Prim (codes "D") ∷ []) (children ∷ sites ∷ faults ∷ []) ((default (codes "x")) ∷ (value_at_time (codes "q") (pos 1000000000000000000000000)) ∷ []) ≡ record { text = (codes "children /D: [\"_k\"]\nsites /D: 1\n  @root.usda@ /D\nfaults /D: 0\n"); answers = (no_property ∷ no_property ∷ []) })
+        × (replies world_107 (Prim (codes "D") ∷ Prim (codes "_k") ∷ []) (children ∷ sites ∷ faults ∷ []) ((value_at_time (codes "x") (pos 2500000000000000000)) ∷ (default (codes "q")) ∷ []) ≡ record { text = (codes "children /D/_k: []\nsites /D/_k: 1\n  @root.usda@ /D/_k\nfaults /D/_k: 0\n"); answers = (no_property ∷ no_property ∷ []) })
+        × (replies world_107 (Prim (codes "_k") ∷ []) (children ∷ sites ∷ faults ∷ []) ((value_at_time (codes "q") (pos 10000000000000000000)) ∷ (samples (codes "x")) ∷ []) ≡ record { text = (codes "children /_k: [\"A\", \"B\", \"G\"]\nsites /_k: 1\n  @root.usda@ /_k\nfaults /_k: 0\n"); answers = (no_property ∷ no_property ∷ []) })
+        × (replies world_107 (Prim (codes "_k") ∷ Prim (codes "A") ∷ []) (children ∷ sites ∷ faults ∷ []) ((targets (codes "q")) ∷ (value_at_time (codes "x") (pos 0)) ∷ []) ≡ record { text = (codes "children /_k/A: []\nsites /_k/A: 1\n  @root.usda@ /_k/A\nfaults /_k/A: 0\n"); answers = ((are_targets ((Prim (codes "_k") ∷ Prim (codes "E") ∷ Property (codes "x") ∷ []) ∷ (Prim (codes "H") ∷ []) ∷ (Prim (codes "D") ∷ Property (codes "x") ∷ []) ∷ [])) ∷ no_property ∷ []) })
+        × (replies world_107 (Prim (codes "_k") ∷ Prim (codes "B") ∷ []) (children ∷ sites ∷ faults ∷ []) ((value_at_time (codes "q") (pos 1000000000000000000000000)) ∷ (targets (codes "x")) ∷ []) ≡ record { text = (codes "children /_k/B: [\"A\", \"E\"]\nsites /_k/B: 1\n  @root.usda@ /_k/B\nfaults /_k/B: 0\n"); answers = (no_property ∷ no_property ∷ []) })
+        × (replies world_107 (Prim (codes "_k") ∷ Prim (codes "B") ∷ Prim (codes "A") ∷ []) (children ∷ sites ∷ faults ∷ []) ((default (codes "q")) ∷ (value_at_time (codes "x") (pos 1000000000000000000)) ∷ []) ≡ record { text = (codes "children /_k/B/A: []\nsites /_k/B/A: 1\n  @root.usda@ /_k/B/A\nfaults /_k/B/A: 0\n"); answers = (no_property ∷ no_property ∷ []) })
+        × (replies world_107 (Prim (codes "_k") ∷ Prim (codes "B") ∷ Prim (codes "E") ∷ []) (children ∷ sites ∷ faults ∷ []) ((default (codes "q")) ∷ (targets (codes "x")) ∷ []) ≡ record { text = (codes "children /_k/B/E: [\"E\"]\nsites /_k/B/E: 1\n  @root.usda@ /_k/B/E\nfaults /_k/B/E: 0\n"); answers = (no_property ∷ no_property ∷ []) })
+        × (replies world_107 (Prim (codes "_k") ∷ Prim (codes "B") ∷ Prim (codes "E") ∷ Prim (codes "E") ∷ []) (children ∷ sites ∷ faults ∷ []) ((value_at_time (codes "x") (pos 1000000000000000000)) ∷ (samples (codes "q")) ∷ []) ≡ record { text = (codes "children /_k/B/E/E: []\nsites /_k/B/E/E: 2\n  @root.usda@ /_k/B/E/E\n  @root.usda@ /H\nfaults /_k/B/E/E: 0\n"); answers = (no_property ∷ no_property ∷ []) })
+        × (replies world_107 (Prim (codes "_k") ∷ Prim (codes "G") ∷ []) (children ∷ sites ∷ faults ∷ []) ((value_at_time (codes "x") (pos 1000000000000000000000000)) ∷ (value_at_time (codes "q") (pos 24000000000000000000)) ∷ []) ≡ record { text = (codes "children /_k/G: []\nsites /_k/G: 1\n  @root.usda@ /_k/G\nfaults /_k/G: 0\n"); answers = (no_property ∷ no_property ∷ []) })
+        × (replies world_107 (Prim (codes "E") ∷ []) (children ∷ sites ∷ faults ∷ []) ((targets (codes "q")) ∷ (targets (codes "x")) ∷ []) ≡ record { text = (codes "children /E: []\nsites /E: 2\n  @root.usda@ /E\n  @root.usda@ /_k/G\nfaults /E: 0\n"); answers = (no_property ∷ no_property ∷ []) })
+        × (replies world_107 (Prim (codes "H") ∷ []) (children ∷ sites ∷ faults ∷ []) ((value_at_time (codes "q") (negsuc 2999999999999999999)) ∷ (value_at_time (codes "x") (negsuc 2999999999999999999)) ∷ []) ≡ record { text = (codes "children /H: []\nsites /H: 1\n  @root.usda@ /H\nfaults /H: 0\n"); answers = (no_property ∷ no_property ∷ []) }) }
+{}

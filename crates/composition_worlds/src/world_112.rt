@@ -1,0 +1,14 @@
+// What composition makes of a small world, as closed equations.
+ghost use Rattle.std.specs.Prelude.{◌≡◌, codes, pos, negsuc, [], ◌∷◌};
+ghost use Rattle.sdf_paths.specs.declared.element.Element.TheVariants.{Prim, Property};
+ghost use Rattle.std.specs.Prelude.{true, false, Some, None};
+ghost use Rattle.sdf_values.specs.declared.decimal.Num.TheVariants as num;
+ghost use Rattle.sdf_values.specs.declared.value.Value.TheVariants as value;
+ghost use Rattle.composition_worlds.specs.Replies.{replies, children, sites, faults, value_at_time, default, samples, targets, no_property, no_value, is_value, are_samples, are_targets};
+ghost use Rattle.composition_worlds.specs.World112.{world as world_112};
+
+/// Prim by prim.
+pub fn world_112()
+    ensures { (replies world_112 ([]) (children ∷ sites ∷ faults ∷ []) ([]) ≡ record { text = (codes "children /: [\"M\"]\nsites /: 1\n  @root.usda@ /\nfaults /: 0\n"); answers = ([]) })
+        × (replies world_112 (Prim (codes "M") ∷ []) (children ∷ sites ∷ faults ∷ []) ((value_at_time (codes "p:q") (pos 2500000000000000000)) ∷ (default (codes "r")) ∷ (samples (codes "y")) ∷ (targets (codes "x")) ∷ []) ≡ record { text = (codes "children /M: []\nsites /M: 1\n  @root.usda@ /M\nfaults /M: 0\n"); answers = ((is_value (value.Whole (pos 26))) ∷ no_property ∷ no_value ∷ no_value ∷ []) }) }
+{}

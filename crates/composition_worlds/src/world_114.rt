@@ -1,0 +1,17 @@
+// What composition makes of a small world, as closed equations.
+ghost use Rattle.std.specs.Prelude.{◌≡◌, codes, pos, negsuc, [], ◌∷◌};
+ghost use Rattle.sdf_paths.specs.declared.element.Element.TheVariants.{Prim, Property};
+ghost use Rattle.std.specs.Prelude.{true, false, Some, None};
+ghost use Rattle.sdf_values.specs.declared.decimal.Num.TheVariants as num;
+ghost use Rattle.sdf_values.specs.declared.value.Value.TheVariants as value;
+ghost use Rattle.composition_worlds.specs.Replies.{replies, children, sites, faults, value_at_time, default, samples, targets, no_property, no_value, is_value, are_samples, are_targets};
+ghost use Rattle.composition_worlds.specs.World114.{world as world_114};
+
+/// Prim by prim.
+pub fn world_114()
+    ensures { (replies world_114 ([]) (children ∷ sites ∷ faults ∷ []) ([]) ≡ record { text = (codes "children /: [\"H\"]\nsites /: 1\n  @root.usda@ /\nfaults /: 1\n  SublayerBroken @root.usda@ @sub/d.usda@\n"); answers = ([]) })
+        × (replies world_114 (Prim (codes "H") ∷ []) (children ∷ sites ∷ faults ∷ []) ((value_at_time (codes "q") (pos 10000000000000000000)) ∷ (value_at_time (codes "y") (pos 1000000000000000000)) ∷ (value_at_time (codes "r") (negsuc 2999999999999999999)) ∷ (value_at_time (codes "x") (pos 1000000000000000000)) ∷ (value_at_time (codes "w") (negsuc 2999999999999999999)) ∷ (default (codes "p:q")) ∷ []) ≡ record { text = (codes "children /H: [\"A\", \"F\"]\nsites /H: 1\n  @root.usda@ /H\nfaults /H: 1\n  BrokenLayer @sub/c.usda@</H> payload @sub/d.usda@</_c/_c> (offset = 1; scale = 2) Syntax 23:15\n"); answers = (no_property ∷ (is_value (value.Whole (pos 89))) ∷ no_property ∷ no_property ∷ no_property ∷ no_property ∷ []) })
+        × (replies world_114 (Prim (codes "H") ∷ Prim (codes "A") ∷ []) (children ∷ sites ∷ faults ∷ []) ((targets (codes "p:q")) ∷ (value_at_time (codes "r") (pos 1000000000000000000)) ∷ (value_at_time (codes "w") (pos 10000000000000000000)) ∷ (targets (codes "y")) ∷ (targets (codes "q")) ∷ (samples (codes "x")) ∷ []) ≡ record { text = (codes "children /H/A: []\nsites /H/A: 1\n  @root.usda@ /H/A\nfaults /H/A: 0\n"); answers = (no_property ∷ no_property ∷ no_property ∷ no_property ∷ no_property ∷ no_property ∷ []) })
+        × (replies world_114 (Prim (codes "H") ∷ Prim (codes "F") ∷ []) (children ∷ sites ∷ faults ∷ []) ((value_at_time (codes "p:q") (pos 1000000000000000000)) ∷ (value_at_time (codes "w") (pos 0)) ∷ (targets (codes "r")) ∷ (default (codes "q")) ∷ (value_at_time (codes "y") (pos 24000000000000000000)) ∷ (default (codes "x")) ∷ []) ≡ record { text = (codes "children /H/F: [\"_c\"]\nsites /H/F: 1\n  @root.usda@ /H/F\nfaults /H/F: 0\n"); answers = (no_property ∷ no_property ∷ no_property ∷ no_property ∷ no_property ∷ no_property ∷ []) })
+        × (replies world_114 (Prim (codes "H") ∷ Prim (codes "F") ∷ Prim (codes "_c") ∷ []) (children ∷ sites ∷ faults ∷ []) ((default (codes "w")) ∷ (samples (codes "q")) ∷ (value_at_time (codes "r") (pos 10000000000000000000)) ∷ (value_at_time (codes "p:q") (pos 10000000000000000000)) ∷ (value_at_time (codes "y") (pos 24000000000000000000)) ∷ (value_at_time (codes "x") (pos 1000000000000000000)) ∷ []) ≡ record { text = (codes "children /H/F/_c: []\nsites /H/F/_c: 1\n  @root.usda@ /H/F/_c\nfaults /H/F/_c: 2\n  ArcCycle @root.usda@</H/F/_c> specializes </H/F/_c>\n  SublayerBroken @root.usda@ @sub/d.usda@\n"); answers = (no_property ∷ no_property ∷ no_property ∷ no_property ∷ no_property ∷ no_property ∷ []) }) }
+{}
