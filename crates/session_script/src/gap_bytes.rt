@@ -8,21 +8,21 @@ ghost use Rattle.session_script.specs.declared.gap.Gap.TheVariants.{Between};
 
 use crate::gap::Gap;
 
-// A space, a tab, a carriage return or a line feed.
+/// A space, a tab, a carriage return or a line feed.
 pub fn is_blank(c: u8) -> bool
     ensures { result ≡ is_blank c }
 {
     c == b' ' || c == b'\t' || c == b'\r' || c == b'\n'
 }
 
-// Whether a byte, before this next one, begins a comment.
+/// Whether a byte, before this next one, begins a comment.
 pub fn begins_comment(c: u8, next: u8) -> bool
     ensures { result ≡ begins_comment c next }
 {
     c == b'#' || (c == b'/' && (next == b'/' || next == b'*'))
 }
 
-// The byte at a place; 0 past the end.
+/// The byte at a place; 0 past the end.
 pub fn byte_at(bytes: &[u8], at: usize) -> u8
     ensures { result ≡ slice_index bytes.now at }
 {
@@ -71,7 +71,7 @@ fn may_end(gap: Gap) -> bool
     }
 }
 
-// What follows the blanks and comments in front; nothing where a comment does not end.
+/// What follows the blanks and comments in front; nothing where a comment does not end.
 pub fn behind_gap(bytes: &[u8]) -> Option<&[u8]>
     ensures { option_copied result ≡ behind_gap Between bytes.now }
 {
@@ -85,7 +85,7 @@ pub fn behind_gap(bytes: &[u8]) -> Option<&[u8]>
     if may_end(gap) { Some(&[]) } else { None }
 }
 
-// How many blanks stand in front.
+/// How many blanks stand in front.
 pub fn blanks_len(bytes: &[u8]) -> usize
     ensures value { result ≡ prefix_len is_blank bytes.now }
     ensures within { result ≤ length bytes.now }
@@ -98,7 +98,7 @@ pub fn blanks_len(bytes: &[u8]) -> usize
     bytes.len()
 }
 
-// How far it is to the next blank.
+/// How far it is to the next blank.
 pub fn run_len(bytes: &[u8]) -> usize
     ensures value { result ≡ prefix_len (λ c. not (is_blank c)) bytes.now }
     ensures within { result ≤ length bytes.now }

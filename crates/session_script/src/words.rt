@@ -38,7 +38,7 @@ fn is_name_byte(c: u8) -> bool
     is_name_start(c) || is_digit(c)
 }
 
-// How many bytes in front may stand in a name.
+/// How many bytes in front may stand in a name.
 pub fn name_len(bytes: &[u8]) -> usize
     ensures value { result ≡ prefix_len is_name_byte bytes.now }
     ensures within { result ≤ length bytes.now }
@@ -113,7 +113,7 @@ fn pieces_of<'t>(alloc: Global, text: &'t [u8], separator: u8) -> Result<Vec<&'t
     Ok(pieces)
 }
 
-// Whether the bytes are UTF-8.
+/// Whether the bytes are UTF-8.
 pub fn is_text(bytes: &[u8]) -> bool
     ensures { result ≡ is_utf8 bytes.now }
 {
