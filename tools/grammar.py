@@ -60,7 +60,9 @@ symbol("CloseBrace", "`}`", [("CloseBrace", [])])
 symbol("CloseBracket", "`]`", [("CloseBracket", [])])
 symbol("RootPrims", "The word `rootPrims`.", [("RootPrims", [])])
 symbol("OffsetNumber", "The number of an offset or a scale.", [("Number", [])])
-symbol("QuotedName", "The name of a prim, a variant set or a variant, in quotes.", [("Quoted", [])])
+symbol("BodyEnd", "The `}` behind the statements of a prim or a variant.", [("CloseBrace", [])])
+symbol("PrimName", "The name of a prim, in quotes.", [("Quoted", [])])
+symbol("SetName", "The name of a variant set, in quotes.", [("Quoted", [])])
 symbol("MaybeSemicolon", "`;`, or nothing.", [("Semicolon", [])], True)
 symbol("MaybeHead", "The metadata of the layer in brackets, or nothing.", [("OpenParen", ["HeadItems", "CloseParen"])], True)
 symbol("HeadItems", "The metadata of the layer.",
@@ -70,7 +72,7 @@ symbol("SubLayerList", "The list of sublayers.", [("OpenBracket", ["SubLayersOrE
 items("SubLayers", ("SubLayersOrEnd", "MoreSubLayers"), "the sublayers", lambda more: [("Asset", ["MaybeOffsets"] + more)])
 symbol("MaybeOffsets", "Offset and scale in brackets, or nothing.", [("OpenParen", ["OffsetItems", "CloseParen"])], True)
 symbol("OffsetItems", "Offset and scale.", words(["Equals", "OffsetNumber", "MaybeSemicolon", "OffsetItems"]), True)
-PRIM = ["MaybeTypeName", "QuotedName", "MaybePrimMetadata", "OpenBrace", "PrimBody", "CloseBrace", "MaybeSemicolon"]
+PRIM = ["MaybeTypeName", "PrimName", "MaybePrimMetadata", "OpenBrace", "PrimBody", "BodyEnd", "MaybeSemicolon"]
 symbol("RootStatements", "The root prims, and the orders of them.",
        [("Specifier", PRIM + ["RootStatements"]), ("Reorder", ["RootPrims", "Equals", "NameList", "MaybeSemicolon", "RootStatements"])], True)
 
@@ -103,7 +105,7 @@ field_list("Path", "Paths", "the paths of a list", lambda more: [("Path", more)]
 field_list("Reference", "References", "the references or payloads of a list",
            lambda more: [("Asset", ["MaybePath", "MaybeOffsets"] + more), ("Path", ["MaybeOffsets"] + more)])
 symbol("MaybePath", "The path of a prim behind an asset, or nothing.", [("Path", [])], True)
-symbol("VariantList", "The variants of a set.", [("Quoted", ["MaybePrimMetadata", "OpenBrace", "PrimBody", "CloseBrace", "VariantList"])], True)
+symbol("VariantList", "The variants of a set.", [("Quoted", ["MaybePrimMetadata", "OpenBrace", "PrimBody", "BodyEnd", "VariantList"])], True)
 
 # ---- properties
 module("Properties", "The body of a prim: properties, variant sets, orders and children.")
@@ -113,7 +115,7 @@ CONNECTION = ["MaybeBrackets", "PropertyName", "Dot", "ConnectWord"]
 STATEMENT_WORDS = ["Specifier", "VariantSet", "Reorder", "Edit", "Custom", "Variability", "Rel"]
 symbol("PrimBody", "The statements of a prim or a variant.",
        [("Specifier", PRIM + ["PrimBody"]),
-        ("VariantSet", ["QuotedName", "Equals", "OpenBrace", "VariantList", "CloseBrace", "MaybeSemicolon", "PrimBody"]),
+        ("VariantSet", ["SetName", "Equals", "OpenBrace", "VariantList", "CloseBrace", "MaybeSemicolon", "PrimBody"]),
         ("Reorder", ["AfterReorder", "MaybeSemicolon", "PrimBody"]), ("Edit", ["AfterEdit", "MaybeSemicolon", "PrimBody"]),
         ("Custom", ["AfterCustom", "MaybeSemicolon", "PrimBody"]), ("Variability", ["AfterVariability", "MaybeSemicolon", "PrimBody"]),
         ("Rel", RELATIONSHIP + ["MaybeSemicolon", "PrimBody"])]

@@ -614,9 +614,9 @@ def refusal_in(expected, layer):
 HEAD = """-- {doc}
 use Rattle.std.specs.Prelude.{{codes, pos, negsuc, true, false, List, [], ◌∷◌, Option, Some, None}}
 use Rattle.sdf_paths.specs.declared.element.Element.TheVariants.{{Prim, Selection, Property}}
-use Rattle.sdf_specs.specs.Blank.{{no_edits}}
-use Rattle.sdf_specs.specs.declared.items.Specifier.TheVariants.{{Def, Over, Class}}
-use Rattle.sdf_specs.specs.declared.property.Property.TheVariants.{{Attr, Rel}}
+use Rattle.spec_parts.specs.Blank.{{no_edits}}
+use Rattle.spec_parts.specs.declared.items.Specifier.TheVariants.{{Def, Over, Class}}
+use Rattle.spec_properties.specs.declared.property.Property.TheVariants.{{Attr, Rel}}
 use Rattle.sdf_values.specs.declared.decimal.Num.TheVariants as num
 use Rattle.sdf_values.specs.declared.refusal.RefusalKind.TheVariants.{{Crate, Package, Syntax, BadHeader, NotUtf8, ValueShape, UnknownType, DuplicateSpec}}
 use Rattle.sdf_values.specs.declared.type_name.ElementType.TheVariants as element
@@ -722,12 +722,22 @@ ANSWERS = """-- World {number}, by computing.
 use Rattle.std.proofs.Common.{{refl}}
 use Rattle.std.specs.Fmt.{{digits}}
 use Rattle.composition.specs.Compose.{{meaning}}
-use Rattle.{crate}.proofs.world_{number}.world_{number}.Goals as goal
+{words}use Rattle.{crate}.proofs.world_{number}.world_{number}.Goals as goal
 
 pub returns : goal.returns
-unfolding meaning digits
+unfolding meaning digits{names}
 returns c = {terms}
 """
+
+# the words of faults that are not an arc's and not a sublayer's, as they print, and their definitions
+FAULT_WORDS = {"TargetOutside ": "target_word", "TimeOutside ": "time_word", '  PathTooLong \\"': "child_word"}
+
+
+def fault_words(equations):
+    """What the answers of a world have to unfold beside the meaning."""
+    names = [name for text, name in FAULT_WORDS.items() if any(text in e for e in equations)]
+    use = f"use Rattle.prim_view.specs.Printing.{{{', '.join(names)}}}\n" if names else ""
+    return use, "".join(" " + name for name in names)
 
 
 def nested(terms):
@@ -774,7 +784,8 @@ def main():
         proof = os.path.join(crate, "proofs", f"world_{number_}", f"world_{number_}")
         os.makedirs(proof, exist_ok=True)
         with open(os.path.join(proof, "Answers.antt"), "w", encoding="utf-8") as f:
-            f.write(ANSWERS.format(number=number_, crate=name, terms=nested(["refl"] * len(equations))))
+            use, names = fault_words(equations)
+            f.write(ANSWERS.format(number=number_, crate=name, words=use, names=names, terms=nested(["refl"] * len(equations))))
         done.append(number_)
     print(len(done), "worlds:", " ".join(done))
 

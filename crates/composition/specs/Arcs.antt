@@ -1,4 +1,9 @@
 -- The arcs that the layers of a stack author at a path.
+pub use Rattle.prim_view.specs.declared.fault.ItemSource.{ItemSource as Source}
+pub use Rattle.prim_view.specs.declared.fault.ItemSource.TheVariants.{Own as own, Named as named, Unanchored as unanchored}
+pub use Rattle.prim_view.specs.declared.fault.FaultItem.{FaultItem as Item}
+pub use Rattle.prim_view.specs.declared.fault.ArcReason.{ArcReason as Reason}
+pub use Rattle.prim_view.specs.declared.fault.ArcReason.TheVariants.{MissingLayer as missing_layer, BrokenLayer as broken_layer, NoDefaultPrim as no_default_prim, BadTarget as bad_target, OffsetRange as offset_range, ArcCycle as arc_cycle, TooDeep as too_deep, PathTooLong as path_too_long, UnresolvedPrim as unresolved_prim}
 use Rattle.std.specs.Prelude.{ℕ, Bool, true, false, ◌==◌, not, List, [], ◌∷◌, ◌++◌, map, flat_map, reverse, Option, Some, None, option_map}
 use Rattle.std.specs.List.{list_any, filter_map}
 use Rattle.composition.specs.Texts.{Text, same_text, same_option, both}
@@ -9,9 +14,9 @@ use Rattle.list_ops.specs.declared.op.ListOp.{ListOp}
 use Rattle.path_maps.specs.declared.kind.ArcKind.{ArcKind}
 use Rattle.path_maps.specs.declared.kind.ArcKind.TheVariants.{Inherits, Variant, Reference, Payload, Specializes}
 use Rattle.sdf_paths.specs.Paths.{is_property}
-use Rattle.sdf_specs.specs.declared.items.RefItem.{RefItem}
-use Rattle.sdf_specs.specs.declared.items.Refusal.{Refusal}
-use Rattle.sdf_specs.specs.declared.spec.Spec.{Spec}
+use Rattle.spec_parts.specs.declared.items.RefItem.{RefItem}
+use Rattle.spec_parts.specs.declared.items.Refusal.{Refusal}
+use Rattle.spec_parts.specs.declared.spec.Spec.{Spec}
 use Rattle.sdf_values.specs.Scales.{Offset, composed}
 use Rattle.composition.specs.World.{World, Heading, headed, no_layer, refused, LayerHead, identity, in_range, same_offset, StackName, first_layer, stack_of, default_target}
 use Rattle.composition.specs.Stacks.{LayerStack, stack}
@@ -27,23 +32,11 @@ place Specializes = 5
 abbrev pub same_kind : ArcKind → ArcKind → Bool
 same_kind a b = place a == place b
 
--- the layer that an item names: none, so that it is the stack's own; a name; a text that cannot be anchored
-pub data Source : Type 0 where
-  own : Source
-  named : Text → Source
-  unanchored : Text → Source
-
 abbrev pub same_source : Source → Source → Bool
 same_source own own = true
 same_source (named a) (named b) = same_text a b
 same_source (unanchored a) (unanchored b) = same_text a b
 same_source _ _ = false
-
--- an item as it stands in the fold: anchored, its offset composed with its layer's
-pub record Item : Type 0 where
-  pub source : Source
-  pub path : Option Path
-  pub offset : Offset
 
 abbrev pub same_item : Item → Item → Bool
 same_item a b = both (same_source a.source b.source) (both (same_option same_path a.path b.path) (same_offset a.offset b.offset))
@@ -96,17 +89,6 @@ pub record Lead : Type 0 where
   pub stack : StackName
   pub target : Path
   pub offset : Offset
-
-pub data Reason : Type 0 where
-  missing_layer : Reason
-  broken_layer : Refusal → Reason
-  no_default_prim : Reason
-  bad_target : Reason
-  offset_range : Reason
-  arc_cycle : Reason
-  too_deep : Reason
-  path_too_long : Reason
-  unresolved_prim : Reason
 
 -- an arc, or why an item gives none
 pub data Outcome : Type 0 where

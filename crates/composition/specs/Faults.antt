@@ -1,10 +1,14 @@
 -- The faults of a prim that come of its arcs, and its index.
+pub use Rattle.prim_view.specs.declared.fault.ArcFault.{ArcFault}
+pub use Rattle.prim_view.specs.declared.fault.PrimFault.{PrimFault as Fault}
+pub use Rattle.prim_view.specs.declared.fault.PrimFault.TheVariants.{Sublayer as sublayer, Arc as arc, TimeOutside as time_outside, TargetOutside as target_outside, ChildTooLong as child_too_long, Overgrown as overgrown}
+use Rattle.prim_view.specs.Printing.{refusal_name}
 use Rattle.std.specs.Prelude.{ℕ, ◌==◌, Bool, true, false, not, List, [], ◌∷◌, ◌++◌, map, flat_map, filter, zip, codes, Option, Some, None}
 use Rattle.path_maps.specs.declared.kind.ArcKind.{ArcKind}
 use Rattle.path_maps.specs.declared.kind.ArcKind.TheVariants.{Inherits, Reference, Payload, Specializes}
 use Rattle.composition.specs.Texts.{Text, same_text, both}
 use Rattle.composition.specs.Paths.{Path, same_path, Limits}
-use Rattle.sdf_specs.specs.declared.items.Refusal.{Refusal}
+use Rattle.spec_parts.specs.declared.items.Refusal.{Refusal}
 use Rattle.sdf_values.specs.declared.refusal.RefusalKind.{RefusalKind}
 use Rattle.sdf_values.specs.declared.refusal.RefusalKind.TheVariants.{TooLong, Crate, Package, NotUtf8, BadHeader, Syntax, NumberTooLong, UnknownType, ValueShape, TimeRange, OffsetRange, DuplicateSpec, Relocates, Spline, ReferenceData, TooDeep}
 use Rattle.composition.specs.World.{World, is_loaded}
@@ -16,22 +20,6 @@ use Rattle.composition.specs.Strength.{listing, sites}
 use Rattle.composition.specs.Values.{TimeFault}
 use Rattle.composition.specs.Targets.{TargetFault}
 use Rattle.composition.specs.Compose.{stage_tree, is_overgrown_on_the_way}
-
-pub record ArcFault : Type 0 where
-  pub reason : Reason
-  pub layer : Text
-  pub site : Path
-  pub kind : ArcKind
-  pub item : Item
-
--- of a sublayer, of an arc, a value out of the range of times, a target outside, a child whose path is too long, too many nodes
-pub data Fault : Type 0 where
-  sublayer : SublayerFault → Fault
-  arc : ArcFault → Fault
-  time_outside : TimeFault → Fault
-  target_outside : TargetFault → Fault
-  child_too_long : Text → Fault
-  overgrown : Fault
 
 abbrev pub sublayer_place : SublayerReason → ℕ
 sublayer_place sublayer_cycle = 1
@@ -50,26 +38,8 @@ reason_place too_deep = 7
 reason_place path_too_long = 8
 reason_place unresolved_prim = 9
 
-abbrev pub kind_text : RefusalKind → Text
-kind_text TooLong = codes "TooLong"
-kind_text Crate = codes "Crate"
-kind_text Package = codes "Package"
-kind_text NotUtf8 = codes "NotUtf8"
-kind_text BadHeader = codes "BadHeader"
-kind_text Syntax = codes "Syntax"
-kind_text NumberTooLong = codes "NumberTooLong"
-kind_text UnknownType = codes "UnknownType"
-kind_text ValueShape = codes "ValueShape"
-kind_text TimeRange = codes "TimeRange"
-kind_text OffsetRange = codes "OffsetRange"
-kind_text DuplicateSpec = codes "DuplicateSpec"
-kind_text Relocates = codes "Relocates"
-kind_text Spline = codes "Spline"
-kind_text ReferenceData = codes "ReferenceData"
-kind_text TooDeep = codes "TooDeep"
-
 abbrev pub same_refusal : Refusal → Refusal → Bool
-same_refusal a b = both (same_text (kind_text a.kind) (kind_text b.kind)) (both (a.line == b.line) (a.column == b.column))
+same_refusal a b = both (same_text (refusal_name a.kind) (refusal_name b.kind)) (both (a.line == b.line) (a.column == b.column))
 
 abbrev pub same_reason : Reason → Reason → Bool
 same_reason (broken_layer a) (broken_layer b) = same_refusal a b

@@ -4,11 +4,11 @@ use Rattle.list_ops.specs.ListEdits.{firsts, without, reordered}
 use Rattle.list_ops.specs.declared.op.ListOp.{ListOp}
 use Rattle.sdf_paths.specs.Order.{text_cmp}
 use Rattle.sdf_paths.specs.declared.element.Element.TheVariants.{Prim}
-use Rattle.sdf_specs.specs.Entries.{MetaEntries}
-use Rattle.sdf_specs.specs.Properties.{property_names}
-use Rattle.sdf_specs.specs.Tables.{at_key}
-use Rattle.sdf_specs.specs.declared.items.Specifier.{Specifier}
-use Rattle.sdf_specs.specs.declared.items.Specifier.TheVariants.{Def, Over, Class}
+use Rattle.spec_properties.specs.Entries.{MetaEntries}
+use Rattle.spec_properties.specs.Properties.{property_names}
+use Rattle.spec_tables.specs.Tables.{at_key}
+use Rattle.spec_parts.specs.declared.items.Specifier.{Specifier}
+use Rattle.spec_parts.specs.declared.items.Specifier.TheVariants.{Def, Over, Class}
 use Rattle.sdf_values.specs.declared.value.Value.{Value, fold-Value}
 use Rattle.sdf_values.specs.declared.value.Value.TheOpen.{Value-F, DictItem-F}
 use Rattle.std.specs.Prelude.{codes}

@@ -1,8 +1,8 @@
 -- The keys of a world that composition reads at a prim.
 use Rattle.std.specs.Prelude.{◌≡◌, ◌≢◌, Bool, false, List, [], ◌∷◌, ◌++◌, map, flat_map, filter, Option, None, option_map}
 use Rattle.std.specs.List.{list_any, list_all, All}
-use Rattle.sdf_specs.specs.declared.spec.ArcPart.{ArcPart}
-use Rattle.sdf_specs.specs.declared.spec.BodyPart.{BodyPart}
+use Rattle.spec_parts.specs.declared.spec.ArcPart.{ArcPart}
+use Rattle.spec_parts.specs.declared.spec.BodyPart.{BodyPart}
 use Rattle.composition.specs.Texts.{Text, same_text, both}
 use Rattle.composition.specs.Paths.{Path, Limits, same_path, up, levels_of}
 use Rattle.composition.specs.World.{World, Heading, headed, no_layer, refused, RootNames, StackName, Root, stack_of, is_loaded}

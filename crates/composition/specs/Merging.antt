@@ -1,8 +1,8 @@
 -- How metadata merges: dictionaries key by key, the stronger first, nested ones too; of all else the strongest is kept.
 use Rattle.std.specs.Prelude.{Bool, true, false, List, [], ◌∷◌, map, fold, Option, Some, None}
 use Rattle.sdf_paths.specs.Order.{text_cmp}
-use Rattle.sdf_specs.specs.Entries.{MetaEntries}
-use Rattle.sdf_specs.specs.Tables.{at_key, with_key}
+use Rattle.spec_properties.specs.Entries.{MetaEntries}
+use Rattle.spec_tables.specs.Tables.{at_key, with_key}
 use Rattle.sdf_values.specs.declared.value.DictItem.{DictItem}
 use Rattle.sdf_values.specs.declared.value.DictType.{DictType}
 use Rattle.sdf_values.specs.declared.value.Value.{Value, fold-Value}

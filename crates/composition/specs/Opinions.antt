@@ -3,7 +3,7 @@ use Rattle.std.specs.Prelude.{Bool, true, false, not, List, ◌++◌, map, flat_
 use Rattle.std.specs.List.{list_any}
 use Rattle.list_ops.specs.declared.op.ListOp.{ListOp}
 use Rattle.path_maps.specs.declared.kind.ArcKind.TheVariants.{Inherits, Specializes}
-use Rattle.sdf_specs.specs.declared.spec.Spec.{Spec}
+use Rattle.spec_parts.specs.declared.spec.Spec.{Spec}
 use Rattle.sdf_values.specs.Scales.{Offset, composed}
 use Rattle.composition.specs.Texts.{Text}
 use Rattle.composition.specs.Paths.{Limits}

@@ -1,24 +1,15 @@
 -- Layer stacks.
+pub use Rattle.prim_view.specs.declared.fault.SublayerReason.{SublayerReason}
+pub use Rattle.prim_view.specs.declared.fault.SublayerReason.TheVariants.{Cycle as sublayer_cycle, Missing as sublayer_missing, Broken as sublayer_broken, Offset as sublayer_offset}
+pub use Rattle.prim_view.specs.declared.fault.SublayerFault.{SublayerFault}
 use Rattle.std.specs.Prelude.{ℕ, zero, suc, Bool, true, false, List, [], ◌∷◌, ◌++◌, fold, Option, Some, None}
 use Rattle.std.specs.List.{list_any}
 use Rattle.composition.specs.Texts.{Text, same_text}
 use Rattle.composition.specs.Paths.{Limits}
 use Rattle.composition.specs.Assets.{anchor}
-use Rattle.sdf_specs.specs.declared.items.SubLayer.{SubLayer}
+use Rattle.spec_parts.specs.declared.items.SubLayer.{SubLayer}
 use Rattle.sdf_values.specs.Scales.{Offset, composed}
 use Rattle.composition.specs.World.{World, Heading, headed, no_layer, refused, identity, in_range, StackName, Root, Asset}
-
-pub data SublayerReason : Type 0 where
-  sublayer_cycle : SublayerReason
-  sublayer_missing : SublayerReason
-  sublayer_broken : SublayerReason
-  sublayer_offset : SublayerReason
-
--- the layer, the asset as it is anchored, or else as it is written
-pub record SublayerFault : Type 0 where
-  pub reason : SublayerReason
-  pub layer : Text
-  pub asset : Text
 
 -- the strongest layer first, each with its offset towards the stack; `asked` are the names whose presence and heads were looked at
 pub record LayerStack : Type 0 where

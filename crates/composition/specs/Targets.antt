@@ -1,21 +1,16 @@
 -- Targets and connections: each translated towards the stage through the arcs of its site, then folded.
+pub use Rattle.prim_view.specs.declared.fault.TargetFault.{TargetFault}
 use Rattle.std.specs.Prelude.{true, false, List, [], ◌∷◌, ◌++◌, map, flat_map, filter, filter_map, option_map, Option, Some, None}
 use Rattle.list_ops.specs.declared.op.ListOp.{ListOp}
 use Rattle.path_maps.specs.Maps.{translated}
-use Rattle.sdf_specs.specs.declared.property.Property.{Property}
-use Rattle.sdf_specs.specs.declared.property.Property.TheVariants.{Attr, Rel}
+use Rattle.spec_properties.specs.declared.property.Property.{Property}
+use Rattle.spec_properties.specs.declared.property.Property.TheVariants.{Attr, Rel}
 use Rattle.composition.specs.Texts.{Text}
 use Rattle.composition.specs.Paths.{Path, Limits, fits, same_path}
 use Rattle.composition.specs.Arcs.{strongest_folded}
 use Rattle.composition.specs.Nodes.{ArcMap}
 use Rattle.composition.specs.Opinions.{Said, is_opinion}
 use Rattle.composition.specs.Values.{PropertySaid, property_path}
-
--- an item without a translation, unless it is deleted
-pub record TargetFault : Type 0 where
-  pub layer : Text
-  pub property : Path
-  pub target : Path
 
 module _ (l : Limits) where
   abbrev pub if_fits : Option Path → Option Path

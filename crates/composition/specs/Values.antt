@@ -1,11 +1,12 @@
 -- The values of an attribute: the opinions that count, their times on the stage, and the first that decides.
+pub use Rattle.prim_view.specs.declared.fault.TimeFault.{TimeFault}
 use Rattle.std.specs.Prelude.{◌^◌, nat_le, Bool, true, false, cond, ℤ, int_le, unsigned_abs, List, [], ◌∷◌, ◌++◌, flat_map, filter, filter_map, Option, Some, None}
 use Rattle.std.specs.List.{list_any}
 use Rattle.sdf_paths.specs.declared.element.Element.TheVariants as element
-use Rattle.sdf_specs.specs.Entries.{SampleEntries}
-use Rattle.sdf_specs.specs.Properties.{property_at}
-use Rattle.sdf_specs.specs.declared.property.Property.{Property}
-use Rattle.sdf_specs.specs.declared.property.Property.TheVariants.{Attr, Rel}
+use Rattle.spec_properties.specs.Entries.{SampleEntries}
+use Rattle.spec_properties.specs.Properties.{property_at}
+use Rattle.spec_properties.specs.declared.property.Property.{Property}
+use Rattle.spec_properties.specs.declared.property.Property.TheVariants.{Attr, Rel}
 use Rattle.sdf_values.specs.Scales.{Offset, mapped}
 use Rattle.sdf_values.specs.TypeNames.{type_text}
 use Rattle.sdf_values.specs.declared.type_name.ElementType.{ElementType}
@@ -138,11 +139,6 @@ deciding_samples (g ∷ gs) =
 -- the default of the first opinion that has one
 abbrev pub deciding_default : List Given → Option Value
 deciding_default gs = first_of (λ g. g.default) gs
-
--- a layer at one of whose opinions on a property something was left out
-pub record TimeFault : Type 0 where
-  pub layer : Text
-  pub property : Path
 
 abbrev pub property_path : Text → Said → Path
 property_path name s = s.site.path ++ element.Property name ∷ []

@@ -6,12 +6,12 @@ use Rattle.list_ops.specs.ListEdits.{firsts}
 use Rattle.sdf_paths.specs.Order.{text_cmp}
 use Rattle.sdf_paths.specs.Paths.{is_prim_name}
 use Rattle.sdf_paths.specs.declared.element.Element.TheVariants.{Prim}
-use Rattle.sdf_specs.specs.Entries.{MetaEntries, SampleEntries}
-use Rattle.sdf_specs.specs.Tables.{with_key}
-use Rattle.sdf_specs.specs.declared.items.Specifier.{Specifier}
-use Rattle.sdf_specs.specs.declared.items.Specifier.TheVariants.{Over}
-use Rattle.sdf_specs.specs.declared.property.Property.{Property}
-use Rattle.sdf_specs.specs.declared.property.Property.TheVariants.{Attr, Rel}
+use Rattle.spec_properties.specs.Entries.{MetaEntries, SampleEntries}
+use Rattle.spec_tables.specs.Tables.{with_key}
+use Rattle.spec_parts.specs.declared.items.Specifier.{Specifier}
+use Rattle.spec_parts.specs.declared.items.Specifier.TheVariants.{Over}
+use Rattle.spec_properties.specs.declared.property.Property.{Property}
+use Rattle.spec_properties.specs.declared.property.Property.TheVariants.{Attr, Rel}
 use Rattle.sdf_values.specs.Scales.{Offset}
 use Rattle.sdf_values.specs.declared.type_name.TypeName.{TypeName}
 use Rattle.sdf_values.specs.declared.value.Value.{Value}

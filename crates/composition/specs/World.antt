@@ -1,10 +1,12 @@
 -- A world of layers, as composition sees it: by look-ups alone.
+pub use Rattle.prim_view.specs.declared.stack_name.StackName.{StackName}
+pub use Rattle.prim_view.specs.declared.stack_name.StackName.TheVariants.{Root, Asset}
 use Rattle.std.specs.Prelude.{◌==◌, ℤ, pos, negsuc, int_le, Bool, true, false, List, [], ◌∷◌, Option, Some, None}
 use Rattle.sdf_paths.specs.declared.element.Element.TheVariants.{Prim}
-use Rattle.sdf_specs.specs.Entries.{MetaEntries}
-use Rattle.sdf_specs.specs.declared.items.Refusal.{Refusal}
-use Rattle.sdf_specs.specs.declared.items.SubLayer.{SubLayer}
-use Rattle.sdf_specs.specs.declared.spec.Spec.{Spec}
+use Rattle.spec_properties.specs.Entries.{MetaEntries}
+use Rattle.spec_parts.specs.declared.items.Refusal.{Refusal}
+use Rattle.spec_parts.specs.declared.items.SubLayer.{SubLayer}
+use Rattle.spec_parts.specs.declared.spec.Spec.{Spec}
 use Rattle.sdf_values.specs.Scales.{Offset}
 use Rattle.composition.specs.Texts.{Text, same_text, first_of, both}
 use Rattle.composition.specs.Paths.{Path, up, levels_of, read_path}
@@ -49,11 +51,6 @@ pub record World : Type 0 where
   pub roots : Text → Option RootNames
   pub spec : Text → Path → Option Spec
   pub rule : Path → Option Bool
-
--- a layer stack is the root's, with the session before it, or that of a layer
-pub data StackName : Type 0 where
-  Root : StackName
-  Asset : Text → StackName
 
 abbrev pub same_stack : StackName → StackName → Bool
 same_stack Root Root = true

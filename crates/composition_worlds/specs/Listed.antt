@@ -1,8 +1,8 @@
 -- Worlds as lists, so that definitions over them compute.
 use Rattle.std.specs.Prelude.{List, Option, Some, None}
 use Rattle.sdf_specs.specs.Layers.{LayerTable}
-use Rattle.sdf_specs.specs.declared.items.Refusal.{Refusal}
-use Rattle.sdf_specs.specs.declared.spec.Spec.{Spec}
+use Rattle.spec_parts.specs.declared.items.Refusal.{Refusal}
+use Rattle.spec_parts.specs.declared.spec.Spec.{Spec}
 use Rattle.composition.specs.Texts.{Text, same_text, find_at}
 use Rattle.composition.specs.Paths.{Path, same_path}
 use Rattle.composition.specs.World.{World, Heading, headed, no_layer, refused, RootNames}

@@ -2,7 +2,7 @@
 use Rattle.std.specs.Prelude.{true, false, codes, ℤ, List, [], ◌∷◌, ◌++◌, length, filter, flat_map, map, Option, Some, None}
 use Rattle.std.specs.Fmt.{decimal}
 use Rattle.sdf_paths.specs.Paths.{printed}
-use Rattle.sdf_specs.specs.Entries.{SampleEntries}
+use Rattle.spec_properties.specs.Entries.{SampleEntries}
 use Rattle.sdf_values.specs.Print.{quoted, asset_text}
 use Rattle.sdf_values.specs.declared.value.Value.{Value}
 use Rattle.composition.specs.Texts.{Text, same_text}

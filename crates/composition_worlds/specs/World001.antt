@@ -1,9 +1,9 @@
 -- A world of 3 layers.
 use Rattle.std.specs.Prelude.{codes, pos, false, [], ◌∷◌, Some, None}
 use Rattle.sdf_paths.specs.declared.element.Element.TheVariants.{Prim}
-use Rattle.sdf_specs.specs.Blank.{no_edits}
-use Rattle.sdf_specs.specs.declared.items.Specifier.TheVariants.{Def, Class}
-use Rattle.sdf_specs.specs.declared.property.Property.TheVariants.{Attr}
+use Rattle.spec_parts.specs.Blank.{no_edits}
+use Rattle.spec_parts.specs.declared.items.Specifier.TheVariants.{Def, Class}
+use Rattle.spec_properties.specs.declared.property.Property.TheVariants.{Attr}
 use Rattle.sdf_values.specs.declared.type_name.ElementType.TheVariants as element
 use Rattle.sdf_values.specs.declared.value.Value.TheVariants as value
 use Rattle.composition.specs.World.{World}

@@ -1,8 +1,8 @@
 -- A world of 2 layers.
 use Rattle.std.specs.Prelude.{codes, pos, [], ◌∷◌, Some, None}
 use Rattle.sdf_paths.specs.declared.element.Element.TheVariants.{Prim}
-use Rattle.sdf_specs.specs.Blank.{no_edits}
-use Rattle.sdf_specs.specs.declared.items.Specifier.TheVariants.{Def}
+use Rattle.spec_parts.specs.Blank.{no_edits}
+use Rattle.spec_parts.specs.declared.items.Specifier.TheVariants.{Def}
 use Rattle.sdf_values.specs.declared.refusal.RefusalKind.TheVariants.{Crate}
 use Rattle.composition.specs.World.{World}
 use Rattle.composition_worlds.specs.Listed.{present, broken, listed_world}

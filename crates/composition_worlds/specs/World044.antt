@@ -1,9 +1,9 @@
 -- A world of 5 layers.
 use Rattle.std.specs.Prelude.{codes, pos, negsuc, true, false, [], ◌∷◌, Some, None}
 use Rattle.sdf_paths.specs.declared.element.Element.TheVariants.{Prim, Selection, Property}
-use Rattle.sdf_specs.specs.Blank.{no_edits}
-use Rattle.sdf_specs.specs.declared.items.Specifier.TheVariants.{Def, Over, Class}
-use Rattle.sdf_specs.specs.declared.property.Property.TheVariants.{Attr, Rel}
+use Rattle.spec_parts.specs.Blank.{no_edits}
+use Rattle.spec_parts.specs.declared.items.Specifier.TheVariants.{Def, Over, Class}
+use Rattle.spec_properties.specs.declared.property.Property.TheVariants.{Attr, Rel}
 use Rattle.sdf_values.specs.declared.refusal.RefusalKind.TheVariants.{Syntax}
 use Rattle.sdf_values.specs.declared.type_name.ElementType.TheVariants as element
 use Rattle.sdf_values.specs.declared.value.DictType.TheVariants as dict_type

@@ -1,8 +1,8 @@
 -- A world of 1 layers.
 use Rattle.std.specs.Prelude.{codes, [], ◌∷◌, Some, None}
 use Rattle.sdf_paths.specs.declared.element.Element.TheVariants.{Prim}
-use Rattle.sdf_specs.specs.Blank.{no_edits}
-use Rattle.sdf_specs.specs.declared.items.Specifier.TheVariants.{Class}
+use Rattle.spec_parts.specs.Blank.{no_edits}
+use Rattle.spec_parts.specs.declared.items.Specifier.TheVariants.{Class}
 use Rattle.composition.specs.World.{World}
 use Rattle.composition_worlds.specs.Listed.{present, listed_world}
 

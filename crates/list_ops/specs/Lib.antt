@@ -1,1 +1,3 @@
+pub mod Blank
 pub mod ListEdits
+pub mod SameEdits

@@ -3,6 +3,7 @@
 #![tactic(auto)]
 
 mod edits;
+mod exact;
 mod op;
 mod places;
 #[cfg(test)]

@@ -8,7 +8,7 @@ use std::alloc::{AllocError, Global};
 
 /// An opinion on a list. An explicit list replaces what weaker opinions made; else the other lists
 /// edit it: delete, add, prepend, append and reorder, in this order.
-#[derive(Clone, Debug, Drop, PartialEq, Eq)]
+#[derive(Debug, Drop, PartialEq, Eq)]
 pub struct ListOp<T> {
     pub explicit: Option<Items<T>>,
     pub deleted: Items<T>,
@@ -16,6 +16,24 @@ pub struct ListOp<T> {
     pub prepended: Items<T>,
     pub appended: Items<T>,
     pub ordered: Items<T>,
+}
+
+impl<T> ListOp<T> {
+    ghost use Rattle.list_ops.specs.Blank.{no_edits};
+
+    /// The opinion that edits nothing. Takes no memory.
+    pub fn new(alloc: Global) -> ListOp<T>
+        ensures { result ≡ no_edits }
+    {
+        ListOp {
+            explicit: None,
+            deleted: Items::new(alloc),
+            added: Items::new(alloc),
+            prepended: Items::new(alloc),
+            appended: Items::new(alloc),
+            ordered: Items::new(alloc),
+        }
+    }
 }
 
 impl<T: ExactEq + ExactClone + Drop> ListOp<T> {

@@ -1,5 +1,6 @@
 pub mod Complete
 pub mod NameRuns
 pub mod ParseExact
+pub mod Selections
 pub mod Shapes
 pub mod Sound

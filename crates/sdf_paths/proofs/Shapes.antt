@@ -12,7 +12,7 @@ use Rattle.usd_names.specs.Names.{is_identifier}
 use Rattle.sdf_paths.specs.declared.element.Element.{Element}
 use Rattle.sdf_paths.specs.declared.element.Element.TheVariants.{Prim, Property, Selection}
 
-both_hold : (a b : Bool) → a ≡ true → b ≡ true → (a && b) ≡ true
+pub both_hold : (a b : Bool) → a ≡ true → b ≡ true → (a && b) ≡ true
 both_hold a b p q = rw (p, q) refl
 
 pub written_append : (xs ys : List Element) (a : Bool) → written_all a (xs ++ ys) ≡ written_all a xs ++ written_all (ends_selected a xs) ys
@@ -36,7 +36,7 @@ ordered_front (Property n ∷ x ∷ xs) ys named h = absurd (cc (and_parts named
 named_front : (xs ys : List Element) → list_all is_well_named (xs ++ ys) ≡ true → list_all is_well_named xs ≡ true
 named_front xs ys h = (and_parts (list_all is_well_named xs) (list_all is_well_named ys) (sym (list_all-append is_well_named xs ys) ∙ h)).0
 
-named_back : (xs ys : List Element) → list_all is_well_named (xs ++ ys) ≡ true → list_all is_well_named ys ≡ true
+pub named_back : (xs ys : List Element) → list_all is_well_named (xs ++ ys) ≡ true → list_all is_well_named ys ≡ true
 named_back xs ys h = (and_parts (list_all is_well_named xs) (list_all is_well_named ys) (sym (list_all-append is_well_named xs ys) ∙ h)).1
 
 -- all but `/` is printed element by element
@@ -210,7 +210,7 @@ ordered_back (Property n ∷ []) [] named h = refl
 ordered_back (Property n ∷ []) (y ∷ ys) named h = absurd (cc (and_parts named false h).1)
 ordered_back (Property n ∷ x ∷ xs) ys named h = absurd (cc (and_parts named false h).1)
 
-ordered_joined : (xs ys : List Element) (named : Bool) → is_ordered named xs ≡ true → is_property xs ≡ false → (named || not (is_empty xs)) ≡ true → is_ordered true ys ≡ true → is_ordered named (xs ++ ys) ≡ true
+pub ordered_joined : (xs ys : List Element) (named : Bool) → is_ordered named xs ≡ true → is_property xs ≡ false → (named || not (is_empty xs)) ≡ true → is_ordered true ys ≡ true → is_ordered named (xs ++ ys) ≡ true
 ordered_joined [] ys true h prim some rest = rest
 ordered_joined [] ys false h prim some rest = absurd cc
 ordered_joined (Prim n ∷ xs) ys named h prim some rest = ordered_joined xs ys true h prim refl rest

@@ -1,6 +1,7 @@
 pub mod DerivedOrder
 pub mod Order
-pub mod Paths
 pub mod PathOrder
+pub mod Paths
 pub mod Reader
 pub mod Refusal
+pub mod Variants

@@ -7,6 +7,7 @@ use crate::element::Element;
 use crate::fault::PathFault;
 use crate::looks::{depth, is_property_part, is_selection};
 use crate::reader::{MAX_BYTES, MAX_NAMES};
+use crate::variants::is_variant;
 use plain_data::{Items, Text, copy};
 use std::alloc::{AllocError, Global};
 use usd_names::is_identifier;
@@ -47,6 +48,23 @@ pub fn appended(elements: &Items<Element>, name: &str) -> Result<Items<Element>,
 {
     let mut out = elements.copy()?;
     out.push(Element::Prim(Text::of(elements.allocator(), name)?))?;
+    Ok(out)
+}
+
+/// The elements, and then a selection.
+pub fn selected(
+    elements: &Items<Element>,
+    set: &str,
+    variant: &str,
+) -> Result<Items<Element>, PathFault>
+    ensures err { IfErr result (λ e. e ≡ PathFault.NoMemory) }
+    ensures ok { IfOk result (λ out. out ≡ elements.now ++ Element.Selection set.now variant.now ∷ []) }
+{
+    let alloc = elements.allocator();
+    let mut out = elements.copy()?;
+    let set = Text::of(alloc, set)?;
+    let variant = Text::of(alloc, variant)?;
+    out.push(Element::Selection { set, variant })?;
     Ok(out)
 }
 
@@ -122,6 +140,22 @@ pub fn may_append(elements: &[Element], name: &str) -> bool
     let (bytes, after) = measure(false, elements);
     let slash = slash_len(after);
     bytes + slash + name.len() <= MAX_BYTES
+}
+
+/// Whether a selection may follow the elements of a path.
+pub fn may_select(elements: &[Element], set: &str, variant: &str) -> bool
+    requires path { IsPath elements.now }
+    requires prim { is_property elements.now ≡ false }
+    ensures { IsTrue result ↔ IsPath (elements.now ++ Element.Selection set.now variant.now ∷ []) }
+{
+    if elements.is_empty() || !is_identifier(set) || !is_variant(variant) {
+        return false;
+    }
+    if set.len() > MAX_BYTES || variant.len() > MAX_BYTES {
+        return false;
+    }
+    let (bytes, _) = measure(false, elements);
+    bytes + 3 + set.len() + variant.len() <= MAX_BYTES
 }
 
 /// How many bytes stand before a prim's name.

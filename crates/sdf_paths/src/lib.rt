@@ -12,6 +12,7 @@ mod path;
 mod reader;
 #[cfg(test)]
 mod tests;
+mod variants;
 
 pub use element::Element;
 pub use fault::PathFault;

@@ -187,6 +187,25 @@ impl Path {
         }
     }
 
+    /// The path of a variant of this prim.
+    ///
+    /// `Bad` with `at` 0 comes exactly where this is `/`, the set is no identifier, the variant is no name of one, or the path
+    /// would be too long.
+    pub fn select(&self, set: &str, variant: &str) -> Result<Path, PathFault>
+        requires { is_property self.now ≡ false }
+        ensures ok { IfOk result (λ path. path ≡ self.now ++ Element.Selection set.now variant.now ∷ []) }
+        ensures path { OnOk result (IsPath (self.now ++ Element.Selection set.now variant.now ∷ [])) }
+        ensures bad { IfErr result (λ e. IsRefusal (self.now ++ Element.Selection set.now variant.now ∷ []) e) }
+    {
+        if !edits::may_select(self.elements.as_slice(), set, variant) {
+            return Err(PathFault::Bad { at: 0 });
+        }
+        match edits::selected(&self.elements, set, variant) {
+            Ok(elements) => Ok(Path { elements }),
+            Err(fault) => Err(fault),
+        }
+    }
+
     /// The path with `by` in place of its prefix `front`. `None` exactly where it does not begin with
     /// `front`.
     ///

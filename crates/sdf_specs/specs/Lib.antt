@@ -1,6 +1,1 @@
-pub mod Blank
-pub mod Entries
 pub mod Layers
-pub mod Properties
-pub mod Same
-pub mod Tables

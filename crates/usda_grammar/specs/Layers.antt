@@ -51,10 +51,20 @@ abbrev pub offset_number : TokenKind → Option (List Symbol)
 offset_number token.Number = Some ([])
 offset_number k = None
 
--- the name of a prim, a variant set or a variant, in quotes
-abbrev pub quoted_name : TokenKind → Option (List Symbol)
-quoted_name token.Quoted = Some ([])
-quoted_name k = None
+-- the `}` behind the statements of a prim or a variant
+abbrev pub body_end : TokenKind → Option (List Symbol)
+body_end token.CloseBrace = Some ([])
+body_end k = None
+
+-- the name of a prim, in quotes
+abbrev pub prim_name : TokenKind → Option (List Symbol)
+prim_name token.Quoted = Some ([])
+prim_name k = None
+
+-- the name of a variant set, in quotes
+abbrev pub set_name : TokenKind → Option (List Symbol)
+set_name token.Quoted = Some ([])
+set_name k = None
 
 -- `;`, or nothing
 abbrev pub maybe_semicolon : TokenKind → Option (List Symbol)
@@ -102,7 +112,7 @@ offset_items k = None
 
 -- the root prims, and the orders of them
 abbrev pub root_statements : TokenKind → Option (List Symbol)
-root_statements (token.Word word.Specifier) = Some (symbol.MaybeTypeName ∷ symbol.QuotedName ∷ symbol.MaybePrimMetadata ∷ symbol.OpenBrace ∷ symbol.PrimBody ∷ symbol.CloseBrace ∷ symbol.MaybeSemicolon ∷ symbol.RootStatements ∷ [])
+root_statements (token.Word word.Specifier) = Some (symbol.MaybeTypeName ∷ symbol.PrimName ∷ symbol.MaybePrimMetadata ∷ symbol.OpenBrace ∷ symbol.PrimBody ∷ symbol.BodyEnd ∷ symbol.MaybeSemicolon ∷ symbol.RootStatements ∷ [])
 root_statements (token.Word word.Reorder) = Some (symbol.RootPrims ∷ symbol.Equals ∷ symbol.NameList ∷ symbol.MaybeSemicolon ∷ symbol.RootStatements ∷ [])
 root_statements k = None
 
@@ -117,7 +127,9 @@ layers_starts symbol.CloseBrace k = close_brace k
 layers_starts symbol.CloseBracket k = close_bracket k
 layers_starts symbol.RootPrims k = root_prims k
 layers_starts symbol.OffsetNumber k = offset_number k
-layers_starts symbol.QuotedName k = quoted_name k
+layers_starts symbol.BodyEnd k = body_end k
+layers_starts symbol.PrimName k = prim_name k
+layers_starts symbol.SetName k = set_name k
 layers_starts symbol.MaybeSemicolon k = maybe_semicolon k
 layers_starts symbol.MaybeHead k = maybe_head k
 layers_starts symbol.HeadItems k = head_items k

@@ -102,7 +102,7 @@ maybe_path k = None
 
 -- the variants of a set
 abbrev pub variant_list : TokenKind → Option (List Symbol)
-variant_list token.Quoted = Some (symbol.MaybePrimMetadata ∷ symbol.OpenBrace ∷ symbol.PrimBody ∷ symbol.CloseBrace ∷ symbol.VariantList ∷ [])
+variant_list token.Quoted = Some (symbol.MaybePrimMetadata ∷ symbol.OpenBrace ∷ symbol.PrimBody ∷ symbol.BodyEnd ∷ symbol.VariantList ∷ [])
 variant_list k = None
 
 -- the symbols of this part

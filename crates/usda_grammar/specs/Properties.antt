@@ -8,10 +8,10 @@ use Rattle.usda_grammar.specs.declared.symbols.Symbol.TheVariants as symbol
 
 -- the statements of a prim or a variant
 abbrev pub prim_body : TokenKind → Option (List Symbol)
-prim_body (token.Word word.Specifier) = Some (symbol.MaybeTypeName ∷ symbol.QuotedName ∷ symbol.MaybePrimMetadata ∷ symbol.OpenBrace ∷ symbol.PrimBody ∷ symbol.CloseBrace ∷ symbol.MaybeSemicolon ∷ symbol.PrimBody ∷ [])
+prim_body (token.Word word.Specifier) = Some (symbol.MaybeTypeName ∷ symbol.PrimName ∷ symbol.MaybePrimMetadata ∷ symbol.OpenBrace ∷ symbol.PrimBody ∷ symbol.BodyEnd ∷ symbol.MaybeSemicolon ∷ symbol.PrimBody ∷ [])
 prim_body (token.Word word.Edit) = Some (symbol.AfterEdit ∷ symbol.MaybeSemicolon ∷ symbol.PrimBody ∷ [])
 prim_body (token.Word word.Reorder) = Some (symbol.AfterReorder ∷ symbol.MaybeSemicolon ∷ symbol.PrimBody ∷ [])
-prim_body (token.Word word.VariantSet) = Some (symbol.QuotedName ∷ symbol.Equals ∷ symbol.OpenBrace ∷ symbol.VariantList ∷ symbol.CloseBrace ∷ symbol.MaybeSemicolon ∷ symbol.PrimBody ∷ [])
+prim_body (token.Word word.VariantSet) = Some (symbol.SetName ∷ symbol.Equals ∷ symbol.OpenBrace ∷ symbol.VariantList ∷ symbol.CloseBrace ∷ symbol.MaybeSemicolon ∷ symbol.PrimBody ∷ [])
 prim_body (token.Word word.Custom) = Some (symbol.AfterCustom ∷ symbol.MaybeSemicolon ∷ symbol.PrimBody ∷ [])
 prim_body (token.Word word.Variability) = Some (symbol.AfterVariability ∷ symbol.MaybeSemicolon ∷ symbol.PrimBody ∷ [])
 prim_body (token.Word word.Rel) = Some (symbol.PropertyName ∷ symbol.MaybeTargets ∷ symbol.MaybePropertyMetadata ∷ symbol.MaybeSemicolon ∷ symbol.PrimBody ∷ [])

@@ -1,7 +1,7 @@
 // Single tokens, and the statements of a layer: its head, its sublayers and its root prims. Written by tools/grammar.py.
 ghost use Rattle.std.specs.Option.{option_map};
 ghost use Rattle.std.specs.Prelude.{◌≡◌, List};
-ghost use Rattle.usda_grammar.specs.Layers.{equals, colon, dot, close_paren, open_brace, close_brace, close_bracket, root_prims, offset_number, quoted_name, maybe_semicolon, maybe_head, head_items, sub_layer_list, sub_layers_or_end, more_sub_layers, maybe_offsets, offset_items, root_statements, layers_starts};
+ghost use Rattle.usda_grammar.specs.Layers.{equals, colon, dot, close_paren, open_brace, close_brace, close_bracket, root_prims, offset_number, body_end, prim_name, set_name, maybe_semicolon, maybe_head, head_items, sub_layer_list, sub_layers_or_end, more_sub_layers, maybe_offsets, offset_items, root_statements, layers_starts};
 
 use crate::kinds::{Keyword, TokenKind};
 use crate::symbols::Symbol;
@@ -98,9 +98,29 @@ fn offset_number(kind: TokenKind) -> Option<&'static [Symbol]>
     }
 }
 
-/// The name of a prim, a variant set or a variant, in quotes.
-fn quoted_name(kind: TokenKind) -> Option<&'static [Symbol]>
-    ensures { option_map (λ s. s.now) result ≡ quoted_name kind }
+/// The `}` behind the statements of a prim or a variant.
+fn body_end(kind: TokenKind) -> Option<&'static [Symbol]>
+    ensures { option_map (λ s. s.now) result ≡ body_end kind }
+{
+    match kind {
+        TokenKind::CloseBrace => Some(NONE),
+        _ => None,
+    }
+}
+
+/// The name of a prim, in quotes.
+fn prim_name(kind: TokenKind) -> Option<&'static [Symbol]>
+    ensures { option_map (λ s. s.now) result ≡ prim_name kind }
+{
+    match kind {
+        TokenKind::Quoted => Some(NONE),
+        _ => None,
+    }
+}
+
+/// The name of a variant set, in quotes.
+fn set_name(kind: TokenKind) -> Option<&'static [Symbol]>
+    ensures { option_map (λ s. s.now) result ≡ set_name kind }
 {
     match kind {
         TokenKind::Quoted => Some(NONE),
@@ -214,11 +234,11 @@ fn root_statements(kind: TokenKind) -> Option<&'static [Symbol]>
     match kind {
         TokenKind::Word(Keyword::Specifier) => Some(&[
             Symbol::MaybeTypeName,
-            Symbol::QuotedName,
+            Symbol::PrimName,
             Symbol::MaybePrimMetadata,
             Symbol::OpenBrace,
             Symbol::PrimBody,
-            Symbol::CloseBrace,
+            Symbol::BodyEnd,
             Symbol::MaybeSemicolon,
             Symbol::RootStatements,
         ]),
@@ -247,7 +267,9 @@ pub fn starts(symbol: Symbol, kind: TokenKind) -> Option<&'static [Symbol]>
         Symbol::CloseBracket => close_bracket(kind),
         Symbol::RootPrims => root_prims(kind),
         Symbol::OffsetNumber => offset_number(kind),
-        Symbol::QuotedName => quoted_name(kind),
+        Symbol::BodyEnd => body_end(kind),
+        Symbol::PrimName => prim_name(kind),
+        Symbol::SetName => set_name(kind),
         Symbol::MaybeSemicolon => maybe_semicolon(kind),
         Symbol::MaybeHead => maybe_head(kind),
         Symbol::HeadItems => head_items(kind),

@@ -218,7 +218,7 @@ fn variant_list(kind: TokenKind) -> Option<&'static [Symbol]>
             Symbol::MaybePrimMetadata,
             Symbol::OpenBrace,
             Symbol::PrimBody,
-            Symbol::CloseBrace,
+            Symbol::BodyEnd,
             Symbol::VariantList,
         ]),
         _ => None,

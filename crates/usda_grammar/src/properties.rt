@@ -15,11 +15,11 @@ fn prim_body(kind: TokenKind) -> Option<&'static [Symbol]>
     match kind {
         TokenKind::Word(Keyword::Specifier) => Some(&[
             Symbol::MaybeTypeName,
-            Symbol::QuotedName,
+            Symbol::PrimName,
             Symbol::MaybePrimMetadata,
             Symbol::OpenBrace,
             Symbol::PrimBody,
-            Symbol::CloseBrace,
+            Symbol::BodyEnd,
             Symbol::MaybeSemicolon,
             Symbol::PrimBody,
         ]),
@@ -34,7 +34,7 @@ fn prim_body(kind: TokenKind) -> Option<&'static [Symbol]>
             Symbol::PrimBody,
         ]),
         TokenKind::Word(Keyword::VariantSet) => Some(&[
-            Symbol::QuotedName,
+            Symbol::SetName,
             Symbol::Equals,
             Symbol::OpenBrace,
             Symbol::VariantList,

@@ -21,8 +21,12 @@ pub enum Symbol {
     RootPrims,
     /// The number of an offset or a scale.
     OffsetNumber,
-    /// The name of a prim, a variant set or a variant, in quotes.
-    QuotedName,
+    /// The `}` behind the statements of a prim or a variant.
+    BodyEnd,
+    /// The name of a prim, in quotes.
+    PrimName,
+    /// The name of a variant set, in quotes.
+    SetName,
     /// `;`, or nothing.
     MaybeSemicolon,
     /// The metadata of the layer in brackets, or nothing.

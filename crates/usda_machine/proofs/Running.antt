@@ -198,7 +198,7 @@ module _ {Word Draft Refusal : Type 0} (kind : Word → TokenKind) (act : Symbol
   makes_append (takes t) (s ∷ stack) d [] mid d_mid u ws left out h g = absurd h
   makes_append (takes t) (s ∷ stack) d (w ∷ front) mid d_mid u ws left out (after, next, at, acted, h) g = let v = makes_append t (after ++ stack) next front mid d_mid u ws left out h g in (takes v.0, (after, next, at, acted, v.1))
 
-  makes_text : (t : Derivation) (stack : List Symbol) (d : Draft) (front : List Word) (left : List Symbol) (out : Draft) (rest : List TokenKind) → Makes t stack d front left out → AreText left rest → AreText stack (kinds front ++ rest)
+  pub makes_text : (t : Derivation) (stack : List Symbol) (d : Draft) (front : List Word) (left : List Symbol) (out : Draft) (rest : List TokenKind) → Makes t stack d front left out → AreText left rest → AreText stack (kinds front ++ rest)
   makes_text ends stack d [] left out rest h g = subst (λ (x : List Symbol). AreText x rest) (sym h.0) g
   makes_text ends stack d (w ∷ front) left out rest h g = absurd h
   makes_text (skips t) [] d front left out rest h g = absurd h

@@ -11,9 +11,9 @@ fn a_prim_is_taken_token_by_token(rt: HostRuntime) -> Result<(), Fail> {
     push_all(&mut stack, &[Symbol::MaybeHead, Symbol::RootStatements])?;
     for (kind, symbol) in [
         (TokenKind::Word(Keyword::Specifier), Symbol::RootStatements),
-        (TokenKind::Quoted, Symbol::QuotedName),
+        (TokenKind::Quoted, Symbol::PrimName),
         (TokenKind::OpenBrace, Symbol::OpenBrace),
-        (TokenKind::CloseBrace, Symbol::CloseBrace),
+        (TokenKind::CloseBrace, Symbol::BodyEnd),
     ] {
         assert!(rt; step(&mut stack, kind)? == Some(symbol));
     }

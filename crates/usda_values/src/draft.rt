@@ -351,8 +351,8 @@ impl ValueDraft {
     }
 }
 
-// The type of one element that the word names.
-fn find_element(elements: &[ElementType], name: &str) -> Option<ElementType>
+/// The type of one element that the word names.
+pub fn find_element(elements: &[ElementType], name: &str) -> Option<ElementType>
     ensures { result ≡ find_element elements.now name.now }
 {
     for element in elements {

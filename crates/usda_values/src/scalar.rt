@@ -133,8 +133,8 @@ pub fn token_value(alloc: Global, kind: TokenKind, text: &str) -> Result<Value, 
     }
 }
 
-// The time that a decimal is.
-fn time_of(d: Decimal) -> Option<TimeCode>
+/// The time that a decimal is; nothing where it is more than 10^12 away from 0 or has more than 18 decimals.
+pub fn time_of(d: Decimal) -> Option<TimeCode>
     ensures { result ≡ time_of d }
 {
     let _exp = d.exp;

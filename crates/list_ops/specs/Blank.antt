@@ -1,0 +1,6 @@
+-- The edit that changes nothing.
+use Rattle.std.specs.Prelude.{[], None}
+use Rattle.list_ops.specs.declared.op.ListOp.{ListOp}
+
+abbrev pub no_edits : {T : Type 0} → ListOp T
+no_edits = record { explicit = None; deleted = []; added = []; prepended = []; appended = []; ordered = [] }

@@ -1,0 +1,302 @@
+//! The texts of faults.
+ghost use Rattle.std.specs.Prelude.{◌≡◌, ◌++◌, false, IfOk, OnOk, codes, string_bytes};
+ghost use Rattle.prim_view.specs.Printing.{path_text, is_zero, is_one, is_identity, unless_identity, offset_text, item_name, item_text, field_name, reason_name, refusal_name, refusal_text, refusal_of, arc_front, arc_back, arc_text, sublayer_reason_name, sublayer_text, place_text, target_word, time_word, child_word, time_text, target_front, target_text, child_text, fault_text};
+ghost use Rattle.sdf_values.specs.Print.{asset_text};
+
+use crate::fault::{
+    ArcFault, ArcReason, FaultItem, FaultOffset, ItemSource, PrimFault, SublayerFault,
+    SublayerReason, TargetFault, TimeFault,
+};
+use asset_names::AssetId;
+use path_maps::ArcKind;
+use plain_data::Text;
+use sdf_paths::Path;
+use sdf_values::{RefusalKind, push_asset, push_string};
+use spec_parts::Refusal;
+use std::alloc::{AllocError, Global};
+
+/// The word of a refusal.
+pub fn refusal_name(kind: RefusalKind) -> &'static str
+    ensures { result.now ≡ refusal_name kind }
+{
+    match kind {
+        RefusalKind::TooLong => "TooLong",
+        RefusalKind::Crate => "Crate",
+        RefusalKind::Package => "Package",
+        RefusalKind::NotUtf8 => "NotUtf8",
+        RefusalKind::BadHeader => "BadHeader",
+        RefusalKind::Syntax => "Syntax",
+        RefusalKind::NumberTooLong => "NumberTooLong",
+        RefusalKind::UnknownType => "UnknownType",
+        RefusalKind::ValueShape => "ValueShape",
+        RefusalKind::TimeRange => "TimeRange",
+        RefusalKind::OffsetRange => "OffsetRange",
+        RefusalKind::DuplicateSpec => "DuplicateSpec",
+        RefusalKind::Relocates => "Relocates",
+        RefusalKind::Spline => "Spline",
+        RefusalKind::ReferenceData => "ReferenceData",
+        RefusalKind::TooDeep => "TooDeep",
+    }
+}
+
+fn reason_name(reason: ArcReason) -> &'static str
+    ensures { result.now ≡ reason_name reason }
+{
+    match reason {
+        ArcReason::MissingLayer => "MissingLayer",
+        ArcReason::BrokenLayer(_) => "BrokenLayer",
+        ArcReason::NoDefaultPrim => "NoDefaultPrim",
+        ArcReason::BadTarget => "BadTarget",
+        ArcReason::OffsetRange => "OffsetRange",
+        ArcReason::ArcCycle => "ArcCycle",
+        ArcReason::TooDeep => "TooDeep",
+        ArcReason::PathTooLong => "PathTooLong",
+        ArcReason::UnresolvedPrim => "UnresolvedPrim",
+    }
+}
+
+fn field_name(kind: ArcKind) -> &'static str
+    ensures { result.now ≡ field_name kind }
+{
+    match kind {
+        ArcKind::Inherits => "inherits",
+        ArcKind::Variant => "variantSets",
+        ArcKind::Reference => "references",
+        ArcKind::Payload => "payload",
+        ArcKind::Specializes => "specializes",
+    }
+}
+
+fn sublayer_reason_name(reason: SublayerReason) -> &'static str
+    ensures { result.now ≡ sublayer_reason_name reason }
+{
+    match reason {
+        SublayerReason::Cycle => "SublayerCycle",
+        SublayerReason::Missing => "SublayerMissing",
+        SublayerReason::Broken => "SublayerBroken",
+        SublayerReason::Offset => "SublayerOffset",
+    }
+}
+
+fn push_name(out: &mut String, name: &AssetId) -> Result<(), AllocError>
+    ensures { OnOk result (string_bytes out.new ≡ string_bytes out.old ++ asset_text name.now) }
+{
+    push_asset(out, name.text())
+}
+
+fn push_path(out: &mut String, path: &Path) -> Result<(), AllocError>
+    ensures { OnOk result (string_bytes out.new ≡ string_bytes out.old ++ path_text path.now) }
+{
+    let text = path.print()?;
+    out.push_str("<")?;
+    out.push_str(text.as_str())?;
+    out.push_str(">")
+}
+
+fn is_zero(n: i64) -> bool
+    ensures { result ≡ is_zero n }
+{
+    n == 0
+}
+
+fn is_one(n: i64) -> bool
+    ensures { result ≡ is_one n }
+{
+    n == 1
+}
+
+fn is_identity(offset: FaultOffset) -> bool
+    ensures { result ≡ is_identity offset }
+{
+    is_zero(offset.offset) && is_one(offset.scale)
+}
+
+fn push_shift(out: &mut String, offset: FaultOffset) -> Result<(), AllocError>
+    ensures { OnOk result (string_bytes out.new ≡ string_bytes out.old ++ unless_identity false offset) }
+{
+    let alloc = *out.allocator();
+    let start = offset.offset.to_string(alloc)?;
+    let scale = offset.scale.to_string(alloc)?;
+    out.push_str(" (offset = ")?;
+    out.push_str(start.as_str())?;
+    out.push_str("; scale = ")?;
+    out.push_str(scale.as_str())?;
+    out.push_str(")")
+}
+
+fn push_offset(out: &mut String, offset: FaultOffset) -> Result<(), AllocError>
+    ensures { OnOk result (string_bytes out.new ≡ string_bytes out.old ++ offset_text offset) }
+{
+    if is_identity(offset) {
+        Ok(())
+    } else {
+        push_shift(out, offset)
+    }
+}
+
+fn push_item_name(
+    out: &mut String,
+    source: &ItemSource,
+    path: &Option<Path>,
+) -> Result<(), AllocError>
+    ensures { OnOk result (string_bytes out.new ≡ string_bytes out.old ++ item_name source.now path.now) }
+{
+    match (source, path) {
+        (ItemSource::Own, None) => out.push_str("<>"),
+        (ItemSource::Own, Some(path)) => push_path(out, path),
+        (ItemSource::Named(name), None) => push_name(out, name),
+        (ItemSource::Named(name), Some(path)) => {
+            push_name(out, name)?;
+            push_path(out, path)
+        }
+        (ItemSource::Unanchored(asset), None) => push_asset(out, asset.as_str()),
+        (ItemSource::Unanchored(asset), Some(path)) => {
+            push_asset(out, asset.as_str())?;
+            push_path(out, path)
+        }
+    }
+}
+
+fn push_item(out: &mut String, item: &FaultItem) -> Result<(), AllocError>
+    ensures { OnOk result (string_bytes out.new ≡ string_bytes out.old ++ item_text item.now) }
+{
+    push_item_name(out, &item.source, &item.path)?;
+    push_offset(out, item.offset)
+}
+
+fn push_refusal(out: &mut String, refusal: Refusal) -> Result<(), AllocError>
+    ensures { OnOk result (string_bytes out.new ≡ string_bytes out.old ++ refusal_text refusal) }
+{
+    let alloc = *out.allocator();
+    let line = refusal.line.to_string(alloc)?;
+    let column = refusal.column.to_string(alloc)?;
+    out.push_str(" ")?;
+    out.push_str(refusal_name(refusal.kind))?;
+    out.push_str(" ")?;
+    out.push_str(line.as_str())?;
+    out.push_str(":")?;
+    out.push_str(column.as_str())
+}
+
+fn push_refusal_of(out: &mut String, reason: ArcReason) -> Result<(), AllocError>
+    ensures { OnOk result (string_bytes out.new ≡ string_bytes out.old ++ refusal_of reason) }
+{
+    match reason {
+        ArcReason::BrokenLayer(refusal) => push_refusal(out, refusal),
+        _ => Ok(()),
+    }
+}
+
+fn push_place(out: &mut String, layer: &AssetId, path: &Path) -> Result<(), AllocError>
+    ensures { OnOk result (string_bytes out.new ≡ string_bytes out.old ++ place_text layer.now path.now) }
+{
+    push_name(out, layer)?;
+    push_path(out, path)
+}
+
+fn push_arc_front(out: &mut String, fault: &ArcFault) -> Result<(), AllocError>
+    ensures { OnOk result (string_bytes out.new ≡ string_bytes out.old ++ arc_front fault.now) }
+{
+    out.push_str(reason_name(fault.reason))?;
+    out.push_str(" ")?;
+    push_place(out, &fault.layer, &fault.site)
+}
+
+fn push_arc_back(out: &mut String, fault: &ArcFault) -> Result<(), AllocError>
+    ensures { OnOk result (string_bytes out.new ≡ string_bytes out.old ++ arc_back fault.now) }
+{
+    out.push_str(field_name(fault.kind))?;
+    out.push_str(" ")?;
+    push_item(out, &fault.item)?;
+    push_refusal_of(out, fault.reason)
+}
+
+fn push_arc(out: &mut String, fault: &ArcFault) -> Result<(), AllocError>
+    ensures { OnOk result (string_bytes out.new ≡ string_bytes out.old ++ arc_text fault.now) }
+{
+    push_arc_front(out, fault)?;
+    out.push_str(" ")?;
+    push_arc_back(out, fault)
+}
+
+fn push_sublayer(out: &mut String, fault: &SublayerFault) -> Result<(), AllocError>
+    ensures { OnOk result (string_bytes out.new ≡ string_bytes out.old ++ sublayer_text fault.now) }
+{
+    out.push_str(sublayer_reason_name(fault.reason))?;
+    out.push_str(" ")?;
+    push_name(out, &fault.layer)?;
+    out.push_str(" ")?;
+    push_asset(out, fault.asset.as_str())
+}
+
+#[tactic(auto, unfolding(crate::specs::Printing::target_word))]
+fn target_word() -> &'static str
+    ensures { result.now ≡ target_word }
+{
+    "TargetOutside "
+}
+
+#[tactic(auto, unfolding(crate::specs::Printing::time_word))]
+fn time_word() -> &'static str
+    ensures { result.now ≡ time_word }
+{
+    "TimeOutside "
+}
+
+#[tactic(auto, unfolding(crate::specs::Printing::child_word))]
+fn child_word() -> &'static str
+    ensures { result.now ≡ child_word }
+{
+    "PathTooLong "
+}
+
+fn push_time(out: &mut String, fault: &TimeFault) -> Result<(), AllocError>
+    ensures { OnOk result (string_bytes out.new ≡ string_bytes out.old ++ time_text fault.now) }
+{
+    out.push_str(time_word())?;
+    push_place(out, &fault.layer, &fault.property)
+}
+
+fn push_target_front(out: &mut String, fault: &TargetFault) -> Result<(), AllocError>
+    ensures { OnOk result (string_bytes out.new ≡ string_bytes out.old ++ target_front fault.now) }
+{
+    out.push_str(target_word())?;
+    push_place(out, &fault.layer, &fault.property)
+}
+
+fn push_target(out: &mut String, fault: &TargetFault) -> Result<(), AllocError>
+    ensures { OnOk result (string_bytes out.new ≡ string_bytes out.old ++ target_text fault.now) }
+{
+    push_target_front(out, fault)?;
+    out.push_str(" ")?;
+    push_path(out, &fault.target)
+}
+
+fn push_child(out: &mut String, name: &Text) -> Result<(), AllocError>
+    ensures { OnOk result (string_bytes out.new ≡ string_bytes out.old ++ child_text name.now) }
+{
+    out.push_str(child_word())?;
+    push_string(out, name.as_str())
+}
+
+fn push_fault(out: &mut String, fault: &PrimFault) -> Result<(), AllocError>
+    ensures { OnOk result (string_bytes out.new ≡ string_bytes out.old ++ fault_text fault.now) }
+{
+    match fault {
+        PrimFault::Sublayer(fault) => push_sublayer(out, fault),
+        PrimFault::Arc(fault) => push_arc(out, fault),
+        PrimFault::TimeOutside(fault) => push_time(out, fault),
+        PrimFault::TargetOutside(fault) => push_target(out, fault),
+        PrimFault::ChildTooLong(name) => push_child(out, name),
+        PrimFault::Overgrown => out.push_str("Overgrown"),
+    }
+}
+
+/// The text of a fault, as it stands on a line of its own.
+pub fn print_fault(alloc: Global, fault: &PrimFault) -> Result<String, AllocError>
+    ensures { IfOk result (λ text. string_bytes text ≡ fault_text fault.now) }
+{
+    let mut out = String::new(alloc);
+    push_fault(&mut out, fault)?;
+    Ok(out)
+}

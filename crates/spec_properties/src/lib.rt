@@ -1,0 +1,12 @@
+//! Properties of scene description: metadata, samples and selections as tables, and properties by name in their order.
+#![tactic(auto)]
+
+mod properties;
+mod property;
+mod small;
+#[cfg(test)]
+mod tests;
+
+pub use properties::Properties;
+pub use property::Property;
+pub use small::{Meta, Samples, Selections};

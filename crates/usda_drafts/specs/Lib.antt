@@ -1,0 +1,11 @@
+pub mod Refusals
+pub mod Owners
+pub mod Drafts
+pub mod Values
+pub mod Metadata
+pub mod Lists
+pub mod Places
+pub mod Closed
+pub mod Prims
+pub mod Bodies
+pub mod Acts

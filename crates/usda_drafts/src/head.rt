@@ -1,0 +1,56 @@
+//! The head of a layer that has been read.
+ghost use Rattle.std.specs.Prelude.{◌≡◌};
+ghost use Rattle.usda_drafts.specs.Drafts.{text_of, head_with, head_from};
+
+use crate::owner::Owner;
+use plain_data::{Items, Text};
+use sdf_values::Value;
+use spec_parts::{BodyPart, Head, Spec, SubLayer};
+
+// The text of the value of a key, where it is one.
+#[tactic(auto, unfolding(crate::specs::Drafts::text_of))]
+fn text_of(value: Option<Value>) -> Option<Text>
+    ensures { result ≡ text_of value }
+{
+    match value {
+        Some(Value::Text(text)) => Some(text),
+        _ => None,
+    }
+}
+
+// What a spec says apart from its arcs.
+fn body_of(spec: Spec) -> BodyPart
+    ensures { result ≡ spec.body }
+{
+    let Spec { body, .. } = spec;
+    body
+}
+
+// The head of a layer of whose root this is said; the default prim stands at this key.
+#[tactic(auto, unfolding(crate::specs::Drafts::head_with))]
+fn head_with(key: &Text, body: BodyPart, sublayers: Items<SubLayer>) -> Head
+    ensures { result ≡ head_with key.now body sublayers }
+{
+    let BodyPart {
+        mut meta,
+        children,
+        child_order,
+        ..
+    } = body;
+    let default_prim = text_of(meta.remove(key));
+    Head {
+        sublayers,
+        default_prim,
+        meta,
+        root_names: children,
+        root_order: child_order,
+    }
+}
+
+/// The head of the layer: what its owner says, and its sublayers.
+#[tactic(auto, unfolding(crate::specs::Drafts::head_from))]
+pub fn head_from(key: &Text, owner: Owner, sublayers: Items<SubLayer>) -> Head
+    ensures { result ≡ head_from key.now owner sublayers }
+{
+    head_with(key, body_of(owner.into_spec()), sublayers)
+}

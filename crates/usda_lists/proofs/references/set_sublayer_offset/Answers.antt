@@ -1,0 +1,7 @@
+use Rattle.std.proofs.Common.{sym}
+use Rattle.usda_lists.proofs.Ends.{amend_none}
+use Rattle.usda_lists.specs.References.{sublayer_number}
+use Rattle.usda_lists.proofs.references.set_sublayer_offset.Goals as goal
+
+pub returns-in_default : goal.returns-in_default
+returns-in_default c = amend_none (sublayer_number c.args.key c.args.text.now) c.args.sublayers.now _ _ (sym c.pop.ensures.value) c.in_default.is c.pop.ensures.left

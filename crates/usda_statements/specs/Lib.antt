@@ -1,0 +1,3 @@
+pub mod OpenValues
+pub mod Headings
+pub mod PropertyDrafts
