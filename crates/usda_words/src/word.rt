@@ -47,7 +47,7 @@ fn kind_of_mark(mark: Mark) -> TokenKind
     }
 }
 
-// What a token is to the grammar.
+/// What a token is to the grammar.
 pub fn kind_of(form: Form, text: &str) -> TokenKind
     ensures { result ≡ kind_of form text.now }
 {
