@@ -29,6 +29,9 @@ expect() {
 printf '#usda 1.0\n' >"$folder/empty.usda"
 printf '#usda 1.0\ndef "A" { int x = 007 } # the end' >"$folder/a.usda"
 printf '#usda 1.0\nover "A" {}\n' >"$folder/over.usda"
+printf '#usda 1.0\ndef "A" {' >"$folder/broken.usda"
+printf '#usda 1.1\n' >"$folder/version.usda"
+printf '#usda 1.0\ndef "T' >"$folder/t.usda"
 mkdir "$folder/folder.usda"
 
 expect "an empty layer" 0 '#usda 1.0' '' flatten empty.usda
@@ -40,7 +43,10 @@ expect "an option" 2 '' 'usdstage: not a command' flatten --help
 expect "a root in a folder" 2 '' 'usdstage: not a command' flatten ./a.usda
 expect "a folder as the root" 3 '' 'usdstage: reading failed' flatten folder.usda
 expect "an absent root" 5 '' 'usdstage: none.usda: absent' flatten none.usda
-expect "another form" 10 '' 'usdstage: over.usda: not yet' flatten over.usda
+expect "another form" 10 '' 'usdstage: over.usda:1: not yet' flatten over.usda
+expect "a text that breaks off" 5 '' 'usdstage: broken.usda:2:10: Syntax' flatten broken.usda
+expect "a string without its end, in a session" 5 '' 'usdstage: t.usda:2:5: Syntax' session t.usda
+expect "another version" 5 '' 'usdstage: version.usda:1:1: BadHeader' session version.usda
 
 printf '#usda 1.0\ndef "A" { int x = 1 }' >"$folder/b.usda"
 

@@ -5,6 +5,8 @@
 
 mod layer;
 mod put_refused;
+#[cfg(test)]
+mod tests;
 mod trees;
 
 pub use layer::Layer;

@@ -9,7 +9,7 @@ use Rattle.spec_parts.specs.declared.items.Specifier.{Specifier}
 use Rattle.spec_parts.specs.declared.items.Specifier.TheVariants.{Def, Over, Class}
 use Rattle.usda_fields.specs.Names.{identifier_of, variant_of}
 use Rattle.usda_drafts.specs.Closed.{is_closed, with_closed}
-use Rattle.usda_drafts.specs.Places.{prim_below, variant_below}
+use Rattle.usda_drafts.specs.Places.{prim_place, variant_place}
 use Rattle.usda_lists.specs.Acts.{and_then}
 use Rattle.usda_words.specs.Words.{Word}
 use Rattle.usda_drafts.specs.Refusals.{Acted, refused}
@@ -52,7 +52,7 @@ entered_prim name (Some path) d =
 
 -- a prim of this name
 unfoldable pub named_prim : List ℕ → Draft → Result Draft RefusalKind
-named_prim name d = and_then (prim_below d.owner.said.path name) (λ path. entered_prim name path d)
+named_prim name d = and_then (prim_place d.owner.said.path name) (λ path. entered_prim name path d)
 
 -- the string that names a prim
 unfoldable pub prim_name_act : List ℕ → Draft → Result Draft RefusalKind
@@ -79,7 +79,7 @@ entered_variant name path d =
 
 -- a variant of this name, of the set that is read
 unfoldable pub named_variant : List ℕ → Draft → Result Draft RefusalKind
-named_variant name d = and_then (variant_below d.owner.said.path d.owner.set name) (λ path. entered_variant name path d)
+named_variant name d = and_then (variant_place d.owner.said.path d.owner.set name) (λ path. entered_variant name path d)
 
 -- the string that names a variant
 unfoldable pub variant_name_act : List ℕ → Draft → Result Draft RefusalKind

@@ -7,7 +7,7 @@ ghost use Rattle.usda_drafts.specs.Prims.{specifier_of, specifier_act, prim_type
 use crate::draft::{Draft, Opening};
 use crate::fault::{ActFault, refuse};
 use crate::owner::Owner;
-use crate::places::{prim_below, variant_below};
+use crate::places::{prim_place, variant_place};
 use crate::table::{has_spec, put_closed};
 use plain_data::{Text, copy};
 use sdf_paths::Path;
@@ -114,7 +114,7 @@ impl Draft {
         ensures { DoesPart result self.new (named_prim name self.old) }
     {
         let alloc = self.outer.allocator();
-        match prim_below(alloc, &self.owner.said.path, &name) {
+        match prim_place(alloc, &self.owner.said.path, &name) {
             Ok(path) => self.enter_prim(name, path),
             Err(fault) => Err(fault),
         }
@@ -181,7 +181,7 @@ impl Draft {
         ensures { DoesPart result self.new (named_variant name self.old) }
     {
         let alloc = self.outer.allocator();
-        match variant_below(alloc, &self.owner.said.path, &self.owner.set, &name) {
+        match variant_place(alloc, &self.owner.said.path, &self.owner.set, &name) {
             Ok(path) => self.enter_variant(name, path),
             Err(fault) => Err(fault),
         }

@@ -11,7 +11,6 @@ use Rattle.sdf_values.specs.declared.refusal.RefusalKind.TheVariants as refusal
 use Rattle.sdf_values.specs.declared.type_name.ElementType.TheVariants as element
 use Rattle.sdf_values.specs.declared.value.Value.{Value}
 use Rattle.sdf_values.specs.declared.value.Value.TheVariants as value
-use Rattle.spec_parts.specs.declared.spec.Head.{Head}
 use Rattle.spec_properties.specs.Entries.{MetaEntries}
 use Rattle.spec_tables.specs.Tables.{at_key, with_key}
 use Rattle.usd_names.specs.Names.{is_identifier}
@@ -91,19 +90,3 @@ value_act key v meta = and_then (judged (key_rule key) v) (λ v. Ok (with_key te
 abbrev pub comment_act : List ℕ → MetaEntries → Result MetaEntries RefusalKind
 comment_act token meta =
     and_then (text_of token) (λ text. if has_key comment_key meta then Err refusal.DuplicateSpec else Ok (with_key text_cmp comment_key (value.Text text) meta))
-
--- ---- the metadata of the head of a layer, where the default prim stands apart
-
-abbrev pub has_head_key : List ℕ → Head → Bool
-has_head_key key head = if pointwise ◌==◌ key (codes "defaultPrim") then is_some head.default_prim else has_key key head.meta
-
-abbrev pub head_key_act : List ℕ → Head → Result KeyRule RefusalKind
-head_key_act key head = unless_taken (has_head_key key head) (key_rule key)
-
--- a value that the key takes
-abbrev pub put_in_head : KeyRule → List ℕ → Value → Head → Head
-put_in_head DefaultPrim key (value.Text text) head = record head { default_prim = Some text }
-put_in_head rule key v head = record head { meta = with_key text_cmp key v head.meta }
-
-abbrev pub head_value_act : List ℕ → Value → Head → Result Head RefusalKind
-head_value_act key v head = and_then (judged (key_rule key) v) (λ v. Ok (put_in_head (key_rule key) key v head))

@@ -1,14 +1,13 @@
 //! The keys of metadata: what each expects, and where its value goes.
-ghost use Rattle.std.specs.Prelude.{◌≡◌, Some, IfOk, OnOk};
+ghost use Rattle.std.specs.Prelude.{◌≡◌, Some, IfOk};
 ghost use Rattle.sdf_values.specs.Conforms.{one};
 ghost use Rattle.usda_lists.specs.Acts.{Does, Gives};
-ghost use Rattle.usda_fields.specs.Keys.{is_boolean_key, key_rule, rule_shape, is_prim_path, is_default_prim, judged_prim, judged, unless_taken, key_act, value_act, comment_act, has_head_key, head_key_act, put_in_head, head_value_act};
+ghost use Rattle.usda_fields.specs.Keys.{is_boolean_key, key_rule, rule_shape, is_prim_path, is_default_prim, judged_prim, judged, unless_taken, key_act, value_act, comment_act};
 
 use crate::names::text_of;
 use plain_data::Text;
 use sdf_paths::{Element, Path};
 use sdf_values::{ElementType, RefusalKind, TypeName, Value};
-use spec_parts::Head;
 use spec_properties::Meta;
 use std::alloc::{AllocError, Global};
 use usd_names::is_identifier;
@@ -168,54 +167,4 @@ pub fn put_comment(alloc: Global, meta: &mut Meta, token: &str) -> Result<(), Ac
     }
     meta.insert(key, Value::Text(text))?;
     Ok(())
-}
-
-fn has_head_key(head: &Head, key: &Text) -> bool
-    ensures { result ≡ has_head_key key.now head.now }
-{
-    if key.as_str() == "defaultPrim" {
-        head.default_prim.is_some()
-    } else {
-        head.meta.has(key)
-    }
-}
-
-/// The same for a key of the head of a layer, whose default prim stands apart.
-pub fn judge_head_key(head: &Head, key: &Text) -> Result<KeyRule, ActFault>
-    ensures { Gives result (head_key_act key.now head.now) }
-{
-    unless_taken(has_head_key(head, key), KeyRule::of_key(key.as_str()))
-}
-
-fn put_in_head(head: &mut Head, rule: KeyRule, key: Text, value: Value) -> Result<(), AllocError>
-    ensures { OnOk result (head.new ≡ put_in_head rule key value head.old) }
-{
-    match (rule, value) {
-        (KeyRule::DefaultPrim, Value::Text(text)) => {
-            head.default_prim = Some(text);
-        }
-        (_, value) => {
-            head.meta.insert(key, value)?;
-        }
-    }
-    Ok(())
-}
-
-/// Puts the whole value of a key of the head of a layer. `ValueShape` where the key does not take it.
-pub fn put_head_value(
-    alloc: Global,
-    head: &mut Head,
-    key: Text,
-    value: Value,
-) -> Result<(), ActFault>
-    ensures { Does result head.new (head_value_act key value head.old) }
-{
-    let rule = KeyRule::of_key(key.as_str());
-    match judged(alloc, rule, value) {
-        Ok(value) => {
-            put_in_head(head, rule, key, value)?;
-            Ok(())
-        }
-        Err(fault) => Err(fault),
-    }
 }

@@ -1,13 +1,19 @@
 -- A layer of the first form flattens to itself.
-use Rattle.std.proofs.Common.{◌≡◌, ℕ, zero, suc, ◌+◌, ◌<◌, ◌≤◌, Bool, true, false, cond, ◌||◌, List, [], ◌∷◌, ◌++◌, length, Option, Some, None, refl, ap, sym, subst, ◌∙◌, arith}
+use Rattle.std.proofs.Common.{◌≡◌, ℕ, zero, suc, ◌+◌, ◌≤◌, Bool, true, false, ◌||◌, List, [], ◌∷◌, ◌++◌, Option, Some, refl, ap, sym, subst, ◌∙◌, arith}
 use Rattle.std.specs.Str.{bytes_eq}
 use Rattle.std.proofs.lemmas.Slice.Eq.{bytes_eq-Decides}
 use Rattle.first_layer.specs.declared.FirstAttr.{FirstAttr}
 use Rattle.first_layer.specs.Forest.{Forest, empty, prim, join, prim_names, nesting}
 use Rattle.first_layer.specs.Names.{is_among, AreNew}
 use Rattle.first_layer.proofs.Joins.{join_assoc, prim_names-join}
-use Rattle.first_reader.specs.Grammar.{Items, none, attr, def, attrs_of, prims_in, IsWithin, IsFirstBody, IsFirstForm}
-use Rattle.usdstage.specs.Stage.{Spec, find, below, children_at, flat_prim, flat_all, flat_below, flattened}
+use Rattle.first_form.specs.FirstForm.{Stand}
+use Rattle.first_form.proofs.Standing.{one_deeper}
+use Rattle.sdf_paths.specs.Paths.{depth}
+use Rattle.sdf_paths.specs.declared.element.Element.{Element}
+use Rattle.sdf_paths.specs.declared.element.Element.TheVariants.{Prim}
+use Rattle.sdf_specs.specs.Layers.{SpecEntries}
+use Rattle.usdstage.specs.Outcome.{IsFirstText}
+use Rattle.usdstage.specs.Stage.{Spec, find, below, children_at, flat_all, flat_below, flattened}
 
 -- at most so many levels, and in each body different names
 abbrev IsTidy : Forest → ℕ → Type 0
@@ -15,12 +21,11 @@ IsTidy empty levels = Unit {0}
 IsTidy (prim ty n attrs children others) zero = ⊥
 IsTidy (prim ty n attrs children others) (suc levels) = AreNew [] (prim_names children) × IsTidy children levels × IsTidy others (suc levels)
 
-tidy_within : (items : Items) (depth path levels : ℕ) → depth + levels ≡ 64 → IsWithin depth path items → IsTidy (prims_in items) levels
-tidy_within none depth path levels e within = tt
-tidy_within (attr n z others) depth path levels e within = tidy_within others depth path levels e within
-tidy_within (def ty n body others) depth path zero e within = absurd (omega (arith, within.0))
-tidy_within (def ty n body others) depth path (suc levels) e within =
-    (within.3, tidy_within body (suc depth) (path + 1 + length n) levels (omega arith) within.4, tidy_within others depth path (suc levels) e within.5)
+tidy_stand : (prims : Forest) (specs : SpecEntries) (path : List Element) (levels : ℕ) → depth path + levels ≡ 64 → Stand specs path prims → IsTidy prims levels
+tidy_stand empty specs path levels e s = tt
+tidy_stand (prim ty n attrs children others) specs path zero e s = absurd (omega (arith, one_deeper path n, s.0.well_formed.few))
+tidy_stand (prim ty n attrs children others) specs path (suc levels) e s =
+    (s.3, tidy_stand children specs (path ++ Prim n ∷ []) levels (omega (arith, one_deeper path n)) s.4, tidy_stand others specs path (suc levels) e s.5)
 
 abbrev spec : Option (List ℕ) → List FirstAttr → Forest → Spec
 spec ty attrs children = record { type_name = ty; attrs = attrs; children = children }
@@ -68,18 +73,15 @@ unfolding flattened
 flattened_is layer tidy new = below_is 64 layer [] tidy new
 
 -- a layer of the first form flattens to itself
-pub flattened_form : (bytes : List ℕ) (layer : Forest) → IsFirstForm bytes layer → flattened layer ≡ layer
-flattened_form bytes layer form =
-    let b = form.body in
-    flattened_is layer (subst (λ (f : Forest). IsTidy f 64) b.prims (tidy_within b.items 0 0 64 (omega arith) b.within)) (subst (λ (f : Forest). AreNew [] (prim_names f)) b.prims b.different)
+pub flattened_text : (bytes : List ℕ) (prims : Forest) → IsFirstText bytes prims → flattened prims ≡ prims
+flattened_text bytes prims h = flattened_is prims (tidy_stand prims h.layer.specs [] 64 (omega arith) h.form.stand) h.form.different
 
-nesting_within : (items : Items) (depth path levels : ℕ) → depth + levels ≡ 64 → IsWithin depth path items → nesting (prims_in items) ≤ levels
-nesting_within none depth path levels e within = omega arith
-nesting_within (attr n z others) depth path levels e within = nesting_within others depth path levels e within
-nesting_within (def ty n body others) depth path zero e within = absurd (omega (arith, within.0))
-nesting_within (def ty n body others) depth path (suc levels) e within =
-    omega (arith, nesting_within body (suc depth) (path + 1 + length n) levels (omega arith) within.4, nesting_within others depth path (suc levels) e within.5)
+nesting_stand : (prims : Forest) (specs : SpecEntries) (path : List Element) (levels : ℕ) → depth path + levels ≡ 64 → Stand specs path prims → nesting prims ≤ levels
+nesting_stand empty specs path levels e s = omega arith
+nesting_stand (prim ty n attrs children others) specs path zero e s = absurd (omega (arith, one_deeper path n, s.0.well_formed.few))
+nesting_stand (prim ty n attrs children others) specs path (suc levels) e s =
+    omega (arith, nesting_stand children specs (path ++ Prim n ∷ []) levels (omega (arith, one_deeper path n)) s.4, nesting_stand others specs path (suc levels) e s.5)
 
 -- in a layer of the first form at most 64 prims stand one in the other
-pub nesting_form : (bytes : List ℕ) (layer : Forest) → IsFirstForm bytes layer → nesting layer ≤ 64
-nesting_form bytes layer form = let b = form.body in subst (λ (f : Forest). nesting f ≤ 64) b.prims (nesting_within b.items 0 0 64 (omega arith) b.within)
+pub nesting_text : (bytes : List ℕ) (prims : Forest) → IsFirstText bytes prims → nesting prims ≤ 64
+nesting_text bytes prims h = nesting_stand prims h.layer.specs [] 64 (omega arith) h.form.stand

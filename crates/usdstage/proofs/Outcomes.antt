@@ -1,30 +1,38 @@
 -- How a run ends.
-use Rattle.std.proofs.Common.{◌≡◌, ℕ, ◌+◌, ◌<◌, ◌≤◌, ◌⊎◌, inl, inr, List, [], ◌∷◌, ◌++◌, length, take, drop, Option, Some, None, Result, Ok, Err, refl, ap, sym, subst, ◌∙◌, append_assoc, arith}
+use Rattle.std.proofs.Common.{◌≡◌, ℕ, ◌+◌, ◌<◌, ◌≤◌, Bool, true, false, nat_lt, ◌⊎◌, inl, inr, List, [], ◌++◌, length, take, drop, Option, Some, None, Result, Ok, Err, refl, ap, sym, subst, ◌∙◌, append_assoc, arith}
 use Rattle.std.specs.Prelude.{IfSome}
-use Rattle.std.specs.Global.{Vec}
 use Rattle.std.specs.Io.KnownBytes.{Appends}
+use Rattle.std.proofs.lemmas.Bool.{ltb-true, ltb-false, lt-ltb}
 use Rattle.std.proofs.lemmas.List.{take_all, length-take, append-nil, take-append-drop}
 use Rattle.std.proofs.Math.Seq.{take-add}
 use Rattle.first_layer.specs.Forest.{Forest}
-use Rattle.first_reader.specs.Grammar.{IsFirstForm}
+use Rattle.first_form.specs.FirstForm.{IsFirstForm}
 use Rattle.first_writer.specs.Canonical.{canonical}
 use Rattle.io_edges.specs.Edges.{most, FetchTells}
 use Rattle.io_edges.specs.declared.Fetched.TheVariants.{Found}
 use Rattle.usdstage.specs.Command.{command_of}
-use Rattle.usdstage.specs.Outcome.{IsCourse, CommandCourse, FileCourse, LayerCourse, LayerOutcome, ScriptOutcome, IsWriteError, IsFront, IsOutcome, IsScript, EndsAsDue, IsOtherForm, IsNamed, EndsEarly, IsRead, ended_by}
+use Rattle.usdstage.specs.Outcome.{IsFirstText, IsOtherText, IsCourse, CommandCourse, FileCourse, BytesCourse, LayerCourse, LayerOutcome, ScriptOutcome, IsWriteError, IsReadFront, IsOutcome, IsScript, EndsAsDue, IsNamed, EndsEarly, IsJudged, IsRead, ended_by}
 use Rattle.usdstage.specs.declared.status.Status.{Status}
 use Rattle.usdstage.specs.declared.status.Status.TheVariants.{Done, Usage, ReadFault, WriteFault, RootRefused, NotYet, ScriptRefused, NoMemory}
 use Rattle.usdstage.specs.declared.words.Verb.{Verb}
 use Rattle.usdstage.specs.declared.words.Verb.TheVariants.{Flatten, Session}
 use Rattle.first_layer.specs.declared.FirstLayer.{FirstLayer}
 use Rattle.first_layer.specs.Layer.{layer_of}
+use Rattle.sdf_specs.specs.Layers.{LayerTable}
+use Rattle.sdf_values.specs.declared.refusal.RefusalKind.TheVariants.{TooLong}
+use Rattle.spec_parts.specs.declared.items.Refusal.{Refusal}
+use Rattle.usda_drafts.specs.Refusals.{refused}
+use Rattle.usda_drafts.specs.declared.fault.Refused.{Refused}
+use Rattle.usda_reader.specs.Checks.{first_check, foreign_check}
+use Rattle.usda_reader.specs.Texts.{HaveRefusedWord, refusal_at, IsRefusedFirst}
+use Rattle.usda_reader.proofs.Exact.{one_answer}
 use Rattle.session_script.specs.declared.faults.ScriptKind.{ScriptKind}
 use Rattle.session_script.specs.Reading.{Steps, steps_of, ended, step}
 use Rattle.session_script.specs.Reading as reading
 use Rattle.session_script.specs.Told.{BothTold}
 use Rattle.session_script.specs.States.{State, steps_left, AnswersNext}
 use Rattle.session_script.specs.declared.faults.ScriptFault.{ScriptFault}
-use Rattle.session_script.specs.declared.faults.ScriptFault.TheVariants.{Refused, ReadFault as ScriptReadFault, NoMemory as ScriptNoMemory}
+use Rattle.session_script.specs.declared.faults.ScriptFault.TheVariants.{Refused as LineRefused, ReadFault as ScriptReadFault, NoMemory as ScriptNoMemory}
 use Rattle.first_stage.specs.Drafts.{table_of}
 use Rattle.first_session.specs.Replies.{replies, refusal, output, opening, opening_text, reply_to, after}
 use Rattle.first_session.specs.Replies as sessions
@@ -49,38 +57,99 @@ appends_more (Some xs) (Some ys) (Some zs) text at n first second =
 
 -- ---- what a fetch gave
 
-whole_file : (bytes : List ℕ) → length bytes ≤ 67108864 → take most bytes ≡ bytes
-whole_file bytes short = take_all most bytes (omega arith)
+short_passes : (bytes : List ℕ) (long : Bool) → nat_lt 67108864 (length bytes) ≡ long → first_check bytes ≡ None → length bytes ≤ 67108864
+unfolding first_check foreign_check
+short_passes bytes true e passes = let no : Some (refused TooLong 0) ≡ None = rw e at passes in absurd cc
+short_passes bytes false e passes = ltb-false 67108864 (length bytes) e
 
-short_file : (bytes : List ℕ) → length (take most bytes) ≤ 67108864 → length bytes ≤ 67108864
-short_file bytes short = omega (arith, length-take most bytes)
+-- bytes that pass the first checks are not too many
+passes_short : (bytes : List ℕ) → first_check bytes ≡ None → length bytes ≤ 67108864
+passes_short bytes passes = short_passes bytes (nat_lt 67108864 (length bytes)) refl passes
 
-pub told_ok : (told : Option Files) (root fetched : List ℕ) (layer : FirstLayer) → IfSome told (λ f. FetchTells Found (f root) [] fetched) → IsFirstForm fetched (layer_of layer)
-    → IfSome told (λ f. IsRead (f root) root (Ok layer))
-told_ok None root fetched layer gave form = tt
-told_ok (Some f) root fetched layer (bytes, file, e) form =
-    let front : IsFirstForm (take most bytes) (layer_of layer) = subst (λ (x : List ℕ). IsFirstForm x (layer_of layer)) e form in
-    let whole : take most bytes ≡ bytes = whole_file bytes (short_file bytes front.size) in
-    (bytes, file, subst (λ (x : List ℕ). IsFirstForm x (layer_of layer)) whole front)
+-- too many bytes are refused for that, whatever they are
+too_many : (bytes : List ℕ) → 67108864 < length bytes → first_check bytes ≡ Some (refused TooLong 0)
+unfolding first_check foreign_check
+too_many bytes long = let e : nat_lt 67108864 (length bytes) ≡ true = lt-ltb 67108864 (length bytes) long in rw e refl
 
-pub told_not_yet : (told : Option Files) (root fetched : List ℕ) (status : Status) → IfSome told (λ f. FetchTells Found (f root) [] fetched) → ((layer : Forest) → IsFirstForm fetched layer → ⊥)
-    → IsNamed status (λ n. ⊥) (λ n. n ≡ root) → IfSome told (λ f. IsRead (f root) root (Err status))
-told_not_yet None root fetched status gave refused named = tt
-told_not_yet (Some f) root fetched Done gave refused named = absurd named
-told_not_yet (Some f) root fetched Usage gave refused named = absurd named
-told_not_yet (Some f) root fetched ReadFault gave refused named = absurd named
-told_not_yet (Some f) root fetched WriteFault gave refused named = absurd named
-told_not_yet (Some f) root fetched (RootRefused name) gave refused named = absurd named
-told_not_yet (Some f) root fetched (ScriptRefused line kind) gave refused named = absurd named
-told_not_yet (Some f) root fetched NoMemory gave refused named = tt
-told_not_yet (Some f) root fetched (NotYet name) (bytes, file, e) refused named = (
-  bytes,
-  named,
-  file,
-  λ layer form.
-      let all : fetched ≡ bytes = e ∙ whole_file bytes form.size in
-      refused layer (subst (λ (x : List ℕ). IsFirstForm x layer) (sym all) form),
-)
+whole_file : (bytes : List ℕ) → length (take most bytes) ≤ 67108864 → take most bytes ≡ bytes
+whole_file bytes short = take_all most bytes (omega (arith, short, length-take most bytes))
+
+-- a text that a fetch gave is all of the file
+whole_text : (bytes fetched : List ℕ) → fetched ≡ take most bytes → first_check fetched ≡ None → fetched ≡ bytes
+whole_text bytes fetched e passes = e ∙ whole_file bytes (omega (arith, ap length e, passes_short fetched passes))
+
+same_refused : (a b : Refused) → Some a ≡ Some b → a ≡ b
+same_refused a b e = cc
+
+whole_refusal_by : (bytes fetched : List ℕ) (r : Refusal) (long : Bool) → nat_lt 67108864 (length fetched) ≡ long → fetched ≡ take most bytes → IsRefusedFirst fetched r → IsRefusedFirst bytes r
+whole_refusal_by bytes fetched r false short e h = subst (λ (x : List ℕ). IsRefusedFirst x r) (e ∙ whole_file bytes (omega (arith, ap length e, ltb-false 67108864 (length fetched) short))) h
+whole_refusal_by bytes fetched r true long e h = record { refused = refused TooLong 0; place = h.place ∙ ap (refusal_at fetched) (by h.reason); reason = inl (too_many bytes (omega (arith, ap length e, length-take most bytes, ltb-true 67108864 (length fetched) long))) }
+  where
+    at_start : first_check fetched ≡ Some (refused TooLong 0)
+    at_start = too_many fetched (ltb-true 67108864 (length fetched) long)
+
+    by : ((first_check fetched ≡ Some h.refused) ⊎ (first_check fetched ≡ None) × HaveRefusedWord fetched h.refused) → h.refused ≡ refused TooLong 0
+    by (inl at) = same_refused h.refused (refused TooLong 0) (sym at ∙ at_start)
+    by (inr words) = let no : None ≡ Some (refused TooLong 0) = sym words.0 ∙ at_start in absurd cc
+
+-- what a fetch gave is refused first for the same as all of the file
+whole_refusal : (bytes fetched : List ℕ) (r : Refusal) → fetched ≡ take most bytes → IsRefusedFirst fetched r → IsRefusedFirst bytes r
+whole_refusal bytes fetched r e h = whole_refusal_by bytes fetched r (nat_lt 67108864 (length fetched)) refl e h
+
+whole_first : (bytes fetched : List ℕ) (prims : Forest) → fetched ≡ take most bytes → IsFirstText fetched prims → IsFirstText bytes prims
+whole_first bytes fetched prims e h = subst (λ (x : List ℕ). IsFirstText x prims) (whole_text bytes fetched e h.text.passes) h
+
+whole_other : (bytes fetched : List ℕ) → fetched ≡ take most bytes → IsOtherText fetched → IsOtherText bytes
+whole_other bytes fetched e h = subst IsOtherText (whole_text bytes fetched e h.text.passes) h
+
+-- what was judged of the bytes that a fetch gave holds of the file
+pub told_judged : (told : Option Files) (root fetched : List ℕ) (result : Result FirstLayer Status) → IfSome told (λ f. FetchTells Found (f root) [] fetched) → IsJudged fetched root result
+    → IfSome told (λ f. IsRead (f root) root result)
+told_judged None root fetched result gave judged = tt
+told_judged (Some f) root fetched (Ok layer) (bytes, file, e) judged = (bytes, file, whole_first bytes fetched (layer_of layer) e judged)
+told_judged (Some f) root fetched (Err Done) gave judged = absurd judged
+told_judged (Some f) root fetched (Err Usage) gave judged = absurd judged
+told_judged (Some f) root fetched (Err ReadFault) gave judged = tt
+told_judged (Some f) root fetched (Err WriteFault) gave judged = absurd judged
+told_judged (Some f) root fetched (Err (RootRefused name why)) (bytes, file, e) (r, named, is, first) = (named, rw is (bytes, file, whole_refusal bytes fetched r e first))
+told_judged (Some f) root fetched (Err (NotYet name line)) (bytes, file, e) (named, at, other) = (bytes, named, at, file, whole_other bytes fetched e other)
+told_judged (Some f) root fetched (Err (ScriptRefused line kind)) gave judged = absurd judged
+told_judged (Some f) root fetched (Err NoMemory) gave judged = tt
+
+-- ---- what the bytes of a root are
+
+pub judged_refused : (bytes root : List ℕ) (r : Refusal) (status : Status) → IsRefusedFirst bytes r → IsNamed status (λ name why. (name ≡ root) × (why ≡ Some r)) (λ _ _. ⊥) → IsJudged bytes root (Err status)
+judged_refused bytes root r Done first named = absurd named
+judged_refused bytes root r Usage first named = absurd named
+judged_refused bytes root r ReadFault first named = absurd named
+judged_refused bytes root r WriteFault first named = absurd named
+judged_refused bytes root r (RootRefused name why) first named = (r, named.0, named.1, first)
+judged_refused bytes root r (NotYet name line) first named = absurd named
+judged_refused bytes root r (ScriptRefused line kind) first named = absurd named
+judged_refused bytes root r NoMemory first named = tt
+
+pub judged_not_yet : (bytes root : List ℕ) (status : Status) → IsOtherText bytes → IsNamed status (λ _ _. ⊥) (λ name line. (name ≡ root) × (line ≡ 1)) → IsJudged bytes root (Err status)
+judged_not_yet bytes root Done other named = absurd named
+judged_not_yet bytes root Usage other named = absurd named
+judged_not_yet bytes root ReadFault other named = absurd named
+judged_not_yet bytes root WriteFault other named = absurd named
+judged_not_yet bytes root (RootRefused name why) other named = absurd named
+judged_not_yet bytes root (NotYet name line) other named = (named.0, named.1, other)
+judged_not_yet bytes root (ScriptRefused line kind) other named = absurd named
+judged_not_yet bytes root NoMemory other named = tt
+
+-- a root that is absent
+pub told_absent : (told : Option Files) (root : List ℕ) (status : Status) → IfSome told (λ f. f root ≡ None) → IsNamed status (λ name why. (name ≡ root) × (why ≡ None)) (λ _ _. ⊥)
+    → IfSome told (λ f. IsRead (f root) root (Err status))
+told_absent None root status none named = tt
+told_absent (Some f) root Done none named = absurd named
+told_absent (Some f) root Usage none named = absurd named
+told_absent (Some f) root ReadFault none named = absurd named
+told_absent (Some f) root WriteFault none named = absurd named
+told_absent (Some f) root (RootRefused name why) none named = (named.0, rw named.1 none)
+told_absent (Some f) root (NotYet name line) none named = absurd named
+told_absent (Some f) root (ScriptRefused line kind) none named = absurd named
+told_absent (Some f) root NoMemory none named = tt
 
 -- ---- a run that writes nothing
 
@@ -91,14 +160,18 @@ abbrev Command : Type 0
 Command = Option (Verb × List ℕ)
 
 -- the course of a command behind the root's layer
-pub lay : (words : Words) (f : Files) (verb : Verb) (root bytes script text : List ℕ) (prims : Forest) (status : Status) → command_of words ≡ Some (verb, root) → f root ≡ Some bytes → IsFirstForm bytes prims
+pub lay : (words : Words) (f : Files) (verb : Verb) (root bytes script text : List ℕ) (prims : Forest) (status : Status) → command_of words ≡ Some (verb, root) → f root ≡ Some bytes → IsFirstText bytes prims
     → LayerCourse verb root prims script text status → IsCourse words f script text status
-lay words f verb root bytes script text prims status command file form course = rw (command, file) (inr (prims, form, course))
+lay words f verb root bytes script text prims status command file form course = rw (command, file) (inr (inr (prims, form, course)))
 
 pub usage_outcome : (told : Option Files) (words : Words) (left out : Option (List ℕ)) → command_of words ≡ None
     → IfSome told (λ f. (s : List ℕ) → IsScript (command_of words) left s → (written : List ℕ) × IsOutcome words f s Usage written × Appends out out written)
 usage_outcome None words left out none = tt
 usage_outcome (Some f) words left out none = λ s is. ([], rw none (refl, refl), appends_none out)
+
+nothing_read : (verb : Verb) (root : List ℕ) (words : Words) (f : Files) (s : List ℕ) → IsReadFront (Some (verb, root)) words f s []
+nothing_read Flatten root words f s = refl
+nothing_read Session root words f s = inl refl
 
 -- a run that ends before a layer is read has written nothing
 pub early : (told : Option Files) (words : Words) (verb : Verb) (root : List ℕ) (status : Status) (left out : Option (List ℕ)) → command_of words ≡ Some (verb, root) → EndsEarly (Err status)
@@ -106,23 +179,26 @@ pub early : (told : Option Files) (words : Words) (verb : Verb) (root : List ℕ
 early None words verb root status left out command kind text = tt
 early (Some f) words verb root Done left out command kind text = absurd kind
 early (Some f) words verb root Usage left out command kind text = absurd kind
-early (Some f) words verb root ReadFault left out command kind text = λ s is. ([], inl refl, appends_none out)
+early (Some f) words verb root ReadFault left out command kind text = λ s is. ([], subst (λ (c : Command). IsReadFront c words f s []) (sym command) (nothing_read verb root words f s), appends_none out)
 early (Some f) words verb root WriteFault left out command kind text = absurd kind
-early (Some f) words verb root (RootRefused name) left out command kind (named, none) = λ s is. ([], rw (command, none) (refl, ap RootRefused named), appends_none out)
-early (Some f) words verb root (NotYet name) left out command kind (bytes, named, file, refused) = λ s is. ([], rw (command, file) (inl (refused, refl, ap NotYet named)), appends_none out)
+early (Some f) words verb root (RootRefused name None) left out command kind (named, none) = λ s is. ([], rw (command, none) (refl, ap (λ (n : List ℕ). RootRefused n None) named), appends_none out)
+early (Some f) words verb root (RootRefused name (Some r)) left out command kind (named, (bytes, file, first)) = λ s is. ([], rw (command, file) (inl (r, first, refl, ap (λ (n : List ℕ). RootRefused n (Some r)) named)), appends_none out)
+early (Some f) words verb root (NotYet name line) left out command kind (bytes, named, at, file, other) = λ s is. ([], rw (command, file) (inr (inl (other, refl, rw (named, at) refl))), appends_none out)
 early (Some f) words verb root (ScriptRefused line kind) left out command k text = absurd k
 early (Some f) words verb root NoMemory left out command kind text = λ s is. ([], inl refl, appends_none out)
 
 -- ---- a run that writes
 
-pub late : (words : Words) (f : Files) (verb : Verb) (root bytes script written : List ℕ) (prims : Forest) (status : Status) → command_of words ≡ Some (verb, root) → f root ≡ Some bytes → IsFirstForm bytes prims
+pub late : (words : Words) (f : Files) (verb : Verb) (root bytes script written : List ℕ) (prims : Forest) (status : Status) → command_of words ≡ Some (verb, root) → f root ≡ Some bytes → IsFirstText bytes prims
     → LayerOutcome verb root prims script status written → IsOutcome words f script status written
 late words f verb root bytes script written prims Done command file form o = lay words f verb root bytes script written prims Done command file form o
 late words f verb root bytes script written prims Usage command file form o = absurd o
-late words f verb root bytes script written prims (RootRefused name) command file form o = absurd o
-late words f verb root bytes script written prims (NotYet name) command file form o = absurd o
+late words f verb root bytes script written prims (RootRefused name why) command file form o = absurd o
+late words f verb root bytes script written prims (NotYet name line) command file form o = absurd o
 late words f verb root bytes script written prims (ScriptRefused line kind) command file form o = lay words f verb root bytes script written prims (ScriptRefused line kind) command file form o
-late words f verb root bytes script written prims ReadFault command file form (more, due, o) = inr (more, due, lay words f verb root bytes script (written ++ more) prims due command file form o)
+late words f Flatten root bytes script written prims ReadFault command file form o = absurd o
+late words f Session root bytes script written prims ReadFault command file form (more, due, o) =
+    subst (λ (c : Command). IsReadFront c words f script written) (sym command) (inr (more, due, lay words f Session root bytes script (written ++ more) prims due command file form o))
 late words f verb root bytes script written prims WriteFault command file form (more, due, o) = (more, due, lay words f verb root bytes script (written ++ more) prims due command file form o)
 late words f verb root bytes script written prims NoMemory command file form (inl none) = inl none
 late words f verb root bytes script written prims NoMemory command file form (inr (more, due, o)) = inr (more, due, lay words f verb root bytes script (written ++ more) prims due command file form o)
@@ -152,12 +228,23 @@ layer_once : (verb : Verb) (root : List ℕ) (p q : Forest) (script t u : List �
 layer_once Flatten root p q script t u a b x y = x.1 ∙ sym y.1
 layer_once Session root p q script t u a b x y = x.1 ∙ sym y.1
 
+first_or_other : (bytes : List ℕ) (prims : Forest) → IsFirstText bytes prims → IsOtherText bytes → ⊥
+first_or_other bytes prims h o = o.other prims (subst (λ (l : LayerTable). IsFirstForm l prims) ((one_answer bytes).one_layer h.layer o.layer h.text o.text) h.form)
+
+bytes_once : (verb : Verb) (root bytes script t u : List ℕ) (a b : Status) → BytesCourse verb root bytes script t a → BytesCourse verb root bytes script u b → a ≡ b
+bytes_once verb root bytes script t u a b (inl x) (inl y) = x.3 ∙ ap (λ (p : Refusal). RootRefused root (Some p)) ((one_answer bytes).one_refusal x.0 y.0 x.1 y.1) ∙ sym y.3
+bytes_once verb root bytes script t u a b (inl x) (inr (inl y)) = absurd ((one_answer bytes).not_both y.0.layer x.0 y.0.text x.1)
+bytes_once verb root bytes script t u a b (inl x) (inr (inr y)) = absurd ((one_answer bytes).not_both y.1.layer x.0 y.1.text x.1)
+bytes_once verb root bytes script t u a b (inr (inl x)) (inl y) = absurd ((one_answer bytes).not_both x.0.layer y.0 x.0.text y.1)
+bytes_once verb root bytes script t u a b (inr (inr x)) (inl y) = absurd ((one_answer bytes).not_both x.1.layer y.0 x.1.text y.1)
+bytes_once verb root bytes script t u a b (inr (inl x)) (inr (inl y)) = x.2 ∙ sym y.2
+bytes_once verb root bytes script t u a b (inr (inl x)) (inr (inr y)) = absurd (first_or_other bytes y.0 y.1 x.0)
+bytes_once verb root bytes script t u a b (inr (inr x)) (inr (inl y)) = absurd (first_or_other bytes x.0 x.1 y.0)
+bytes_once verb root bytes script t u a b (inr (inr x)) (inr (inr y)) = layer_once verb root x.0 y.0 script t u a b x.2 y.2
+
 file_once : (verb : Verb) (root : List ℕ) (file : Option (List ℕ)) (script t u : List ℕ) (a b : Status) → FileCourse verb root file script t a → FileCourse verb root file script u b → a ≡ b
 file_once verb root None script t u a b x y = x.1 ∙ sym y.1
-file_once verb root (Some bytes) script t u a b (inl x) (inl y) = x.2 ∙ sym y.2
-file_once verb root (Some bytes) script t u a b (inl x) (inr y) = absurd (x.0 y.0 y.1)
-file_once verb root (Some bytes) script t u a b (inr x) (inl y) = absurd (y.0 x.0 x.1)
-file_once verb root (Some bytes) script t u a b (inr x) (inr y) = layer_once verb root x.0 y.0 script t u a b x.2 y.2
+file_once verb root (Some bytes) script t u a b x y = bytes_once verb root bytes script t u a b x y
 
 command_once : (c : Command) (f : Files) (script t u : List ℕ) (a b : Status) → CommandCourse c f script t a → CommandCourse c f script u b → a ≡ b
 command_once None f script t u a b x y = x.1 ∙ sym y.1
@@ -168,8 +255,8 @@ pub ends : (words : Words) (f : Files) (script written : List ℕ) (status : Sta
     → (R → ⊥) → (S → ⊥) → (W → ⊥) → EndsAsDue words f script status
 ends words f script written Done R S W read write o r s w = λ text due d. inl (command_once (command_of words) f script written text Done due o d)
 ends words f script written Usage R S W read write o r s w = λ text due d. inl (command_once (command_of words) f script written text Usage due o d)
-ends words f script written (RootRefused name) R S W read write o r s w = λ text due d. inl (command_once (command_of words) f script written text (RootRefused name) due o d)
-ends words f script written (NotYet name) R S W read write o r s w = λ text due d. inl (command_once (command_of words) f script written text (NotYet name) due o d)
+ends words f script written (RootRefused name why) R S W read write o r s w = λ text due d. inl (command_once (command_of words) f script written text (RootRefused name why) due o d)
+ends words f script written (NotYet name line) R S W read write o r s w = λ text due d. inl (command_once (command_of words) f script written text (NotYet name line) due o d)
 ends words f script written (ScriptRefused line kind) R S W read write o r s w = λ text due d. inl (command_once (command_of words) f script written text (ScriptRefused line kind) due o d)
 ends words f script written ReadFault R S W read write o r s w = λ text due d. elim (read refl) [ inl x ↦ absurd (r x) | inr x ↦ absurd (s x) ]
 ends words f script written WriteFault R S W read write o r s w = λ text due d. absurd (w (write refl))
@@ -269,8 +356,8 @@ by_status : (root : List ℕ) (prims : Forest) (all written : List ℕ) (status 
     → LayerOutcome Session root prims all status (opening_text (table_of root prims) ++ written)
 by_status root prims all written Done (e, r) = ended_at root prims all written Done e (ap ended_by (sym r))
 by_status root prims all written Usage o = absurd o
-by_status root prims all written (RootRefused name) o = absurd o
-by_status root prims all written (NotYet name) o = absurd o
+by_status root prims all written (RootRefused name why) o = absurd o
+by_status root prims all written (NotYet name line) o = absurd o
 by_status root prims all written (ScriptRefused line kind) (e, r) = ended_at root prims all written (ScriptRefused line kind) e (ap ended_by (sym r))
 by_status root prims all written ReadFault (more, e) = front_at root prims all written more e
 by_status root prims all written WriteFault (more, e) = front_at root prims all written more e
@@ -300,7 +387,7 @@ opening_front root prims all n status a b (inr e) wrote = (take n (opening_text 
 abbrev pub EndsScript : Result (Option Step) ScriptFault → Status → Type 0
 EndsScript (Ok None) status = status ≡ Done
 EndsScript (Ok (Some s)) status = ⊥
-EndsScript (Err (Refused line kind)) status = status ≡ ScriptRefused line kind
+EndsScript (Err (LineRefused line kind)) status = status ≡ ScriptRefused line kind
 EndsScript (Err ScriptReadFault) status = status ≡ ReadFault
 EndsScript (Err ScriptNoMemory) status = status ≡ NoMemory
 
@@ -343,7 +430,7 @@ gives_none x y z a b start now old new (Ok None) status kind r q =
     told_first x z (λ all _. (written : List ℕ) × ScriptOutcome start (steps_of all) status written × Appends a b written) _
     (told_told x y z _ _ _ r q (λ all p rest have asked. rw kind (reached_end start now (steps_of all) (steps_left old p) a b have asked.0))) (λ all rest o. o)
 gives_none x y z a b start now old new (Ok (Some s)) status kind r q = absurd kind
-gives_none x y z a b start now old new (Err (Refused line k)) status kind r q =
+gives_none x y z a b start now old new (Err (LineRefused line k)) status kind r q =
     told_first x z (λ all _. (written : List ℕ) × ScriptOutcome start (steps_of all) status written × Appends a b written) _
     (told_told x y z _ _ _ r q (λ all p rest have asked. rw kind (reached_refusal start now (steps_of all) (steps_left old p) a b line k have asked.0))) (λ all rest o. o)
 gives_none x y z a b start now old new (Err ScriptReadFault) status kind r q =

@@ -1,10 +1,13 @@
 //! How a run ends.
 
-ghost use Rattle.std.specs.Prelude.{◌≡◌, ◌++◌, IfOk, codes, string_bytes};
+ghost use Rattle.std.specs.Prelude.{◌≡◌, ◌++◌, IfOk, OnOk, codes, string_bytes};
 ghost use Rattle.std.specs.Fmt.{decimal};
 ghost use Rattle.usdstage.specs.Kinds.{kind_text};
+ghost use Rattle.usdstage.specs.Refusals.{refusal_text};
 
 use plain_data::Text;
+use prim_view::refusal_name;
+use sdf_specs::Refusal;
 use session_script::ScriptKind;
 use std::alloc::{AllocError, Global};
 
@@ -19,15 +22,19 @@ pub enum Status {
     ReadFault,
     /// A write failed. What was taken before is the front of the output.
     WriteFault,
-    /// There is no file of this name, which the words give as the root.
+    /// There is no file of this name, which the words give as the root, or no layer has its text.
     RootRefused {
         /// The root's name.
         name: Text,
+        /// Why no layer has the root's text, and where; none where there is no file.
+        refusal: Option<Refusal>,
     },
-    /// The root of this name is not of the form that is read by now.
+    /// The root of this name is a layer, and not of the form that is composed by now.
     NotYet {
         /// The root's name.
         name: Text,
+        /// The line from which on it is not of that form: 1, as the layer is judged as a whole.
+        line: u64,
     },
     /// This line of the script, counted from 1, is refused. All lines before it were answered.
     ScriptRefused {
@@ -40,13 +47,61 @@ pub enum Status {
     NoMemory,
 }
 
-// The line about a file of this name.
-fn line_about(alloc: Global, name: &Text, what: &str) -> Result<String, AllocError>
-    ensures { IfOk result (λ line. string_bytes line ≡ codes "usdstage: " ++ name.now ++ what.now) }
+// The line about a file of this name, as far as the name.
+fn line_about(alloc: Global, name: &Text) -> Result<String, AllocError>
+    ensures { IfOk result (λ line. string_bytes line ≡ codes "usdstage: " ++ name.now) }
 {
     let mut line = String::from_str(alloc, "usdstage: ")?;
     line.push_str(name.as_str())?;
-    line.push_str(what)?;
+    Ok(line)
+}
+
+// Adds a colon and a number.
+fn push_place(alloc: Global, line: &mut String, number: u64) -> Result<(), AllocError>
+    ensures { OnOk result (string_bytes line.new ≡ string_bytes line.old ++ codes ":" ++ decimal number) }
+{
+    let number = number.to_string(alloc)?;
+    line.push_str(":")?;
+    line.push_str(number.as_str())
+}
+
+// Adds why a root is refused.
+fn push_refusal(
+    alloc: Global,
+    line: &mut String,
+    refusal: &Option<Refusal>,
+) -> Result<(), AllocError>
+    ensures { OnOk result (string_bytes line.new ≡ string_bytes line.old ++ refusal_text refusal.now) }
+{
+    let Some(refusal) = refusal else {
+        return line.push_str(": absent");
+    };
+    push_place(alloc, line, refusal.line)?;
+    push_place(alloc, line, refusal.column)?;
+    line.push_str(": ")?;
+    line.push_str(refusal_name(refusal.kind))
+}
+
+// The line about a root that is refused.
+fn line_about_root(
+    alloc: Global,
+    name: &Text,
+    refusal: &Option<Refusal>,
+) -> Result<String, AllocError>
+    ensures { IfOk result (λ line. string_bytes line ≡ codes "usdstage: " ++ name.now ++ refusal_text refusal.now) }
+{
+    let mut line = line_about(alloc, name)?;
+    push_refusal(alloc, &mut line, refusal)?;
+    Ok(line)
+}
+
+// The line about a root that is not of the form that is composed by now.
+fn line_not_yet(alloc: Global, name: &Text, number: u64) -> Result<String, AllocError>
+    ensures { IfOk result (λ line. string_bytes line ≡ codes "usdstage: " ++ name.now ++ codes ":" ++ decimal number ++ codes ": not yet") }
+{
+    let mut line = line_about(alloc, name)?;
+    push_place(alloc, &mut line, number)?;
+    line.push_str(": not yet")?;
     Ok(line)
 }
 
@@ -101,8 +156,8 @@ impl Status {
             Status::Usage => Ok(String::from_str(alloc, "usdstage: not a command")?),
             Status::ReadFault => Ok(String::from_str(alloc, "usdstage: reading failed")?),
             Status::WriteFault => Ok(String::from_str(alloc, "usdstage: writing failed")?),
-            Status::RootRefused { name } => line_about(alloc, name, ": absent"),
-            Status::NotYet { name } => line_about(alloc, name, ": not yet"),
+            Status::RootRefused { name, refusal } => line_about_root(alloc, name, refusal),
+            Status::NotYet { name, line } => line_not_yet(alloc, name, *line),
             Status::ScriptRefused { line, kind } => line_about_script(alloc, *line, *kind),
             Status::NoMemory => Ok(String::from_str(alloc, "usdstage: out of memory")?),
         }

@@ -4,6 +4,7 @@ use crate::status::Status;
 use crate::tool::{run_in_memory, run_tool};
 use io_edges::{FreeGate, MemoryFiles, MemorySink, SureFiles, SureSink, SureSource};
 use plain_data::Text;
+use sdf_specs::{Refusal, RefusalKind};
 use session_script::ScriptKind;
 use std::alloc::Global;
 use std::test::Fail;
@@ -109,197 +110,297 @@ fn nested(alloc: Global, levels: usize) -> Result<(String, String), Fail> {
 }
 
 #[test]
-fn layers_of_the_first_form_are_flattened_and_no_others(rt: HostRuntime) -> Result<(), Fail> {
+fn layers_of_the_first_form_are_flattened(rt: HostRuntime) -> Result<(), Fail> {
     let (deepest, flattened) = nested(rt.alloc(), 64)?;
-    let (too_deep, _) = nested(rt.alloc(), 65)?;
-    // what it shows, the root, and what is written where the root is of the first form
+    // what it shows, the root, and what is written
     let table = [
-        ("an empty layer", "#usda 1.0\n", Some("#usda 1.0\n")),
-        ("no line feed", "#usda 1.0", Some("#usda 1.0\n")),
+        ("an empty layer", "#usda 1.0\n", "#usda 1.0\n"),
+        ("no line feed", "#usda 1.0", "#usda 1.0\n"),
         (
             "blanks after the first line",
             "#usda 1.0 \t\r",
-            Some("#usda 1.0\n"),
+            "#usda 1.0\n",
         ),
         (
             "blanks alone behind it",
             "#usda 1.0 \n \t\r\n\n",
-            Some("#usda 1.0\n"),
+            "#usda 1.0\n",
         ),
         (
             "comments to the end, with no line feed",
             "#usda 1.0\n# one\n  # two",
-            Some("#usda 1.0\n"),
+            "#usda 1.0\n",
         ),
-        (
-            "an empty comment at the end",
-            "#usda 1.0\n#",
-            Some("#usda 1.0\n"),
-        ),
+        ("an empty comment at the end", "#usda 1.0\n#", "#usda 1.0\n"),
         (
             "the three kinds of statements",
             "#usda 1.0\ndef Xform \"A\" { int b = -7 def \"C\" { int x = 3 } int a = 0 }",
-            Some(
-                "#usda 1.0\n\ndef Xform \"A\"\n{\n    int b = -7\n    int a = 0\n\n    def \"C\"\n    {\n        int x = 3\n    }\n}\n",
-            ),
+            "#usda 1.0\n\ndef Xform \"A\"\n{\n    int b = -7\n    int a = 0\n\n    def \"C\"\n    {\n        int x = 3\n    }\n}\n",
         ),
         (
             "lines that end in a carriage return and a line feed",
             "#usda 1.0\r\ndef \"A\"\r\n{\r\n    int x = 1\r\n}\r\n",
-            Some("#usda 1.0\n\ndef \"A\"\n{\n    int x = 1\n}\n"),
+            "#usda 1.0\n\ndef \"A\"\n{\n    int x = 1\n}\n",
         ),
         (
             "no blanks where none is needed",
             "#usda 1.0\ndef\"A\"{int x=1int y=-2}",
-            Some("#usda 1.0\n\ndef \"A\"\n{\n    int x = 1\n    int y = -2\n}\n"),
+            "#usda 1.0\n\ndef \"A\"\n{\n    int x = 1\n    int y = -2\n}\n",
         ),
         (
             "comments between tokens",
             "#usda 1.0\ndef # \"B\"\n\"A\" # {\n{ # }\nint x # =\n= # 2\n1 }",
-            Some("#usda 1.0\n\ndef \"A\"\n{\n    int x = 1\n}\n"),
+            "#usda 1.0\n\ndef \"A\"\n{\n    int x = 1\n}\n",
         ),
         (
             "numbers",
             "#usda 1.0\ndef \"A\" { int a = -0 int b = 007 int c = 2147483647 int d = -2147483648 int e = 0000000001 }",
-            Some(
-                "#usda 1.0\n\ndef \"A\"\n{\n    int a = 0\n    int b = 7\n    int c = 2147483647\n    int d = -2147483648\n    int e = 1\n}\n",
-            ),
+            "#usda 1.0\n\ndef \"A\"\n{\n    int a = 0\n    int b = 7\n    int c = 2147483647\n    int d = -2147483648\n    int e = 1\n}\n",
         ),
         (
             "words of the format as names",
             "#usda 1.0\ndef def \"int\" { int def = 1 int int = 2 def int \"def\" { } }",
-            Some(
-                "#usda 1.0\n\ndef def \"int\"\n{\n    int def = 1\n    int int = 2\n\n    def int \"def\"\n    {\n    }\n}\n",
-            ),
+            "#usda 1.0\n\ndef def \"int\"\n{\n    int def = 1\n    int int = 2\n\n    def int \"def\"\n    {\n    }\n}\n",
         ),
         (
             "an attribute named like a prim",
             "#usda 1.0\ndef \"A\" { int A = 1 def \"A\" { } }",
-            Some("#usda 1.0\n\ndef \"A\"\n{\n    int A = 1\n\n    def \"A\"\n    {\n    }\n}\n"),
+            "#usda 1.0\n\ndef \"A\"\n{\n    int A = 1\n\n    def \"A\"\n    {\n    }\n}\n",
         ),
         (
             "prims in their order",
             "#usda 1.0\ndef \"b\" { def \"z\" {} def \"y\" {} } def \"a\" {}",
-            Some(
-                "#usda 1.0\n\ndef \"b\"\n{\n\n    def \"z\"\n    {\n    }\n\n    def \"y\"\n    {\n    }\n}\n\ndef \"a\"\n{\n}\n",
-            ),
+            "#usda 1.0\n\ndef \"b\"\n{\n\n    def \"z\"\n    {\n    }\n\n    def \"y\"\n    {\n    }\n}\n\ndef \"a\"\n{\n}\n",
         ),
         (
             "names with digits and low lines",
             "#usda 1.0\ndef _T1 \"_9\" { int __ = 3 }",
-            Some("#usda 1.0\n\ndef _T1 \"_9\"\n{\n    int __ = 3\n}\n"),
+            "#usda 1.0\n\ndef _T1 \"_9\"\n{\n    int __ = 3\n}\n",
+        ),
+        ("64 nested prims", deepest.as_str(), flattened.as_str()),
+        (
+            "a number of more digits than it needs, and one with a plus",
+            "#usda 1.0\ndef \"A\" { int x = 00000000001 int y = +1 }",
+            "#usda 1.0\n\ndef \"A\"\n{\n    int x = 1\n    int y = 1\n}\n",
         ),
         (
-            "64 nested prims",
-            deepest.as_str(),
-            Some(flattened.as_str()),
-        ),
-        ("nothing", "", None),
-        ("another version", "#usda 1.1", None),
-        ("another version behind it", "#usda 1.1\n", None),
-        ("a word after the first line's", "#usda 1.0 x\n", None),
-        ("a comment in the first line", "#usda 1.0 # x\n", None),
-        ("a blank before the first line", " #usda 1.0\n", None),
-        ("a byte order mark", "\u{feff}#usda 1.0\n", None),
-        ("another specifier", "#usda 1.0\nover \"A\" {}", None),
-        (
-            "two equal root prims",
-            "#usda 1.0\ndef \"A\" {} def \"A\" {}",
-            None,
+            "a semicolon behind a statement",
+            "#usda 1.0\ndef \"A\" { int x = 1; };",
+            "#usda 1.0\n\ndef \"A\"\n{\n    int x = 1\n}\n",
         ),
         (
-            "two equal children",
-            "#usda 1.0\ndef \"P\" { def \"A\" {} def \"B\" {} def \"A\" {} }",
-            None,
+            "metadata that says nothing",
+            "#usda 1.0\n(subLayers = [])\ndef 'A' () { int x = 1 () }",
+            "#usda 1.0\n\ndef \"A\"\n{\n    int x = 1\n}\n",
         ),
         (
-            "two equal attributes",
-            "#usda 1.0\ndef \"A\" { int x = 1 int y = 2 int x = 1 }",
-            None,
+            "statements that join into one",
+            "#usda 1.0\ndef \"A\" { int x int y = 2 int x = 1 }",
+            "#usda 1.0\n\ndef \"A\"\n{\n    int x = 1\n    int y = 2\n}\n",
         ),
         (
-            "a number that is too large",
-            "#usda 1.0\ndef \"A\" { int x = 2147483648 }",
-            None,
+            "names that are joined, letters of other scripts, other kinds of comments",
+            "#usda 1.0\n// x\ndef a:T \"\u{e4}\" { int a:b = 1 /* y */ }",
+            "#usda 1.0\n\ndef a:T \"\u{e4}\"\n{\n    int a:b = 1\n}\n",
         ),
-        (
-            "a number that is too small",
-            "#usda 1.0\ndef \"A\" { int x = -2147483649 }",
-            None,
-        ),
-        (
-            "eleven digits",
-            "#usda 1.0\ndef \"A\" { int x = 00000000001 }",
-            None,
-        ),
-        (
-            "a number with a plus",
-            "#usda 1.0\ndef \"A\" { int x = +1 }",
-            None,
-        ),
-        (
-            "a number with a point",
-            "#usda 1.0\ndef \"A\" { int x = 1.0 }",
-            None,
-        ),
-        (
-            "a sign apart from its digits",
-            "#usda 1.0\ndef \"A\" { int x = - 1 }",
-            None,
-        ),
-        ("a sign alone", "#usda 1.0\ndef \"A\" { int x = - }", None),
-        (
-            "an attribute with no value",
-            "#usda 1.0\ndef \"A\" { int x }",
-            None,
-        ),
-        ("an attribute at the root", "#usda 1.0\nint x = 1", None),
-        (
-            "another type of attribute",
-            "#usda 1.0\ndef \"A\" { float x = 1 }",
-            None,
-        ),
-        ("a semicolon", "#usda 1.0\ndef \"A\" { int x = 1; }", None),
-        ("a body that does not end", "#usda 1.0\ndef \"A\" {", None),
-        ("a body that ends twice", "#usda 1.0\ndef \"A\" {}}", None),
-        ("a prim with no body", "#usda 1.0\ndef \"A\"", None),
-        ("a prim with no name", "#usda 1.0\ndef A {}", None),
-        ("an empty name", "#usda 1.0\ndef \"\" {}", None),
-        (
-            "a name that begins with a digit",
-            "#usda 1.0\ndef \"1A\" {}",
-            None,
-        ),
-        ("a name with a blank", "#usda 1.0\ndef \"A B\" {}", None),
-        ("a name that does not end", "#usda 1.0\ndef \"A {}", None),
-        ("single quotes", "#usda 1.0\ndef 'A' {}", None),
-        ("metadata", "#usda 1.0\ndef \"A\" () {}", None),
-        ("another kind of comment", "#usda 1.0\n// x", None),
-        (
-            "a letter that is no ASCII letter",
-            "#usda 1.0\ndef \"ä\" {}",
-            None,
-        ),
-        ("65 nested prims", too_deep.as_str(), None),
     ];
     for (what, root, written) in table {
         let ending = run(rt.alloc(), &["flatten", "root.usda"], root.as_bytes())?;
-        let (line, code) = match written {
-            Some(_) => ("", 0),
-            None => ("usdstage: root.usda: not yet", 10),
-        };
-        assert_eq!(rt; ending.line.as_str(), line, "at {what}");
-        assert_eq!(rt; ending.code, code, "at {what}");
-        assert_eq!(rt; ending.written.as_str(), written.unwrap_or(""), "at {what}");
+        assert_eq!(rt; ending.line.as_str(), "", "at {what}");
+        assert_eq!(rt; ending.code, 0, "at {what}");
+        assert_eq!(rt; ending.written.as_str(), written, "at {what}");
     }
     Ok(())
 }
 
 #[test]
-fn bytes_that_are_no_text_are_not_yet_read(rt: HostRuntime) -> Result<(), Fail> {
+fn roots_that_no_layer_has_are_refused(rt: HostRuntime) -> Result<(), Fail> {
+    let (too_deep, _) = nested(rt.alloc(), 65)?;
+    // what it shows, the root, and its first refusal
+    let table = [
+        ("nothing", "", "1:1: BadHeader"),
+        ("another version", "#usda 1.1", "1:1: BadHeader"),
+        ("another version behind it", "#usda 1.1\n", "1:1: BadHeader"),
+        (
+            "a word behind the first line",
+            "#usda 1.0 x\n",
+            "1:1: BadHeader",
+        ),
+        (
+            "a comment in the first line",
+            "#usda 1.0 # x\n",
+            "1:1: BadHeader",
+        ),
+        (
+            "a blank before the first line",
+            " #usda 1.0\n",
+            "1:1: BadHeader",
+        ),
+        ("a byte order mark", "\u{feff}#usda 1.0\n", "1:1: BadHeader"),
+        ("a crate file", "PXR-USDC", "1:1: Crate"),
+        ("an archive", "PK\u{3}\u{4}", "1:1: Package"),
+        (
+            "two equal root prims",
+            "#usda 1.0\ndef \"A\" {} def \"A\" {}",
+            "2:16: DuplicateSpec",
+        ),
+        (
+            "two equal children",
+            "#usda 1.0\ndef \"P\" { def \"A\" {} def \"B\" {} def \"A\" {} }",
+            "2:37: DuplicateSpec",
+        ),
+        (
+            "two equal attributes",
+            "#usda 1.0\ndef \"A\" { int x = 1 int y = 2 int x = 1 }",
+            "2:35: DuplicateSpec",
+        ),
+        (
+            "a number that is too large",
+            "#usda 1.0\ndef \"A\" { int x = 2147483648 }",
+            "2:19: ValueShape",
+        ),
+        (
+            "a number that is too small",
+            "#usda 1.0\ndef \"A\" { int x = -2147483649 }",
+            "2:19: ValueShape",
+        ),
+        (
+            "a number with a point",
+            "#usda 1.0\ndef \"A\" { int x = 1.0 }",
+            "2:19: ValueShape",
+        ),
+        (
+            "a number of 35 digits",
+            "#usda 1.0\ndef \"A\" { int x = 12345678901234567890123456789012345 }",
+            "2:19: NumberTooLong",
+        ),
+        (
+            "a sign apart from its digits",
+            "#usda 1.0\ndef \"A\" { int x = - 1 }",
+            "2:19: Syntax",
+        ),
+        (
+            "a sign alone",
+            "#usda 1.0\ndef \"A\" { int x = - }",
+            "2:19: Syntax",
+        ),
+        (
+            "a type that is none",
+            "#usda 1.0\ndef \"A\" { whole x = 1 }",
+            "2:11: UnknownType",
+        ),
+        (
+            "an attribute at the root",
+            "#usda 1.0\nint x = 1",
+            "2:1: Syntax",
+        ),
+        (
+            "a body that does not end",
+            "#usda 1.0\ndef \"A\" {",
+            "2:10: Syntax",
+        ),
+        (
+            "a body that ends twice",
+            "#usda 1.0\ndef \"A\" {}}",
+            "2:11: Syntax",
+        ),
+        ("a prim with no body", "#usda 1.0\ndef \"A\"", "2:8: Syntax"),
+        (
+            "a text that breaks off in a word",
+            "#usda 1.0\n\nde",
+            "3:1: Syntax",
+        ),
+        ("a prim with no name", "#usda 1.0\ndef A {}", "2:7: Syntax"),
+        ("an empty name", "#usda 1.0\ndef \"\" {}", "2:5: Syntax"),
+        (
+            "a name that begins with a digit",
+            "#usda 1.0\ndef \"1A\" {}",
+            "2:5: Syntax",
+        ),
+        (
+            "a name with a blank",
+            "#usda 1.0\ndef \"A B\" {}",
+            "2:5: Syntax",
+        ),
+        (
+            "a name that does not end",
+            "#usda 1.0\ndef \"A {}",
+            "2:5: Syntax",
+        ),
+        (
+            "relocates",
+            "#usda 1.0\n( relocates = {} )",
+            "2:3: Relocates",
+        ),
+        ("65 nested prims", too_deep.as_str(), "2:649: TooDeep"),
+    ];
+    for (what, root, refusal) in table {
+        let ending = run(rt.alloc(), &["flatten", "root.usda"], root.as_bytes())?;
+        let mut line = String::from_str(rt.alloc(), "usdstage: root.usda:")?;
+        line.push_str(refusal)?;
+        assert_eq!(rt; ending.line.as_str(), line.as_str(), "at {what}");
+        assert_eq!(rt; ending.code, 5, "at {what}");
+        assert_eq!(rt; ending.written.as_str(), "", "at {what}");
+    }
+    Ok(())
+}
+
+#[test]
+fn layers_that_say_more_are_not_yet_composed(rt: HostRuntime) -> Result<(), Fail> {
+    // each root says one thing more than the first form does
+    let table = [
+        "#usda 1.0\nover \"A\" {}\n",
+        "#usda 1.0\nclass \"A\" {}",
+        "#usda 1.0\ndef \"A\" { def \"B\" { over \"C\" {} } }",
+        "#usda 1.0\n(doc = \"x\")",
+        "#usda 1.0\n(\"x\")",
+        "#usda 1.0\n(defaultPrim = \"A\")\ndef \"A\" {}",
+        "#usda 1.0\n(subLayers = [@a.usda@])",
+        "#usda 1.0\ndef \"A\" {} reorder rootPrims = [\"A\"]",
+        "#usda 1.0\ndef \"A\" (kind = \"x\") {}",
+        "#usda 1.0\ndef \"A\" (inherits = </B>) {}",
+        "#usda 1.0\ndef \"A\" (specializes = </B>) {}",
+        "#usda 1.0\ndef \"A\" (references = @a.usda@) {}",
+        "#usda 1.0\ndef \"A\" (payload = @a.usda@) {}",
+        "#usda 1.0\ndef \"A\" (variantSets = \"s\") {}",
+        "#usda 1.0\ndef \"A\" (variants = { string s = \"v\" }) {}",
+        "#usda 1.0\ndef \"A\" (apiSchemas = [\"B\"]) {}",
+        "#usda 1.0\ndef \"A\" (clipSets = [\"B\"]) {}",
+        "#usda 1.0\ndef \"A\" { variantSet \"s\" = {} }",
+        "#usda 1.0\ndef \"A\" { variantSet \"s\" = { \"v\" {} } }",
+        "#usda 1.0\ndef \"A\" { reorder nameChildren = [\"B\"] }",
+        "#usda 1.0\ndef \"A\" { reorder properties = [\"x\"] }",
+        "#usda 1.0\ndef \"A\" { rel r }",
+        "#usda 1.0\ndef \"A\" { float x = 1 }",
+        "#usda 1.0\ndef \"A\" { int[] x = [1] }",
+        "#usda 1.0\ndef \"A\" { int64 x = 1 }",
+        "#usda 1.0\ndef \"A\" { int x }",
+        "#usda 1.0\ndef \"A\" { int x = None }",
+        "#usda 1.0\ndef \"A\" { custom int x = 1 }",
+        "#usda 1.0\ndef \"A\" { uniform int x = 1 }",
+        "#usda 1.0\ndef \"A\" { int x = 1 (doc = \"x\") }",
+        "#usda 1.0\ndef \"A\" { int x = 1 int x.timeSamples = { 0: 1 } }",
+        "#usda 1.0\ndef \"A\" { int x = 1 int x.connect = </A.y> }",
+    ];
+    for root in table {
+        let ending = run(rt.alloc(), &["flatten", "root.usda"], root.as_bytes())?;
+        assert_eq!(rt;
+            ending.line.as_str(),
+            "usdstage: root.usda:1: not yet",
+            "at {root}"
+        );
+        assert_eq!(rt; ending.code, 10, "at {root}");
+        assert_eq!(rt; ending.written.as_str(), "", "at {root}");
+    }
+    Ok(())
+}
+
+#[test]
+fn bytes_that_are_no_text_are_refused(rt: HostRuntime) -> Result<(), Fail> {
     let root = b"#usda 1.0\n# \xff\n";
     let ending = run(rt.alloc(), &["flatten", "root.usda"], root.as_slice())?;
-    assert_eq!(rt; ending.line.as_str(), "usdstage: root.usda: not yet");
+    assert_eq!(rt; ending.line.as_str(), "usdstage: root.usda:2:3: NotUtf8");
+    assert_eq!(rt; ending.code, 5);
     assert_eq!(rt; ending.written.as_str(), "");
     Ok(())
 }
@@ -316,7 +417,7 @@ fn named(alloc: Global, letters: usize) -> Result<String, Fail> {
 
 #[test]
 fn a_path_has_4096_bytes_and_no_more(rt: HostRuntime) -> Result<(), Fail> {
-    for (letters, line) in [(4095, ""), (4096, "usdstage: root.usda: not yet")] {
+    for (letters, line) in [(4095, ""), (4096, "usdstage: root.usda:2:5: TooLong")] {
         let root = named(rt.alloc(), letters)?;
         let ending = run(
             rt.alloc(),
@@ -405,11 +506,21 @@ fn faults_are_answered_where_they_come_and_leave_the_bytes_before_them(
 #[test]
 fn each_way_to_end_has_its_line_and_its_exit_status(rt: HostRuntime) -> Result<(), Fail> {
     let alloc = rt.alloc();
+    let absent = Status::RootRefused {
+        name: Text::of(alloc, "a.usda")?,
+        refusal: None,
+    };
     let refused = Status::RootRefused {
         name: Text::of(alloc, "a.usda")?,
+        refusal: Some(Refusal {
+            kind: RefusalKind::Syntax,
+            line: 2,
+            column: 17,
+        }),
     };
     let not_yet = Status::NotYet {
         name: Text::of(alloc, "a.usda")?,
+        line: 1,
     };
     let script_refused = Status::ScriptRefused {
         line: 12,
@@ -420,10 +531,11 @@ fn each_way_to_end_has_its_line_and_its_exit_status(rt: HostRuntime) -> Result<(
         (&Status::Usage, "usdstage: not a command", 2),
         (&Status::ReadFault, "usdstage: reading failed", 3),
         (&Status::WriteFault, "usdstage: writing failed", 4),
-        (&refused, "usdstage: a.usda: absent", 5),
+        (&absent, "usdstage: a.usda: absent", 5),
+        (&refused, "usdstage: a.usda:2:17: Syntax", 5),
         (&script_refused, "usdstage: script line 12: TooLong", 6),
         (&Status::NoMemory, "usdstage: out of memory", 9),
-        (&not_yet, "usdstage: a.usda: not yet", 10),
+        (&not_yet, "usdstage: a.usda:1: not yet", 10),
     ];
     for (status, line, code) in table {
         assert_eq!(rt; status.line(alloc)?.as_str(), line);

@@ -12,40 +12,62 @@ ghost use Rattle.first_stage.specs.Drafts.{table_of};
 ghost use Rattle.session_script.specs.Told.{BothTold};
 ghost use Rattle.session_script.specs.Reading.{steps_of};
 ghost use Rattle.usdstage.specs.Stage.{flattened};
-ghost use Rattle.usdstage.specs.Outcome.{IsNamed, EndsEarly, IsRead, IsCourse, IsOutcome, IsScript, LayerOutcome, ScriptOutcome, IsWriteError, EndsAsDue};
+ghost use Rattle.usdstage.specs.Outcome.{IsNamed, EndsEarly, IsRead, IsJudged, IsCourse, IsOutcome, IsScript, LayerOutcome, ScriptOutcome, IsWriteError, EndsAsDue};
 ghost use Rattle.usdstage.specs.Command.{command_of};
 
 use crate::output::{Written, write_all};
 use crate::status::Status;
 use crate::words::{Verb, command_of};
+use first_form::first_of;
 use first_layer::FirstLayer;
-use first_reader::{FirstFault, read_first};
 use first_session::FirstSession;
 use first_writer::write_first;
 use io_edges::{
     Fetched, FreeGate, Gate, LayerFiles, Sink, Source, SureFiles, SureSink, SureSource,
 };
 use plain_data::Text;
+use sdf_specs::Refusal;
 use session_script::{Script, ScriptFault, Step};
 use std::alloc::Global;
+use usda_reader::{LayerFault, read_layer};
 
-// The root is absent.
-fn refused(alloc: Global, root: &str) -> Status
-    ensures { IsNamed result (λ name. name ≡ root.now) (λ _. ⊥) }
+// The root is absent, or refused for this.
+fn refused(alloc: Global, root: &str, refusal: Option<Refusal>) -> Status
+    ensures { IsNamed result (λ name why. (name ≡ root.now) × (why ≡ refusal)) (λ _ _. ⊥) }
 {
     match Text::of(alloc, root) {
-        Ok(name) => Status::RootRefused { name },
+        Ok(name) => Status::RootRefused { name, refusal },
         Err(_) => Status::NoMemory,
     }
 }
 
-// The root is not of the form that is read.
+// The root's layer is not of the form that is composed by now.
 fn not_yet(alloc: Global, root: &str) -> Status
-    ensures { IsNamed result (λ _. ⊥) (λ name. name ≡ root.now) }
+    ensures { IsNamed result (λ _ _. ⊥) (λ name line. (name ≡ root.now) × (line ≡ 1)) }
 {
     match Text::of(alloc, root) {
-        Ok(name) => Status::NotYet { name },
+        Ok(name) => Status::NotYet { name, line: 1 },
         Err(_) => Status::NoMemory,
+    }
+}
+
+// The layer of the first form that these bytes of the root are a text of, or how the run ends without one.
+fn first_layer_of(alloc: Global, root: &str, bytes: &[u8]) -> Result<FirstLayer, Status>
+    ensures judged { IsJudged bytes.now root.now result }
+    ensures shallow { IfOk result (λ layer. nesting (layer_of layer) ≤ 64) }
+    ensures flat { IfOk result (λ layer. flattened (layer_of layer) ≡ layer_of layer) }
+    ensures kinds { EndsEarly result }
+    ensures calm { result ≢ Err Status.ReadFault }
+{
+    let layer = match read_layer(alloc, bytes) {
+        Ok(layer) => layer,
+        Err(LayerFault::Refused(refusal)) => return Err(refused(alloc, root, Some(refusal))),
+        Err(LayerFault::NoMemory) => return Err(Status::NoMemory),
+    };
+    match first_of(alloc, &layer) {
+        Ok(Some(first)) => Ok(first),
+        Ok(None) => Err(not_yet(alloc, root)),
+        Err(_) => Err(Status::NoMemory),
     }
 }
 
@@ -62,15 +84,11 @@ fn read_root<F: LayerFiles>(alloc: Global, root: &str, files: &mut F) -> Result<
     let mut bytes = Vec::new(alloc);
     match files.fetch(root, &mut bytes) {
         Fetched::Found => {}
-        Fetched::Absent => return Err(refused(alloc, root)),
+        Fetched::Absent => return Err(refused(alloc, root, None)),
         Fetched::Failed => return Err(Status::ReadFault),
         Fetched::NoMemory => return Err(Status::NoMemory),
     }
-    match read_first(alloc, &bytes) {
-        Ok(layer) => Ok(layer),
-        Err(FirstFault::NotYet) => Err(not_yet(alloc, root)),
-        Err(FirstFault::NoMemory) => Err(Status::NoMemory),
-    }
+    first_layer_of(alloc, root, &bytes)
 }
 
 // Writes the flattened layer.

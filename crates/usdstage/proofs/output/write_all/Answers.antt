@@ -1,4 +1,4 @@
-use Rattle.std.proofs.Common.{◌≡◌, ◌≤◌, ap, length, arith}
+use Rattle.std.proofs.Common.{ap, length, arith}
 use Rattle.std.proofs.lemmas.List.{length-drop}
 use Rattle.usdstage.proofs.Outcomes.{appends_more}
 use Rattle.usdstage.proofs.output.write_all.Goals as goal

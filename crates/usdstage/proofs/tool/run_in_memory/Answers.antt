@@ -1,7 +1,6 @@
-use Rattle.std.proofs.Common.{◌≡◌, map, Some, sym}
+use Rattle.std.proofs.Common.{map}
 use Rattle.std.specs.Prelude.{string_bytes}
 use Rattle.usdstage.specs.Command.{command_of}
-use Rattle.usdstage.specs.Outcome.{IsOutcome}
 use Rattle.usdstage.proofs.Runs.{is_script, never_rose}
 use Rattle.usdstage.proofs.tool.run_in_memory.Goals as goal
 

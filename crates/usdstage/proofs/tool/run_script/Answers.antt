@@ -1,4 +1,4 @@
-use Rattle.std.proofs.Common.{◌≡◌, ◌≤◌, refl, inl, inr, arith, Ok, Err, Some, None}
+use Rattle.std.proofs.Common.{refl, inl, inr, arith, Ok, Err, None}
 use Rattle.session_script.specs.declared.faults.ScriptFault.TheVariants as faults
 use Rattle.usdstage.specs.declared.status.Status.TheVariants as status
 use Rattle.usdstage.proofs.Outcomes.{goes_on, breaks_off, gives_none}

@@ -1,4 +1,4 @@
-use Rattle.std.proofs.Common.{◌≡◌, ◌∙◌, sym, ap, map, refl, Err, Some, None, inl, inr, List, ℕ}
+use Rattle.std.proofs.Common.{◌≡◌, ◌∙◌, sym, ap, map, Err, Some, inl, inr}
 use Rattle.std.specs.Prelude.{string_bytes}
 use Rattle.usdstage.specs.Command.{command_of}
 use Rattle.usdstage.specs.declared.words.Verb.{Verb}

@@ -1,4 +1,4 @@
-use Rattle.std.proofs.Common.{◌≡◌, ◌∙◌, refl, ap, take, inr}
+use Rattle.std.proofs.Common.{take, inr}
 use Rattle.first_layer.specs.Layer.{layer_of}
 use Rattle.usdstage.proofs.Outcomes.{flat_front}
 use Rattle.usdstage.proofs.tool.write_flat.Goals as goal

@@ -1,0 +1,217 @@
+#!/usr/bin/env python3
+"""Times the reading and writing of large texts of the whole format, and prints a table.
+
+    python3 bench/text.py [CALL ..]
+
+CALL is one of bytes (a plain count), tokens, words, read and written. The program that makes the calls is no crate of the
+repository, since nothing else needs it: the script writes it into a scratch repository with copies of the crates, with what was built of them, so that what is
+proved already is not proved again, and lets `rt run` prove and build it. Seconds are the processor's, and peak memory is that of
+the process, the text itself included. Four times the bytes should take little more than four times the time.
+"""
+import json
+import os
+import shutil
+import subprocess
+import sys
+import tempfile
+
+TOP = os.path.dirname(os.path.dirname(os.path.abspath(__file__)))
+
+PROGRAM = """//! Makes one call on the text of a layer: the name of the call and that of the file are the words.
+#![tactic(auto)]
+
+use io_edges::{Fetched, FolderFiles, LayerFiles};
+use std::alloc::{AllocError, Global};
+use std::env;
+use std::process::ExitCode;
+use usda_lexer::Tokens;
+use usda_reader::read_layer;
+use usda_words::Words;
+use usda_writer::write_layer;
+
+/// The line feeds of a text.
+fn lines(source: &[u8]) -> usize {
+    let mut count: usize = 0;
+    for c in source {
+        if *c == b'\\n' {
+            count = count.wrapping_add(1);
+        }
+    }
+    count
+}
+
+/// How many tokens a text has, up to a fault.
+fn tokens(source: &[u8]) -> usize {
+    let Ok(mut tokens) = Tokens::new(source) else {
+        return 0;
+    };
+    let mut count: usize = 0;
+    for _byte in 0..source.len() {
+        match tokens.next() {
+            Ok(Some(_token)) => count = count.wrapping_add(1),
+            _ => return count,
+        }
+    }
+    count
+}
+
+/// How many words a text has.
+fn words(source: &[u8]) -> usize {
+    let Ok(mut words) = Words::new(source) else {
+        return 0;
+    };
+    let mut count: usize = 0;
+    for _byte in 0..source.len() {
+        match words.next() {
+            Some(_word) => count = count.wrapping_add(1),
+            None => return count,
+        }
+    }
+    count
+}
+
+fn read(alloc: Global, source: &[u8]) -> usize {
+    match read_layer(alloc, source) {
+        Ok(layer) => layer.head().root_names.len(),
+        Err(_) => 0,
+    }
+}
+
+fn written(alloc: Global, source: &[u8]) -> Result<usize, AllocError> {
+    match read_layer(alloc, source) {
+        Ok(layer) => Ok(write_layer(alloc, &layer)?.len()),
+        Err(_) => Ok(0),
+    }
+}
+
+fn made(alloc: Global, call: &str, source: &[u8]) -> Result<usize, AllocError> {
+    match call {
+        "bytes" => Ok(lines(source)),
+        "tokens" => Ok(tokens(source)),
+        "words" => Ok(words(source)),
+        "read" => Ok(read(alloc, source)),
+        _ => written(alloc, source),
+    }
+}
+
+fn args(rt: &HostRuntime) -> Option<Vec<String>> {
+    let args = env::args(rt).ok()?;
+    let mut words = Vec::new(rt.alloc());
+    for word in args {
+        words.push(word).ok()?;
+    }
+    Some(words)
+}
+
+fn bytes_of(rt: &HostRuntime, name: &str) -> Option<Vec<u8>> {
+    let mut bytes = Vec::new(rt.alloc());
+    let mut files = FolderFiles::new(rt.clone().ok()?);
+    match files.fetch(name, &mut bytes) {
+        Fetched::Found => Some(bytes),
+        _ => None,
+    }
+}
+
+fn main(rt: HostRuntime) -> ExitCode {
+    let Some(words) = args(&rt) else {
+        return ExitCode::from(1);
+    };
+    let [_program, call, name, ..] = words.as_slice() else {
+        return ExitCode::from(0);
+    };
+    let Some(bytes) = bytes_of(&rt, name.as_str()) else {
+        return ExitCode::from(1);
+    };
+    match made(rt.alloc(), call.as_str(), bytes.as_slice()) {
+        Ok(count) => {
+            let _ = println!(rt; "{count}");
+            ExitCode::from(0)
+        }
+        Err(_) => ExitCode::from(2),
+    }
+}
+"""
+
+USED = ["io_edges", "usda_lexer", "usda_words", "usda_reader", "usda_writer", "sdf_specs", "spec_parts", "plain_data"]
+CALLS = ["bytes", "tokens", "words", "read", "written"]
+
+
+def prims(size):
+    """Prims with a type, metadata and two attributes each, up to about this many bytes."""
+    out, length, i = ["#usda 1.0\n"], 10, 0
+    while length < size:
+        out.append(f'def Xform "prim_{i}" (\n    kind = "component"\n)\n{{\n    double x = {i}.5\n    custom string note = "the prim with number {i}"\n}}\n')
+        length += len(out[-1])
+        i += 1
+    return "".join(out)
+
+
+def arrays(numbers):
+    """One prim with arrays of at most a million numbers, this many in all."""
+    out = ['#usda 1.0\ndef "points"\n{\n']
+    for k in range(0, numbers, 1_000_000):
+        some = min(1_000_000, numbers - k)
+        out.append(f"    double[] values_{k // 1_000_000} = [" + ", ".join(f"{i % 1000}.25" for i in range(some)) + "]\n")
+    out.append("}\n")
+    return "".join(out)
+
+
+MEASURE = """
+import json, os, sys
+pid = os.fork()
+if pid == 0:
+    os.dup2(os.open(os.devnull, os.O_WRONLY), 1)
+    os.chdir(sys.argv[4])
+    os.execv(sys.argv[1], sys.argv[1:4])
+_, status, usage = os.wait4(pid, 0)
+print(json.dumps([usage.ru_utime + usage.ru_stime, usage.ru_maxrss * 1024, os.waitstatus_to_exitcode(status)]))
+"""
+
+
+def build(folder):
+    """Writes the scratch repository, and gives the path of the program that is built in it."""
+    os.makedirs(os.path.join(folder, "crates", "text_speed", "src"))
+    with open(os.path.join(TOP, "crates.txt")) as f:
+        below = {line.split(":")[0].split()[0]: line for line in f if ":" in line and not line.startswith("#")}
+    lines, left = [f"text_speed: {' '.join(USED)}\n"], list(USED)
+    while left:
+        line = below.pop(left.pop(), None)
+        if line is None:
+            continue
+        name = line.split(":")[0].split()[0]
+        shutil.copytree(os.path.join(TOP, "crates", name), os.path.join(folder, "crates", name),
+                        ignore=shutil.ignore_patterns("incremental", "must-fail"))
+        lines.append(line)
+        left += line.split(":")[1].split()
+    with open(os.path.join(folder, "crates.txt"), "w") as f:
+        f.writelines(lines)
+    program = os.path.join(folder, "crates", "text_speed")
+    with open(os.path.join(program, "src", "main.rt"), "w") as f:
+        f.write(PROGRAM)
+    subprocess.run(["rt", "run"], cwd=program, check=True, stdout=subprocess.DEVNULL)
+    return os.path.join(program, "out", "text_speed")
+
+
+def run(program, call, folder, name, size):
+    said = subprocess.run([sys.executable, "-c", MEASURE, program, call, name, folder], capture_output=True, text=True, check=True).stdout
+    seconds, peak, status = json.loads(said)
+    print(f"{name:16} {call:8} {size:>10} {seconds:8.2f} {size / 1e6 / max(seconds, 1e-3):8.1f} {peak / 2**20:9.1f} {peak / size:8.1f} {status:>6}", flush=True)
+    return seconds
+
+
+def main():
+    chosen = sys.argv[1:] or CALLS
+    texts = [("prims_15", prims(15_000_000)), ("prims_60", prims(60_000_000)), ("arrays_15", arrays(2_000_000)), ("arrays_60", arrays(8_000_000))]
+    with tempfile.TemporaryDirectory() as folder:
+        program = build(folder)
+        for name, text in texts:
+            with open(os.path.join(folder, name), "w") as f:
+                f.write(text)
+        print(f"{'text':16} {'call':8} {'bytes':>10} {'seconds':>8} {'MB/s':>8} {'peak MiB':>9} {'of text':>8} {'status':>6}")
+        for call in chosen:
+            times = [run(program, call, folder, name, len(text)) for name, text in texts]
+            print(f"    four times the bytes: {times[1] / max(times[0], 1e-3):.1f} and {times[3] / max(times[2], 1e-3):.1f} times the time", flush=True)
+
+
+if __name__ == "__main__":
+    main()

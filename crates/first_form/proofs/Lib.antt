@@ -1,0 +1,4 @@
+pub mod Counting
+pub mod Defining
+pub mod Naming
+pub mod Standing

@@ -1,0 +1,9 @@
+pub mod Taking
+pub mod Steps
+pub mod TypeWords
+pub mod ValueSteps
+pub mod OpenValues
+pub mod Lists
+pub mod FieldLists
+pub mod Keys
+pub mod Openings

@@ -1,0 +1,5 @@
+pub mod Entries
+pub mod Loading
+pub mod Nearest
+pub mod RuleKeys
+pub mod RuleTables

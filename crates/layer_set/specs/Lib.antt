@@ -1,0 +1,5 @@
+pub mod KeyOrder
+pub mod LookUps
+pub mod Named
+pub mod Rules
+pub mod Worlds

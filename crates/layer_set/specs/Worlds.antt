@@ -1,0 +1,31 @@
+-- Worlds as plain data.
+use Rattle.std.specs.Prelude.{ℕ, List, Option, Some, None}
+use Rattle.sdf_paths.specs.declared.element.Element.{Element}
+use Rattle.sdf_specs.specs.Layers.{spec_at}
+use Rattle.spec_parts.specs.declared.spec.Spec.{Spec}
+use Rattle.layer_set.specs.Named.{at_name}
+use Rattle.layer_set.specs.Rules.{RuleEntries}
+use Rattle.layer_set.specs.declared.held.Held.{Held}
+use Rattle.layer_set.specs.declared.held.Held.TheVariants.{Present, Absent, Broken}
+
+-- the names of the root and the session layer, what stands at names of layers in the order of names, and load rules in the order of
+-- paths
+pub record WorldData : Type 0 where
+  pub root : List ℕ
+  pub session : Option (List ℕ)
+  pub layers : List (List ℕ × Held)
+  pub rules : RuleEntries
+
+-- a name that is not in the map is absent
+abbrev pub held_or_absent : Option Held → Held
+held_or_absent (Some held) = held
+held_or_absent None = Absent
+
+abbrev pub held_at : WorldData → List ℕ → Held
+held_at w name = held_or_absent (at_name name w.layers)
+
+-- the spec at a path of what stands at a name
+abbrev pub spec_of : Held → List Element → Option Spec
+spec_of (Present layer) path = spec_at path layer.specs
+spec_of Absent path = None
+spec_of (Broken refusal) path = None

@@ -1,0 +1,14 @@
+//! Worlds: layers by name and load rules by path, and the keys by which composition looks at them.
+#![tactic(auto)]
+
+mod held;
+mod key;
+mod named;
+mod rules;
+mod same;
+mod shared;
+mod world;
+
+pub use held::Held;
+pub use key::Key;
+pub use world::World;

@@ -1,0 +1,12 @@
+pub mod Spelled
+pub mod Marks
+pub mod Keywords
+pub mod Lists
+pub mod Lines
+pub mod Values
+pub mod Metadata
+pub mod Fields
+pub mod Properties
+pub mod FirstLine
+pub mod Layers
+pub mod Paths

@@ -1,0 +1,9 @@
+use Rattle.usda_reader.proofs.Exact.{reads, is_read, is_refused}
+use Rattle.usda_reader.proofs.read.read_layer.Goals as goal
+
+pub returns : goal.returns
+returns c = record {
+  found = reads c.args.bytes.now c.read.result c.read.ensures;
+  only = λ layer text. is_read c.args.bytes.now c.read.result layer c.read.ensures text;
+  exact = λ refusal first. is_refused c.args.bytes.now c.read.result refusal c.read.ensures first;
+}

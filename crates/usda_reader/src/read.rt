@@ -1,0 +1,80 @@
+//! The layer that a text says, or its first refusal.
+ghost use Rattle.std.specs.Prelude.{◌≡◌, length, true, None};
+ghost use Rattle.std.specs.Str.{is_utf8};
+ghost use Rattle.sdf_specs.specs.Layers.{LayerTable};
+ghost use Rattle.spec_parts.specs.declared.items.Refusal.{Refusal as SaidRefusal};
+ghost use Rattle.usda_drafts.specs.Drafts.{blank};
+ghost use Rattle.usda_drafts.specs.Refusals.{Does};
+ghost use Rattle.usda_grammar.specs.Table.{layer};
+ghost use Rattle.usda_words.specs.Words.{words_of};
+ghost use Rattle.usda_reader.specs.Checks.{first_check};
+ghost use Rattle.usda_reader.specs.Reading.{run_from, draft_of, layer_in, read, Gives, Reads, IsRead, IsRefused};
+ghost use Rattle.usda_reader.specs.Texts.{IsText, IsRefusedFirst};
+
+use crate::checks::first_check;
+use crate::fault::{LayerFault, placed, refusal_at};
+use crate::words::take_words;
+use plain_data::Items;
+use sdf_specs::Layer;
+use std::alloc::Global;
+use usda_drafts::{ActFault, Draft};
+use usda_grammar::layer;
+use usda_machine::push_all;
+use usda_words::Words;
+
+// Takes all words of a text into a draft.
+fn read_words(alloc: Global, bytes: &[u8], draft: &mut Draft) -> Result<(), ActFault>
+    requires { first_check bytes.now ≡ None }
+    ensures { Does result draft.new (run_from (length bytes.now) layer draft.old (words_of bytes.now)) }
+{
+    let Ok(mut words) = Words::new(bytes) else {
+        unreachable!()
+    };
+    let mut stack = Items::new(alloc);
+    push_all(&mut stack, layer())?;
+    take_words(&mut words, &mut stack, draft, bytes.len())
+}
+
+// Takes the layer of a text that passes the first checks out of a blank draft.
+fn read_into(alloc: Global, bytes: &[u8], draft: &mut Draft) -> Result<Layer, LayerFault>
+    requires passed { first_check bytes.now ≡ None }
+    requires begun { draft.old ≡ blank }
+    ensures { Gives result (layer_in bytes.now (draft_of bytes.now)) }
+{
+    match read_words(alloc, bytes, draft) {
+        Ok(()) => Ok(draft.take_layer(alloc)?),
+        Err(fault) => Err(placed(bytes, fault)),
+    }
+}
+
+// The layer of a text that passes the first checks.
+fn read_passed(alloc: Global, bytes: &[u8]) -> Result<Layer, LayerFault>
+    requires { first_check bytes.now ≡ None }
+    ensures { Gives result (layer_in bytes.now (draft_of bytes.now)) }
+{
+    let mut draft = Draft::blank(alloc)?;
+    read_into(alloc, bytes, &mut draft)
+}
+
+// The layer or the first refusal, as the function of the bytes that they are.
+fn read(alloc: Global, bytes: &[u8]) -> Result<Layer, LayerFault>
+    ensures { Gives result (read bytes.now) }
+{
+    match first_check(bytes) {
+        Some(refused) => Err(LayerFault::Refused(refusal_at(bytes, refused))),
+        None => read_passed(alloc, bytes),
+    }
+}
+
+/// The layer that a text of the whole format says. `Refused` has the first reason why there is none, with its line and column: the
+/// kind and the place are those of the rules, whatever comes later in the text.
+pub fn read_layer(alloc: Global, bytes: &[u8]) -> Result<Layer, LayerFault>
+    // What is read is what the text says, and what is told is the first refusal.
+    ensures found { Reads result bytes.now }
+    // What a text says is read, unless memory runs out.
+    ensures only { (layer : LayerTable) → IsText bytes.now layer → IsRead result layer }
+    // The first refusal of a text is told, unless memory runs out.
+    ensures exact { (refusal : SaidRefusal) → IsRefusedFirst bytes.now refusal → IsRefused result refusal }
+{
+    read(alloc, bytes)
+}

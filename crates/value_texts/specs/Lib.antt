@@ -1,0 +1,12 @@
+pub mod Cuts
+pub mod Follows
+pub mod Writable
+pub mod ValueWords
+pub mod Readable
+pub mod Acts
+pub mod Words
+pub mod Laws
+pub mod Examples
+pub mod Backs
+pub mod Pieces
+pub mod Lists
