@@ -4,6 +4,10 @@ pub use Rattle.prim_view.specs.declared.fault.ItemSource.TheVariants.{Own as own
 pub use Rattle.prim_view.specs.declared.fault.FaultItem.{FaultItem as Item}
 pub use Rattle.prim_view.specs.declared.fault.ArcReason.{ArcReason as Reason}
 pub use Rattle.prim_view.specs.declared.fault.ArcReason.TheVariants.{MissingLayer as missing_layer, BrokenLayer as broken_layer, NoDefaultPrim as no_default_prim, BadTarget as bad_target, OffsetRange as offset_range, ArcCycle as arc_cycle, TooDeep as too_deep, PathTooLong as path_too_long, UnresolvedPrim as unresolved_prim}
+pub use Rattle.prim_nodes.specs.declared.arcs.Lead.{Lead}
+pub use Rattle.prim_nodes.specs.declared.arcs.Outcome.{Outcome}
+pub use Rattle.prim_nodes.specs.declared.arcs.Outcome.TheVariants.{Leads as leads, GivesNoArc as gives_no_arc}
+pub use Rattle.prim_nodes.specs.declared.arcs.Authored.{Authored}
 use Rattle.std.specs.Prelude.{ℕ, Bool, true, false, ◌==◌, not, List, [], ◌∷◌, ◌++◌, map, flat_map, reverse, Option, Some, None, option_map}
 use Rattle.std.specs.List.{list_any, filter_map}
 use Rattle.composition.specs.Texts.{Text, same_text, same_option, both}
@@ -83,23 +87,6 @@ items_of Variant o = None
 items_of Reference o = Some (map_op (reference_item o.layer o.offset) o.spec.arcs.references)
 items_of Payload o = Some (map_op (reference_item o.layer o.offset) o.spec.arcs.payloads)
 items_of Specializes o = Some (map_op class_item o.spec.arcs.specializes)
-
--- where an arc leads
-pub record Lead : Type 0 where
-  pub stack : StackName
-  pub target : Path
-  pub offset : Offset
-
--- an arc, or why an item gives none
-pub data Outcome : Type 0 where
-  leads : Lead → Outcome
-  gives_no_arc : Reason → Outcome
-
--- one item of the folded list, with the strongest layer that gave it
-pub record Authored : Type 0 where
-  pub item : Item
-  pub author : Text
-  pub outcome : Outcome
 
 abbrev pub is_no_target : Path → Bool
 is_no_target [] = true

@@ -3,7 +3,7 @@ pub use Rattle.prim_view.specs.declared.fault.ArcFault.{ArcFault}
 pub use Rattle.prim_view.specs.declared.fault.PrimFault.{PrimFault as Fault}
 pub use Rattle.prim_view.specs.declared.fault.PrimFault.TheVariants.{Sublayer as sublayer, Arc as arc, TimeOutside as time_outside, TargetOutside as target_outside, ChildTooLong as child_too_long, Overgrown as overgrown}
 use Rattle.prim_view.specs.Printing.{refusal_name}
-use Rattle.std.specs.Prelude.{ℕ, ◌==◌, Bool, true, false, not, List, [], ◌∷◌, ◌++◌, map, flat_map, filter, zip, codes, Option, Some, None}
+use Rattle.std.specs.Prelude.{ℕ, ◌==◌, Bool, true, false, not, ◌||◌, List, [], ◌∷◌, ◌++◌, map, flat_map, filter, zip, codes, Option, Some, None}
 use Rattle.path_maps.specs.declared.kind.ArcKind.{ArcKind}
 use Rattle.path_maps.specs.declared.kind.ArcKind.TheVariants.{Inherits, Reference, Payload, Specializes}
 use Rattle.composition.specs.Texts.{Text, same_text, both}
@@ -13,12 +13,13 @@ use Rattle.sdf_values.specs.declared.refusal.RefusalKind.{RefusalKind}
 use Rattle.sdf_values.specs.declared.refusal.RefusalKind.TheVariants.{TooLong, Crate, Package, NotUtf8, BadHeader, Syntax, NumberTooLong, UnknownType, ValueShape, TimeRange, OffsetRange, DuplicateSpec, Relocates, Spline, ReferenceData, TooDeep}
 use Rattle.composition.specs.World.{World, is_loaded}
 use Rattle.composition.specs.Stacks.{SublayerFault, SublayerReason, sublayer_cycle, sublayer_missing, sublayer_broken, sublayer_offset}
-use Rattle.composition.specs.Arcs.{same_kind, Item, same_item, Outcome, leads, gives_no_arc, Reason, missing_layer, broken_layer, no_default_prim, bad_target, offset_range, arc_cycle, too_deep, path_too_long, unresolved_prim}
+use Rattle.composition.specs.Arcs.{same_kind, Item, same_item, Outcome, leads, gives_no_arc, is_empty, Reason, missing_layer, broken_layer, no_default_prim, bad_target, offset_range, arc_cycle, too_deep, path_too_long, unresolved_prim}
 use Rattle.composition.specs.Nodes.{Node, here, Choices, frame_at, Tried, author}
 use Rattle.composition.specs.Trees.{Tree, node, Trees, none, cut, child, has_spec_in, node_of}
 use Rattle.composition.specs.Strength.{listing, sites}
 use Rattle.composition.specs.Values.{TimeFault}
 use Rattle.composition.specs.Targets.{TargetFault}
+use Rattle.composition.specs.Opinions.{Site, is_by_class}
 use Rattle.composition.specs.Compose.{stage_tree, is_overgrown_on_the_way}
 
 abbrev pub sublayer_place : SublayerReason → ℕ
@@ -127,11 +128,22 @@ abbrev pub node_faults : Tree → List Fault
 node_faults (node n h own lifted) =
     flat_map (λ k. kind_faults n own k (filter (λ a. same_kind k a.kind) h.arcs)) (Inherits ∷ Reference ∷ Payload ∷ Specializes ∷ [])
 
--- what composition makes of a prim before it looks at values: the choices of level 0, the sites from strong to weak, each by its
--- node, and the faults of its arcs; nothing where a listing was overgrown
+-- a site of a prim, by its node
+abbrev pub site_of : Tree → Site
+site_of (node n h own lifted) = record {
+  stack = n.stack;
+  path = n.path;
+  maps = n.maps;
+  offset = n.offset;
+  by_class = is_by_class n.maps;
+  has_spec = is_empty n.path || h.has_spec;
+}
+
+-- what composition makes of a prim before it looks at values: the choices of level 0, the sites from strong to weak, and the faults of
+-- its arcs; nothing where a listing was overgrown
 pub record Index : Type 0 where
   pub choices : Choices
-  pub sites : List Node
+  pub sites : List Site
   pub faults : List Fault
 
 module _ (l : Limits) where
@@ -141,7 +153,7 @@ module _ (l : Limits) where
         | true ↦ None
         | false ↦ Some (record {
           choices = (frame_at (node_of t) 0).choices;
-          sites = map node_of (sites l t);
+          sites = map site_of (sites l t);
           faults = flat_map node_faults (listing l t);
         })
       ]

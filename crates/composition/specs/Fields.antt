@@ -16,7 +16,7 @@ use Rattle.composition.specs.Names.{is_name}
 use Rattle.composition.specs.Texts.{Text, same_text, first_of}
 use Rattle.composition.specs.Paths.{Path, Limits, fits}
 use Rattle.composition.specs.Arcs.{strongest_folded}
-use Rattle.composition.specs.Opinions.{Said, is_by_class, is_opinion}
+use Rattle.composition.specs.Opinions.{Said, is_opinion}
 use Rattle.composition.specs.Merging.{merged_all}
 
 -- names that a spec adds, and its reorder of all names so far
@@ -73,7 +73,7 @@ or_over None = Over
 -- the strongest `def` or `class` among the sites to which no class arc leads, else among the others, else `over`
 abbrev pub specifier_of : List Said → Specifier
 specifier_of said =
-    or_over (or_else (defining (filter (λ s. not (is_by_class s.site)) said)) (defining (filter (λ s. is_by_class s.site) said)))
+    or_over (or_else (defining (filter (λ s. not s.site.by_class) said)) (defining (filter (λ s. s.site.by_class) said)))
 
 -- the strongest type that is given
 abbrev pub type_of : List Said → Option Text

@@ -1,4 +1,10 @@
 -- Nodes, and when an arc of a node is followed.
+pub use Rattle.path_maps.specs.Maps.{ArcPaths as ArcMap}
+pub use Rattle.prim_nodes.specs.declared.node.Frame.{Frame}
+pub use Rattle.prim_nodes.specs.declared.node.Node.{Node}
+pub use Rattle.prim_nodes.specs.declared.here.Tried.{Tried}
+pub use Rattle.prim_nodes.specs.declared.here.Chosen.{Chosen}
+pub use Rattle.prim_nodes.specs.declared.here.Here.{Here}
 use Rattle.std.specs.Prelude.{ℕ, zero, suc, ◌==◌, Bool, true, false, not, List, [], ◌∷◌, ◌++◌, map, flat_map, Option, Some, None, filter_map}
 use Rattle.std.specs.List.{list_any}
 use Rattle.path_maps.specs.declared.kind.ArcKind.{ArcKind}
@@ -15,28 +21,6 @@ use Rattle.composition.specs.Stacks.{SublayerFault, LayerStack, stack}
 
 abbrev pub Choices : Type 0
 Choices = List (Text × Text)
-
--- what holds at one level of a node: the variant choices, whether payloads are followed,
--- and whether a listing from which the choices were made was overgrown
-pub record Frame : Type 0 where
-  pub choices : Choices
-  pub loaded : Bool
-  pub overgrown : Bool
-
--- one arc on the way to the stage: the target prefix stands for the author
-pub record ArcMap : Type 0 where
-  pub kind : ArcKind
-  pub target : Path
-  pub author : Path
-
-pub record Node : Type 0 where
-  pub stack : StackName
-  pub path : Path
-  pub frames : List Frame
-  pub chain : List (StackName × Path)
-  pub depth : ℕ
-  pub offset : Offset
-  pub maps : List ArcMap
 
 abbrev pub bare : Frame
 bare = record { choices = []; loaded = true; overgrown = false }
@@ -88,27 +72,6 @@ module _ (l : Limits) where
   abbrev pub fault_of : Node → ℕ → Outcome → Option Reason
   fault_of n j (leads a) = refusal n j a
   fault_of n j (gives_no_arc r) = Some r
-
--- what became of an item of a level: why there is no child, if there is none, and the faults of the stack to which it leads
-pub record Tried : Type 0 where
-  pub kind : ArcKind
-  pub level : ℕ
-  pub authored : Authored
-  pub fault : Option Reason
-  pub sublayers : List SublayerFault
-
--- a variant that a frame decides: the level, and the author with the selection
-pub record Chosen : Type 0 where
-  pub level : ℕ
-  pub target : Path
-
--- what the layers of a node's stack say there: all that composition takes from the world
-pub record Here : Type 0 where
-  pub arcs : List Tried
-  pub variants : List Chosen
-  pub sets : List Text
-  pub selections : List (Text × Text)
-  pub has_spec : Bool
 
 abbrev pub nothing_said : Here
 nothing_said = record { arcs = []; variants = []; sets = []; selections = []; has_spec = false }

@@ -1,4 +1,5 @@
 -- What the layers say of a prim: its opinions, by site and then by layer, the strongest first.
+pub use Rattle.prim_view.specs.declared.site.Site.{Site}
 use Rattle.std.specs.Prelude.{Bool, true, false, not, List, ◌++◌, map, flat_map, Some, None}
 use Rattle.std.specs.List.{list_any}
 use Rattle.list_ops.specs.declared.op.ListOp.{ListOp}
@@ -10,28 +11,28 @@ use Rattle.composition.specs.Paths.{Limits}
 use Rattle.composition.specs.World.{World}
 use Rattle.composition.specs.Stacks.{stack}
 use Rattle.composition.specs.Arcs.{opinions_at, same_kind, is_empty}
-use Rattle.composition.specs.Nodes.{Node, ArcMap}
+use Rattle.composition.specs.Nodes.{ArcMap}
 
 -- what one layer says of a prim at one of its sites; the offset leads from the layer's times to the stage's
 pub record Said : Type 0 where
-  pub site : Node
+  pub site : Site
   pub layer : Text
   pub offset : Offset
   pub spec : Spec
 
 module _ (l : Limits) (w : World) where
-  abbrev pub said_at : Node → List Said
+  abbrev pub said_at : Site → List Said
   said_at n = map (λ o. record { site = n; layer = o.layer; offset = composed o.offset n.offset; spec = o.spec }) (opinions_at l w (stack l w n.stack) n.path)
 
-  abbrev pub said_at_all : List Node → List Said
+  abbrev pub said_at_all : List Site → List Said
   said_at_all sites = flat_map said_at sites
 
 -- an inherits or specializes arc is on the way from the site to the stage
 abbrev pub is_class_map : ArcMap → Bool
 is_class_map m = elim (same_kind Inherits m.kind) [ true ↦ true | false ↦ same_kind Specializes m.kind ]
 
-abbrev pub is_by_class : Node → Bool
-is_by_class n = list_any is_class_map n.maps
+abbrev pub is_by_class : List ArcMap → Bool
+is_by_class maps = list_any is_class_map maps
 
 -- an opinion on a list: an explicit list, also an empty one, or some edit
 abbrev pub has_edits : {T : Type 0} → ListOp T → Bool

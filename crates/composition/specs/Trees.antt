@@ -1,4 +1,5 @@
 -- The tree of a node, and the classes that its arcs hand up.
+pub use Rattle.prim_nodes.specs.declared.arcs.Branch.{Branch}
 use Rattle.std.specs.Prelude.{ℕ, zero, suc, ◌+◌, ◌==◌, ◌-◌, nat_le, Bool, true, false, List, [], ◌∷◌, ◌++◌, map, flat_map, take, drop, length, filter, Option, Some, None, filter_map}
 use Rattle.path_maps.specs.declared.kind.ArcKind.{ArcKind}
 use Rattle.path_maps.specs.declared.kind.ArcKind.TheVariants.{Inherits, Variant, Reference, Payload, Specializes}
@@ -9,13 +10,6 @@ use Rattle.sdf_values.specs.Scales.{Offset, composed}
 use Rattle.composition.specs.World.{identity, StackName}
 use Rattle.composition.specs.Arcs.{same_kind, Outcome, leads, Lead, Reason}
 use Rattle.composition.specs.Nodes.{Node, Frame, Tried, Chosen, Here, author, child_path, child_chain, refusal}
-
--- a followed arc: its kind and level, where it leads, and whether it is a lifted class
-pub record Branch : Type 0 where
-  pub kind : ArcKind
-  pub level : ℕ
-  pub lead : Lead
-  pub lifted : Bool
 
 -- a node, what its layers say, its own children and its lifted ones, each in the order of the tree;
 -- `cut` where there was no room for further ones

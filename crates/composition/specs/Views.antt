@@ -1,4 +1,7 @@
 -- What a prim is on the stage: the composed view of a path, and the stage of a world.
+pub use Rattle.prim_view.specs.declared.view.PropertyView.{PropertyView}
+pub use Rattle.prim_view.specs.declared.view.PropertyView.TheVariants.{Attr as attribute, Rel as relationship}
+pub use Rattle.prim_view.specs.declared.view.PrimView.{PrimView}
 use Rattle.std.specs.Prelude.{ℕ, zero, suc, Bool, true, false, not, ◌||◌, List, [], ◌∷◌, ◌++◌, map, flat_map, filter_map, Option, Some, None}
 use Rattle.std.specs.Prelude.{codes}
 use Rattle.std.specs.List.{list_any, list_all}
@@ -22,40 +25,12 @@ use Rattle.composition.specs.World.{World, Heading, headed, no_layer, refused, L
 use Rattle.composition.specs.Stacks.{stack}
 use Rattle.composition.specs.Arcs.{opinions_at, is_empty}
 use Rattle.composition.specs.Nodes.{Node, ArcMap, Choices}
-use Rattle.composition.specs.Opinions.{Said, said_at_all, is_by_class}
+use Rattle.composition.specs.Opinions.{Site, Said, said_at_all}
 use Rattle.composition.specs.Merging.{merged_all}
 use Rattle.composition.specs.Fields.{Naming, names_of, children_naming, all_children, all_properties, listed_children, unlisted_children, child_path, specifier_of, type_of, strings_of, meta_of, is_inactive}
 use Rattle.composition.specs.Values.{PropertySaid, specs_of, counting, given, deciding_default, deciding_samples, time_faults}
 use Rattle.composition.specs.Targets.{targets_of, target_faults}
 use Rattle.composition.specs.Faults.{Fault, sublayer, time_outside, target_outside, child_too_long, overgrown, same_fault, Index, index}
-
--- a property on the stage
-pub data PropertyView : Type 0 where
-  attribute : (name : Text) (ty : TypeName) (custom uniform : Bool) (default : Option Value) (samples : SampleEntries) (connections : Option (List Path)) (meta : MetaEntries) → PropertyView
-  relationship : (name : Text) (custom : Bool) (targets : Option (List Path)) (meta : MetaEntries) → PropertyView
-
--- a site: the maps and the offset lead from it to the stage
-pub record SiteView : Type 0 where
-  pub stack : StackName
-  pub path : Path
-  pub maps : List ArcMap
-  pub offset : Offset
-  pub by_class : Bool
-  pub has_spec : Bool
-
--- what a prim is on the stage; `since` is the version in which it was last changed
-pub record PrimView : Type 0 where
-  pub specifier : Specifier
-  pub type_name : Option Text
-  pub meta : MetaEntries
-  pub api_schemas : Option (List Text)
-  pub clip_sets : Option (List Text)
-  pub properties : List PropertyView
-  pub children : List Text
-  pub choices : Choices
-  pub sites : List SiteView
-  pub faults : List Fault
-  pub since : ℕ
 
 abbrev pub empty_view : PrimView
 empty_view = record {
@@ -97,16 +72,6 @@ module _ (l : Limits) where
   property_faults name ps = map time_outside (time_faults name ps) ++ map target_outside (target_faults l name ps)
 
   module _ (w : World) where
-    abbrev pub site_view : Node → SiteView
-    site_view n = record {
-      stack = n.stack;
-      path = n.path;
-      maps = n.maps;
-      offset = n.offset;
-      by_class = is_by_class n;
-      has_spec = is_empty n.path || not (is_empty (opinions_at l w (stack l w n.stack) n.path));
-    }
-
     abbrev pub counting_of : List Said → List Text → List (Text × List PropertySaid)
     counting_of said names = map (λ name. (name, counting (specs_of name said))) names
 
@@ -124,7 +89,7 @@ module _ (l : Limits) where
           properties = flat_map (λ e. property_view e.0 e.1) properties;
           children = listed_children l p names;
           choices = i.choices;
-          sites = map site_view i.sites;
+          sites = i.sites;
           faults = firsts same_fault (i.faults ++ flat_map (λ e. property_faults e.0 e.1) properties ++ map child_too_long (unlisted_children l p names));
           since = 0;
         }
@@ -153,7 +118,7 @@ module _ (l : Limits) where
     abbrev pub root_children : List Text
     root_children = names_of (filter_map (λ e. root_naming e.0) (stack l w Root).layers)
 
-    abbrev pub root_site : SiteView
+    abbrev pub root_site : Site
     root_site = record { stack = Root; path = []; maps = []; offset = identity; by_class = false; has_spec = true }
 
     -- `/` has the metadata of the session and the root layer alone, the children of the root stack and its sublayer faults

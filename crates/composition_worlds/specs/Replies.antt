@@ -9,7 +9,8 @@ use Rattle.composition.specs.Texts.{Text, same_text}
 use Rattle.composition.specs.Paths.{Path, limits}
 use Rattle.composition.specs.World.{World, first_layer}
 use Rattle.composition.specs.Values.{value_at}
-use Rattle.composition.specs.Views.{PrimView, PropertyView, attribute, relationship, SiteView, view}
+use Rattle.composition.specs.Views.{PrimView, PropertyView, attribute, relationship, view}
+use Rattle.composition.specs.Opinions.{Site}
 use Rattle.composition.specs.Printing.{fault_text}
 
 -- a question whose reply is compared as text
@@ -46,7 +47,7 @@ in_brackets f xs = codes "[" ++ joined f xs ++ codes "]"
 abbrev pub line : Text → Text
 line t = codes "\n  " ++ t
 
-abbrev pub site_text : World → SiteView → Text
+abbrev pub site_text : World → Site → Text
 site_text w s = asset_text (first_layer w s.stack) ++ codes " " ++ printed s.path
 
 abbrev pub counted : List Text → Text

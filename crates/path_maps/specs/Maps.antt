@@ -5,6 +5,12 @@ use Rattle.sdf_paths.specs.declared.element.Element.{Element}
 use Rattle.path_maps.specs.declared.kind.ArcKind.{ArcKind}
 use Rattle.path_maps.specs.declared.kind.ArcKind.TheVariants.{Inherits, Variant, Reference, Payload, Specializes}
 
+-- an arc: what it is, the path that it leads to, and the path that it was authored at
+pub record ArcPaths : Type 0 where
+  pub kind : ArcKind
+  pub target : List Element
+  pub author : List Element
+
 -- the path stands at or below the author, where the selections of both are passed over
 abbrev pub is_under : List Element → List Element → Bool
 is_under author path = has_prefix (plain author) (plain path)

@@ -1,13 +1,13 @@
 ghost use Rattle.std.specs.Prelude.{◌≡◌, IfOk, IfErr, IsSomeAnd, OnOk};
 ghost use Rattle.std.specs.Option.{ForSome};
 ghost use Rattle.sdf_paths.specs.Paths.{IsPath, IsRefusal};
-ghost use Rattle.path_maps.specs.Prims.{IsOfPrim};
 
 use crate::kind::ArcKind;
 use crate::moves::{copied, through_class, through_target, without_selections};
 use plain_data::copy;
 use sdf_paths::{Path, PathFault};
 use std::alloc::AllocError;
+use std::marker::Model;
 
 /// An arc as a map of paths: from those of the prim that it leads to, to those of the prim that
 /// authored it.
@@ -21,8 +21,19 @@ pub struct ArcMap {
     pub target: Path,
     /// The path that it was authored at.
     pub author: Path,
-    ghost target_of_prim: { IsOfPrim target },
-    ghost author_of_prim: { IsOfPrim author },
+}
+
+impl Model for ArcMap {
+    ghost use Rattle.path_maps.specs.Maps.{ArcPaths};
+    ghost use Rattle.path_maps.specs.Prims.{IsOfPrim};
+
+    ghost Value = { ArcPaths };
+
+    ghost view = { λ m. record { kind = m.kind; target = m.target; author = m.author } };
+
+    ghost invariant = { λ m. IsOfPrim m.target × IsOfPrim m.author };
+
+    ghost inverse = { λ v. record { kind = v.kind; target = v.target; author = v.author } };
 }
 
 impl Clone for ArcMap {
