@@ -14,12 +14,13 @@ pub struct PropertyAt<'o> {
 impl<'o> Model for PropertyAt<'o> {
     ghost use Rattle.composition.specs.Values.{PropertySaid};
     ghost use Rattle.std.specs.Coded.{codes};
-    ghost use Rattle.prim_opinions.specs.contracts.said.SaidAt as of_said;
+    ghost use Rattle.prim_view.specs.contracts.site.Site as of_site;
+    ghost use Rattle.spec_parts.specs.contracts.spec.Spec as of_spec;
     ghost use Rattle.spec_properties.specs.contracts.property.Property as of_property;
 
     ghost Value = { PropertySaid };
 
-    ghost coded = { Prim.hlevel (codes, of_said.the_row.coded, of_property.the_row.coded) };
+    ghost coded = { Prim.hlevel (codes, of_site.the_row.coded, of_spec.the_row.coded, of_property.the_row.coded) };
 
     ghost view = { λ p. record { said = p.said.now; property = p.property.now } };
 }

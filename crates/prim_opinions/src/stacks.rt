@@ -1,5 +1,5 @@
 // The stacks of some sites, each built once.
-ghost use Rattle.std.specs.Prelude.{◌≡◌, OnOk, is_some};
+ghost use Rattle.std.specs.Prelude.{◌≡◌, true, OnOk, is_some};
 ghost use Rattle.std.specs.BTreeMap.{get};
 ghost use Rattle.layer_set.specs.LookUps.{look_ups};
 ghost use Rattle.layer_stack.specs.Meant.{defined_stack};

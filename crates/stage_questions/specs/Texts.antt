@@ -5,8 +5,10 @@ use Rattle.std.specs.List.{flat_map}
 use Rattle.change_core.specs.declared.history.EditReply.{EditReply}
 use Rattle.change_core.specs.declared.history.EditReply.TheVariants.{Accepted, Refused, JournalFull}
 use Rattle.composition.specs.Texts.{Text}
-use Rattle.prim_view.specs.Printing.{fault_text, path_text}
-use Rattle.prim_view.specs.declared.fault.PrimFault.{PrimFault}
+use Rattle.flatten.specs.Flattened.{flat_layer}
+use Rattle.layer_edit.specs.declared.fault.EditFault.{EditFault}
+use Rattle.layer_edit.specs.declared.fault.EditFault.TheVariants as fault
+use Rattle.prim_view.specs.Printing.{fault_text, path_text, refusal_text}
 use Rattle.prim_view.specs.declared.site.Site.{Site}
 use Rattle.prim_view.specs.declared.stack_name.StackName.{StackName}
 use Rattle.prim_view.specs.declared.stack_name.StackName.TheVariants.{Root, Asset}
@@ -19,6 +21,7 @@ use Rattle.spec_properties.specs.Entries.{SampleEntries}
 use Rattle.stage_query.specs.Answers.{Stage, value_answer, default_answer, samples_answer, targets_answer, children_answer, view_answer}
 use Rattle.stage_query.specs.declared.answer.Answer.{Answer}
 use Rattle.stage_query.specs.declared.answer.Answer.TheVariants.{Is, NoPrim, NoProperty, NoValue, Blocked}
+use Rattle.usda_writer.specs.Canonical.{canonical}
 use Rattle.stage_questions.specs.declared.question.Question.{Question}
 use Rattle.stage_questions.specs.declared.question.Question.TheVariants as question
 
@@ -101,21 +104,54 @@ property_name path = unwrap_or (last_name path) []
 abbrev pub flattened_text : Text → Text
 flattened_text text = decimal (length text) ++ codes " bytes\n" ++ text
 
--- The answer to a question on a stage of a world with this root layer, of which this is the flattened layer's text.
-abbrev pub answer : Text → Stage → Text → Question → Text
-answer root stage flat (question.Value path time) = answer_text value_text (value_answer (owner path) (property_name path) time stage)
-answer root stage flat (question.Default path) = answer_text value_text (default_answer (owner path) (property_name path) stage)
-answer root stage flat (question.Samples path) = answer_text samples_text (samples_answer (owner path) (property_name path) stage)
-answer root stage flat (question.Targets path) = answer_text paths_text (targets_answer (owner path) (property_name path) stage)
-answer root stage flat (question.Children path) = answer_text names_text (children_answer path stage)
-answer root stage flat (question.Faults path) = answer_text faults_text (view_answer path stage)
-answer root stage flat (question.Sites path) = answer_text (sites_text root) (view_answer path stage)
-answer root stage flat question.Flatten = flattened_text flat
+-- the text of the flattened layer of a stage
+unfoldable pub flat_text : Stage → Text
+flat_text stage = canonical (flat_layer stage)
 
--- a question with its answer ends with a line feed; the text of a flattened layer has its own
-abbrev pub line_end : Question → Text
-line_end question.Flatten = []
-line_end q = codes "\n"
+-- The answer to a question on a stage of a world with this root layer, the flattened layer aside.
+abbrev pub brief_answer : Text → Stage → Question → Text
+brief_answer root stage (question.Value path time) = answer_text value_text (value_answer (owner path) (property_name path) time stage)
+brief_answer root stage (question.Default path) = answer_text value_text (default_answer (owner path) (property_name path) stage)
+brief_answer root stage (question.Samples path) = answer_text samples_text (samples_answer (owner path) (property_name path) stage)
+brief_answer root stage (question.Targets path) = answer_text paths_text (targets_answer (owner path) (property_name path) stage)
+brief_answer root stage (question.Children path) = answer_text names_text (children_answer path stage)
+brief_answer root stage (question.Faults path) = answer_text faults_text (view_answer path stage)
+brief_answer root stage (question.Sites path) = answer_text (sites_text root) (view_answer path stage)
+brief_answer root stage question.Flatten = []
 
-abbrev pub answer_line : Text → Stage → Text → Question → Text
-answer_line root stage flat q = question_text q ++ codes ": " ++ answer root stage flat q ++ line_end q
+-- the same with its line feed; the text of a flattened layer has its own
+abbrev pub answer : Text → Stage → Question → Text
+answer root stage question.Flatten = flattened_text (flat_text stage)
+answer root stage q = brief_answer root stage q ++ codes "\n"
+
+-- a question with its answer
+abbrev pub answer_line : Text → Stage → Question → Text
+answer_line root stage q = question_text q ++ codes ": " ++ answer root stage q
+
+-- ---- replies to batches and publishes
+
+-- why an operation is refused
+abbrev pub edit_fault_text : EditFault → Text
+edit_fault_text fault.NoLayer = codes "NoLayer"
+edit_fault_text fault.LayerThere = codes "LayerThere"
+edit_fault_text fault.LayerLimit = codes "LayerLimit"
+edit_fault_text fault.RootLayer = codes "RootLayer"
+edit_fault_text (fault.LayerText r) = codes "LayerText" ++ refusal_text r
+edit_fault_text fault.WrongPath = codes "WrongPath"
+edit_fault_text fault.NoParent = codes "NoParent"
+edit_fault_text fault.NoSpec = codes "NoSpec"
+edit_fault_text fault.SpecThere = codes "SpecThere"
+edit_fault_text fault.NoSuchType = codes "NoSuchType"
+edit_fault_text fault.ValueShape = codes "ValueShape"
+edit_fault_text fault.TimeRange = codes "TimeRange"
+edit_fault_text fault.OffsetRange = codes "OffsetRange"
+edit_fault_text fault.BadArc = codes "BadArc"
+
+abbrev pub edit_text : EditReply EditFault → Text
+edit_text (Accepted number) = codes "batch " ++ decimal number ++ codes " accepted\n"
+edit_text (Refused op fault) = codes "batch refused: op " ++ decimal op ++ codes " " ++ edit_fault_text fault ++ codes "\n"
+edit_text JournalFull = codes "batch refused: journal full\n"
+
+-- the reply to a publish of so many places, the root among them
+abbrev pub published_text : ℕ → ℕ → ℕ → Text
+published_text version batches places = codes "published " ++ decimal version ++ codes ": batches " ++ decimal batches ++ codes ", prims " ++ decimal (places - 1) ++ codes "\n"

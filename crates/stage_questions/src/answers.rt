@@ -2,11 +2,14 @@
 ghost use Rattle.std.specs.Prelude.{◌≡◌, ◌++◌, codes, unwrap_or, OnOk, IfOk, string_bytes};
 ghost use Rattle.sdf_paths.specs.Paths.{owner};
 ghost use Rattle.stage_query.specs.Answers.{answer_copied, value_answer, default_answer, samples_answer, targets_answer, children_answer, view_answer};
-ghost use Rattle.stage_questions.specs.Texts.{answer_text, property_name, value_text, samples_text, paths_text, names_text, faults_text, sites_text};
+ghost use Rattle.stage_questions.specs.Texts.{answer_text, property_name, value_text, samples_text, paths_text, names_text, faults_text, sites_text, question_text, brief_answer, flattened_text, flat_text, answer_line};
 
 use crate::question::Question;
-use crate::texts::{push_faults, push_names, push_paths, push_samples, push_shown, push_sites};
+use crate::texts::{
+    push_faults, push_names, push_paths, push_question, push_samples, push_shown, push_sites,
+};
 use asset_names::AssetId;
+use flatten::flatten_text;
 use plain_data::Text;
 use prim_view::PrimView;
 use sdf_paths::Path;
@@ -14,7 +17,7 @@ use sdf_values::{TimeCode, Value};
 use spec_properties::Samples;
 use stage_publish::View;
 use stage_query::{Answer, children_of, default_of, samples_of, targets_of, value_at, view_of};
-use std::alloc::AllocError;
+use std::alloc::{AllocError, Global};
 
 /// A stage: what is published of each path.
 pub type StageView<'e> = View<'e, Path, PrimView>;
@@ -101,13 +104,13 @@ fn push_sites_answer(out: &mut String, answer: Answer<&PrimView>, root: &AssetId
 }
 
 /// Writes the answer to a question on a stage whose root layer has this name, the flattened layer aside.
-pub fn push_answer(
+fn push_answer(
     out: &mut String,
     root: &AssetId,
     view: &StageView,
     question: &Question,
 ) -> Result<(), AllocError>
-    ensures { OnOk result (string_bytes out.new ≡ string_bytes out.old ++ answer root.now view.now.items question.now) }
+    ensures { OnOk result (string_bytes out.new ≡ string_bytes out.old ++ brief_answer root.now view.now.items question.now) }
 {
     match question {
         Question::Value { path, time } => {
@@ -130,5 +133,55 @@ pub fn push_answer(
         Question::Faults { path } => push_faults_answer(out, view_of(view, path)),
         Question::Sites { path } => push_sites_answer(out, view_of(view, path), root),
         Question::Flatten => Ok(()),
+    }
+}
+
+/// The flattened layer with the number of its bytes, behind its question.
+fn flatten_line(alloc: Global, view: &StageView) -> Result<Vec<u8>, AllocError>
+    ensures { IfOk result (λ line. line.items ≡ codes "flatten: " ++ flattened_text (flat_text view.now.items)) }
+{
+    let text = flatten_text(alloc, view)?;
+    let mut front = String::from_str(alloc, "flatten: ")?;
+    let length = text.len().to_string(alloc)?;
+    front.push_str(length.as_str())?;
+    front.push_str(" bytes\n")?;
+    let mut line = front.into_bytes();
+    line.extend_from_slice(&text)?;
+    Ok(line)
+}
+
+/// Any other question with its answer.
+fn brief_line(
+    alloc: Global,
+    root: &AssetId,
+    view: &StageView,
+    question: &Question,
+) -> Result<Vec<u8>, AllocError>
+    ensures { IfOk result (λ line. line.items ≡ question_text question.now ++ codes ": " ++ brief_answer root.now view.now.items question.now ++ codes "\n") }
+{
+    let mut line = String::new(alloc);
+    push_question(&mut line, question)?;
+    line.push_str(": ")?;
+    push_answer(&mut line, root, view, question)?;
+    line.push_str("\n")?;
+    Ok(line.into_bytes())
+}
+
+/// A question in its one spelling, with its answer on a stage whose root layer has this name. It ends with a line feed.
+///
+/// # Errors
+///
+/// Memory ran out.
+pub fn answer_line(
+    alloc: Global,
+    root: &AssetId,
+    view: &StageView,
+    question: &Question,
+) -> Result<Vec<u8>, AllocError>
+    ensures { IfOk result (λ line. line.items ≡ answer_line root.now view.now.items question.now) }
+{
+    match question {
+        Question::Flatten => flatten_line(alloc, view),
+        _ => brief_line(alloc, root, view, question),
     }
 }

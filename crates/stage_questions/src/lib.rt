@@ -1,4 +1,4 @@
-//! Questions on a published stage as a person asks them, and their answers as they are written.
+//! Questions on a published stage as a person asks them, and replies as they are written.
 #![tactic(auto)]
 
 mod answers;
@@ -6,6 +6,6 @@ mod question;
 mod replies;
 mod texts;
 
+pub use answers::{StageView, answer_line};
 pub use question::Question;
 pub use replies::{edit_text, published_text};
-pub use answers::answer_line;
