@@ -15,7 +15,7 @@ use plain_data::{Items, Text, copy};
 use prim_opinions::{SaidAt, opinions_on};
 use prim_view::Site;
 use spec_parts::BodyPart;
-use spec_properties::Properties;
+use spec_properties::Property;
 use std::alloc::{AllocError, Global};
 use usd_names::is_identifier;
 
@@ -72,11 +72,11 @@ fn prim_names(alloc: Global, names: &[Text]) -> Result<Items<Text>, AllocError>
 }
 
 /// The names of properties.
-fn names_among(alloc: Global, properties: &Properties) -> Result<Items<Text>, AllocError>
+fn names_among(alloc: Global, properties: &[Property]) -> Result<Items<Text>, AllocError>
     ensures { IfOk result (λ names. names ≡ property_names properties.now) }
 {
     let mut names = Items::new(alloc);
-    for property in properties.as_slice() {
+    for property in properties {
         names.push(copy(property.name())?)?;
     }
     Ok(names)
@@ -123,7 +123,7 @@ fn children_edit(alloc: Global, body: &BodyPart) -> Result<ListOp<Text>, AllocEr
 fn properties_edit(alloc: Global, body: &BodyPart) -> Result<ListOp<Text>, AllocError>
     ensures { IfOk result (λ op. op ≡ properties_edit body.now) }
 {
-    let names = names_among(alloc, &body.properties)?;
+    let names = names_among(alloc, body.properties.as_slice())?;
     naming_edit(alloc, names, &body.property_order)
 }
 

@@ -99,7 +99,7 @@ in_view w [] = fitting [] (root_children limits w) (firsts_different _)
 in_view w (e ∷ p) = by_plain w e p (list_all is_prim_name (e ∷ p)) refl
 
 pub are_listed : (w : WorldData) (p : Path) → AreListed p (entry_at w p).children
-unfolding entry_at, view_at
+unfolding entry_at view_at
 are_listed w p = in_view (look_ups w) p
 
 -- ---- paths right below

@@ -27,9 +27,9 @@ loop-site-preserved c =
     record {
       stacks = c.in_ok-note_stack.ensures.stacks;
       said = c.in_ok-push_said_in.ensures
-      ∙ (ap (λ (said : List Said). said ++ said_in (look_ups c.args.world.now) c.site-item.result c.layers_of.result.now) c.loop-site.invariant.said
-      ∙ (ap (λ (layers : List (Text × Offset)). gathered (look_ups c.args.world.now) (take c.loop-site.site-index c.args.sites.now) ++ said_in (look_ups c.args.world.now) c.site-item.result layers) (c.layers_of.ensures ∙ stack)
-      ∙ gathered_next (look_ups c.args.world.now) c.args.sites.now c.loop-site.site-index c.site-item.result c.loop-site-test.true c.site-item.is));
+          ∙ (ap (λ (said : List Said). said ++ said_in (look_ups c.args.world.now) c.site-item.result c.layers_of.result.now) c.loop-site.invariant.said
+          ∙ (ap (λ (layers : List (Text × Offset)). gathered (look_ups c.args.world.now) (take c.loop-site.site-index c.args.sites.now) ++ said_in (look_ups c.args.world.now) c.site-item.result layers) (c.layers_of.ensures ∙ stack)
+          ∙ gathered_next (look_ups c.args.world.now) c.args.sites.now c.loop-site.site-index c.site-item.result c.loop-site-test.true c.site-item.is));
     }
 
 pub returns : goal.returns

@@ -6,7 +6,7 @@ use Rattle.prim_opinions.proofs.offset.scale_of.Goals as goal
 pub returns-clause-value : goal.returns-clause-value
 returns-clause-value c =
     multiplied c.args.a c.args.b 1000000 1000000 c.ranges.a c.ranges.b
-        (scale_size c.args.a c.requires.a_least c.requires.a_most) (scale_size c.args.b c.requires.b_least c.requires.b_most) (lit< tt)
+    (scale_size c.args.a c.requires.a_least c.requires.a_most) (scale_size c.args.b c.requires.b_least c.requires.b_most) (lit< tt)
 
 pub returns-clause-least : goal.returns-clause-least
 returns-clause-least c =
