@@ -85,7 +85,7 @@ pub fn specifier_of(said: &[SaidAt]) -> Specifier
 
 /// The strongest type that is given.
 #[tactic(auto, unfolding(crate::specs::Folding::type_on))]
-pub fn type_of<'w>(said: &[SaidAt<'w>]) -> Option<&'w Text>
+pub fn type_of<'w>(said: &[SaidAt<'w, '_>]) -> Option<&'w Text>
     ensures { option_copied result ≡ type_on said.now }
 {
     for opinion in said {
