@@ -1,0 +1,22 @@
+-- What holds of the value that a call answers.
+use Rattle.std.proofs.Common.{◌≡◌, ◌∙◌, true, Result, Ok, Err, sym}
+use Rattle.std.specs.Prelude.{IfOk}
+use Rattle.sdf_values.specs.Conforms.{conforms}
+use Rattle.sdf_values.specs.declared.type_name.TypeName.{TypeName}
+use Rattle.sdf_values.specs.declared.value.Value.{Value}
+use Rattle.usda_values.specs.Shaping.{AnswersShape, take_shape}
+use Rattle.usda_values.specs.declared.fault.ValueFault.{ValueFault}
+use Rattle.value_shapes.specs.Meanings.{SameMeaning}
+use Rattle.value_shapes.proofs.Whole.{shape_fits, shape_kept}
+
+pub answer_of_the_type : (r : Result Value ValueFault) (t : TypeName) (v : Value) → AnswersShape r (take_shape t v) → IfOk r (λ w. conforms w t ≡ true)
+answer_of_the_type (Ok w) t v h = (shape_fits t v w h).0
+answer_of_the_type (Err e) t v h = tt
+
+pub answer_of_the_meaning : (r : Result Value ValueFault) (t : TypeName) (v : Value) → AnswersShape r (take_shape t v) → IfOk r (λ w. SameMeaning v w)
+answer_of_the_meaning (Ok w) t v h = (shape_fits t v w h).1
+answer_of_the_meaning (Err e) t v h = tt
+
+pub answer_kept : (r : Result Value ValueFault) (t : TypeName) (v : Value) → AnswersShape r (take_shape t v) → conforms v t ≡ true → IfOk r (λ w. w ≡ v)
+answer_kept (Ok w) t v h is = let k = shape_kept t v is in cc
+answer_kept (Err e) t v h is = tt

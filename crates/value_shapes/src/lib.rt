@@ -1,0 +1,17 @@
+//! What is taken of a value as one of a type is a value of the type and means the same.
+//!
+//! `specs/Meanings.antt` says when one value means what another does, `specs/Laws.antt` the laws, each the clause of a
+//! function that does nothing.
+#![tactic(auto)]
+
+mod laws;
+mod shaped;
+
+pub use laws::{
+    taken_values_are_of_the_meaning, taken_values_are_of_the_type, taken_values_stay,
+    values_of_the_type_are_kept,
+};
+pub use shaped::value_of_type;
+
+#[cfg(test)]
+mod tests;
