@@ -10,11 +10,11 @@ use Rattle.value_shapes.specs.Meanings.{SameMeaning}
 use Rattle.value_shapes.proofs.Whole.{shape_fits, shape_kept}
 
 pub answer_of_the_type : (r : Result Value ValueFault) (t : TypeName) (v : Value) → AnswersShape r (take_shape t v) → IfOk r (λ w. conforms w t ≡ true)
-answer_of_the_type (Ok w) t v h = (shape_fits t v w h).0
+answer_of_the_type (Ok w) t v h = (shape_fits t v w h).of_type
 answer_of_the_type (Err e) t v h = tt
 
 pub answer_of_the_meaning : (r : Result Value ValueFault) (t : TypeName) (v : Value) → AnswersShape r (take_shape t v) → IfOk r (λ w. SameMeaning v w)
-answer_of_the_meaning (Ok w) t v h = (shape_fits t v w h).1
+answer_of_the_meaning (Ok w) t v h = (shape_fits t v w h).same
 answer_of_the_meaning (Err e) t v h = tt
 
 pub answer_kept : (r : Result Value ValueFault) (t : TypeName) (v : Value) → AnswersShape r (take_shape t v) → conforms v t ≡ true → IfOk r (λ w. w ≡ v)

@@ -1,7 +1,7 @@
 -- What means the same as a value of each kind.
-use Rattle.std.proofs.Common.{◌≡◌, ◌∙◌, ◌⊎◌, inl, inr, ℕ, Bool, List, [], ◌∷◌, sym, refl, subst}
-use Rattle.std.specs.Prelude.{ℤ}
-use Rattle.sdf_values.specs.Numbers.{DecimalNumber}
+use Rattle.std.proofs.Common.{◌≡◌, ◌⊎◌, inl, inr, ℕ, Bool, List, refl, subst}
+use Rattle.std.specs.Prelude.{ℤ, pos, negsuc}
+use Rattle.sdf_values.specs.Numbers.{DecimalNumber, SameNumber}
 use Rattle.sdf_values.specs.Scales.{IsTimeOf}
 use Rattle.sdf_values.specs.declared.decimal.Num.{Num}
 use Rattle.sdf_values.specs.declared.decimal.Num.TheVariants as num
@@ -9,7 +9,7 @@ use Rattle.sdf_values.specs.declared.value.DictItem.{DictItem}
 use Rattle.sdf_values.specs.declared.value.Value.{Value}
 use Rattle.sdf_values.specs.declared.value.Value.TheVariants as value
 use Rattle.value_shapes.specs.Apart.{IsOfWhole}
-use Rattle.value_shapes.specs.Meanings.{SameMeaning, SameMeanings, itself, whole_as_number, whole_as_time, number_as_time, number_as_truth, word_as_truth, tuple, array, none, more, truth_word}
+use Rattle.value_shapes.specs.Meanings.{SameMeaning, itself, whole_as_number, whole_as_time, number_as_time, number_as_truth, word_as_truth, tuple, array, truth_word}
 
 pub truth_alone : (c : Bool) (v w : Value) → SameMeaning v w → v ≡ value.Bool c → w ≡ value.Bool c
 truth_alone c v w (itself _) e = e
@@ -101,6 +101,12 @@ number_means x v w (word_as_truth b) e = absurd cc
 number_means x v w (tuple vs ws k) e = absurd cc
 number_means x v w (array vs ws k) e = absurd cc
 
+of_number : (m n : ℤ) (d : DecimalNumber) → SameNumber n (pos 0) d.digits d.exp → n ≡ m → IsOfWhole m (value.Number (num.Finite d))
+of_number m n d k e = inl (d, refl, subst (λ x. SameNumber x (pos 0) d.digits d.exp) e k)
+
+of_time : (m n units : ℤ) → SameNumber n (pos 0) units (negsuc 17) → n ≡ m → IsOfWhole m (value.Time units)
+of_time m n units k e = inr (inl (units, refl, subst (λ x. SameNumber x (pos 0) units (negsuc 17)) e k))
+
 pub whole_means : (m : ℤ) (v w : Value) → SameMeaning v w → v ≡ value.Whole m → (w ≡ value.Whole m) ⊎ IsOfWhole m w
 whole_means m v w (itself _) e = inl e
 whole_means m v w (whole_as_number n d k) e = inr (of_number m n d k cc)
@@ -110,4 +116,3 @@ whole_means m v w (number_as_truth b) e = inr (inr (inr (b, refl, cc)))
 whole_means m v w (word_as_truth b) e = absurd cc
 whole_means m v w (tuple vs ws k) e = absurd cc
 whole_means m v w (array vs ws k) e = absurd cc
-

@@ -6,3 +6,7 @@ pub mod Kept
 pub mod Whole
 pub mod Answered
 pub mod Apart
+pub mod Forms
+pub mod Found
+pub mod Completes
+pub mod Only

@@ -11,15 +11,15 @@ use Rattle.sdf_values.proofs.Powers.{ten_next, signed_times, excess_above, exces
 use Rattle.sdf_values.proofs.Times.{is_time}
 use Rattle.usda_values.specs.Scalars.{stripped, tens_out, if_short, is_below_zero, decimal_of_whole, if_time, time_of}
 
-times_one : (z : ℤ) → z *ℤ pos 1 ≡ z
+pub times_one : (z : ℤ) → z *ℤ pos 1 ≡ z
 times_one (pos n) = omega (arith, ints)
 times_one (negsuc n) = omega (arith, ints)
 
-signed_back : (n : ℤ) → signed (is_below_zero n) (unsigned_abs n) ≡ n
+pub signed_back : (n : ℤ) → signed (is_below_zero n) (unsigned_abs n) ≡ n
 signed_back (pos n) = refl
 signed_back (negsuc n) = refl
 
-abs_zero : (n : ℤ) → unsigned_abs n ≡ 0 → n ≡ pos 0
+pub abs_zero : (n : ℤ) → unsigned_abs n ≡ 0 → n ≡ pos 0
 abs_zero (pos n) h = ap pos h
 abs_zero (negsuc n) h = absurd (omega (arith, h))
 
@@ -118,7 +118,7 @@ above e h =
     let z = natural_is (e +ℤ pos 18) (omega (arith, ints, h)) in
     omega (arith, ints, z)
 
-abbrev places : DecimalNumber → ℕ
+abbrev pub places : DecimalNumber → ℕ
 places d = natural (d.exp +ℤ pos 18)
 
 -- the time that is computed of a decimal
@@ -142,11 +142,11 @@ time_same d t h =
     let p = time_parts d t h in
     subst (λ x. IsTimeOf d x) p.1 (is_time d (places d) (above d.exp p.0))
 
-tens_joined : (b : Bool) (m z : ℕ) → signed b (m * 10 ^ z) *ℤ pos (10 ^ 18) ≡ signed b m *ℤ pos (10 ^ (z + 18))
+pub tens_joined : (b : Bool) (m z : ℕ) → signed b (m * 10 ^ z) *ℤ pos (10 ^ 18) ≡ signed b m *ℤ pos (10 ^ (z + 18))
 tens_joined b m z =
     signed_times b (m * 10 ^ z) (10 ^ 18) ∙ ap (signed b) (mul_assoc m (10 ^ z) (10 ^ 18) ∙ ap (λ k. m * k) (sym (pow-add 10 z 18))) ∙ sym (signed_times b m (10 ^ (z + 18)))
 
-places_of : (d : DecimalNumber) (z : ℕ) → d.exp ≡ pos z → places d ≡ z + 18
+pub places_of : (d : DecimalNumber) (z : ℕ) → d.exp ≡ pos z → places d ≡ z + 18
 places_of d z e = ap (λ x. natural (x +ℤ pos 18)) e
 
 -- a whole number and the time of its decimal

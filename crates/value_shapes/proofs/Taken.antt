@@ -13,6 +13,8 @@ use Rattle.sdf_values.specs.declared.value.Value.TheOpen.{Value-F}
 use Rattle.sdf_values.specs.declared.value.Value.TheVariants as value
 use Rattle.usda_values.specs.Scalars.{Taken, take_element}
 use Rattle.usda_values.specs.Shaping.{Taking, TakenAll, before_all, take_all, take_counted, as_tuple, as_array, take_tuple, take_leaf, take_step, take_item, taken, take_shape}
+use Rattle.sdf_values.specs.Proper.{all_true}
+use Rattle.value_shapes.specs.Held.{is_held, held_step, held_item}
 use Rattle.value_shapes.specs.Meanings.{SameMeaning, SameMeanings, itself, tuple, array, none, more}
 use Rattle.value_shapes.proofs.Values as fold
 use Rattle.value_shapes.proofs.Values.{Each, Cases, by_cases}
@@ -33,18 +35,24 @@ leaf_cases false e v w h = element_fits e v w h
 leaf : (v : Value) → ((t : TypeName) → taken v t ≡ take_leaf v t) → IsFitting v
 leaf v is t w h = leaf_cases t.array t.element v w (sym (is t) ∙ h)
 
+both : (a b : Bool) → (a && b) ≡ true → (a ≡ true) × (b ≡ true)
+both true b e = (refl, e)
+both false b e = absurd cc
+
 -- members that were taken
 record Members (vs ws : List Value) (t : TypeName) : Type 0 where
   pub all : all_hold (map holds ws) t ≡ true
   pub same : SameMeanings vs ws
+  pub held : all_true (map is_held vs) ≡ true → all_true (map is_held ws) ≡ true
 
 no_members : (t : TypeName) → Members [] [] t
-no_members t = record { all = refl; same = none }
+no_members t = record { all = refl; same = none; held = λ h. refl }
 
 more_members : (v w : Value) (vs ws : List Value) (t : TypeName) → Fits t v w → Members vs ws t → Members (v ∷ vs) (w ∷ ws) t
 more_members v w vs ws t fits rest = record {
-  all = ap (λ b. b && all_hold (map holds ws) t) fits.0 ∙ rest.all;
-  same = more v w vs ws fits.1 rest.same;
+  all = ap (λ b. b && all_hold (map holds ws) t) fits.of_type ∙ rest.all;
+  same = more v w vs ws fits.same rest.same;
+  held = λ h. (let p = both (is_held v) (all_true (map is_held vs)) h in ap (λ b. b && all_true (map is_held ws)) (fits.held p.0) ∙ rest.held p.1);
 }
 
 -- a member before those behind it
@@ -90,7 +98,11 @@ tuple_of : (vs : List Value) (e : ElementType) (m : ElementType × ℕ) (r : Tak
 tuple_of vs e m (Ok us) w is members h =
     let k = members us refl in
     let same : value.Tuple us ≡ w = cc h in
-    subst (λ x. Fits (one e) (value.Tuple vs) x) same (holds_tuple us e m is k.0 k.1.all, tuple vs us k.1.same)
+    subst (λ x. Fits (one e) (value.Tuple vs) x) same (record {
+      of_type = holds_tuple us e m is k.0 k.1.all;
+      same = tuple vs us k.1.same;
+      held = λ g. fold.of_tuple Bool Bool held_step held_item us ∙ k.1.held (sym (fold.of_tuple Bool Bool held_step held_item vs) ∙ g);
+    })
 tuple_of vs e m (Err k) w is members h = absurd cc
 
 tuple_members : (vs : List Value) → Each IsFitting vs → (e : ElementType) (o : Option (ElementType × ℕ)) (w : Value) → members_of e ≡ o → take_tuple o (map taken vs) ≡ Ok w → Fits (one e) (value.Tuple vs) w
@@ -112,7 +124,11 @@ array_of : (vs : List Value) (e : ElementType) (r : TakenAll) (w : Value) → ((
 array_of vs e (Ok us) w members h =
     let k = members us refl in
     let same : value.Array us ≡ w = cc h in
-    subst (λ x. Fits (typed e true) (value.Array vs) x) same (holds_array us e k.all, array vs us k.same)
+    subst (λ x. Fits (typed e true) (value.Array vs) x) same (record {
+      of_type = holds_array us e k.all;
+      same = array vs us k.same;
+      held = λ g. fold.of_array Bool Bool held_step held_item us ∙ k.held (sym (fold.of_array Bool Bool held_step held_item vs) ∙ g);
+    })
 array_of vs e (Err k) w members h = absurd cc
 
 array_cases : (vs : List Value) → Each IsFitting vs → (a : Bool) (e : ElementType) (w : Value) → (if a then as_array (take_all (map taken vs) (one e)) else Err ValueShape) ≡ Ok w → Fits (typed e a) (value.Array vs) w

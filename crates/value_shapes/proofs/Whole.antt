@@ -6,6 +6,7 @@ use Rattle.sdf_values.specs.declared.value.DictItem.{fold-DictItem}
 use Rattle.sdf_values.specs.declared.value.Value.{Value}
 use Rattle.sdf_values.specs.declared.value.Value.TheVariants as value
 use Rattle.usda_values.specs.Shaping.{take_shape, take_shape_step, taken}
+use Rattle.value_shapes.specs.Held.{is_held}
 use Rattle.value_shapes.specs.Meanings.{SameMeaning, itself}
 use Rattle.value_shapes.proofs.Values as fold
 use Rattle.value_shapes.proofs.Values.{Cases, by_cases}
@@ -20,18 +21,24 @@ or_true : (a b : Bool) → b ≡ true → (a || b) ≡ true
 or_true true b h = cc
 or_true false b h = h
 
-fits_conform : (t : TypeName) (v w : Value) → Fits t v w → (conforms w t ≡ true) × SameMeaning v w
-fits_conform t v w k = (or_true (is_block w) (holds w t) k.0, k.1)
+-- a value of the type or the block, and of the meaning, with numbers as a program holds them where those of the first are
+pub record FitsWhole (t : TypeName) (v w : Value) : Type 0 where
+  pub of_type : conforms w t ≡ true
+  pub same : SameMeaning v w
+  pub held : is_held v ≡ true → is_held w ≡ true
 
-block_taken : (t : TypeName) (w : Value) → value.Block ≡ w → (conforms w t ≡ true) × SameMeaning value.Block w
-block_taken t w e = subst (λ x. (conforms x t ≡ true) × SameMeaning value.Block x) e (ap (λ b. b || holds value.Block t) block_is, itself value.Block)
+fits_whole : (t : TypeName) (v w : Value) → Fits t v w → FitsWhole t v w
+fits_whole t v w k = record { of_type = or_true (is_block w) (holds w t) k.of_type; same = k.same; held = k.held }
 
-step_fits : (t : TypeName) (v w : Value) → take_shape_step v t ≡ Ok w → (conforms w t ≡ true) × SameMeaning v w
+block_taken : (t : TypeName) (w : Value) → value.Block ≡ w → FitsWhole t value.Block w
+block_taken t w e = subst (λ x. FitsWhole t value.Block x) e (record { of_type = ap (λ b. b || holds value.Block t) block_is; same = itself value.Block; held = λ h. h })
+
+step_fits : (t : TypeName) (v w : Value) → take_shape_step v t ≡ Ok w → FitsWhole t v w
 step_fits t value.Block w h = block_taken t w cc
-step_fits t v w h = fits_conform t v w (fits v t w h)
+step_fits t v w h = fits_whole t v w (fits v t w h)
 
 -- what is taken is of the type and means the same
-pub shape_fits : (t : TypeName) (v w : Value) → take_shape t v ≡ Ok w → (conforms w t ≡ true) × SameMeaning v w
+pub shape_fits : (t : TypeName) (v w : Value) → take_shape t v ≡ Ok w → FitsWhole t v w
 unfolding take_shape
 shape_fits t v w h = step_fits t v w h
 

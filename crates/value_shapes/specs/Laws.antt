@@ -1,9 +1,12 @@
 -- What holds of the value that is taken of another as one of a type.
-use Rattle.std.specs.Prelude.{◌≡◌, true, Ok}
+use Rattle.std.specs.Prelude.{◌≡◌, ◌↔◌, true, Ok, Err}
 use Rattle.sdf_values.specs.Conforms.{conforms}
+use Rattle.sdf_values.specs.Numbers.{DecimalNumber, IsDecimal}
+use Rattle.sdf_values.specs.declared.refusal.RefusalKind.{RefusalKind}
 use Rattle.sdf_values.specs.declared.type_name.TypeName.{TypeName}
 use Rattle.sdf_values.specs.declared.value.Value.{Value}
 use Rattle.usda_values.specs.Shaping.{take_shape}
+use Rattle.value_shapes.specs.Held.{is_form, is_held}
 use Rattle.value_shapes.specs.Meanings.{SameMeaning}
 
 -- it is one of the type
@@ -21,3 +24,13 @@ AreOfTheMeaning = (t : TypeName) (v w : Value) → take_shape t v ≡ Ok w → S
 -- taken once more it stays
 abbrev pub AreTakenOnce : Type 0
 AreTakenOnce = (t : TypeName) (v w : Value) → take_shape t v ≡ Ok w → take_shape t w ≡ Ok w
+
+-- Of a value whose numbers are such as a program holds them there is no other such value of the type and the meaning: where there is one,
+-- it is taken, and where the value is refused there is none.
+pub record AreTheOnly : Type 0 where
+  pub held : (t : TypeName) (v w : Value) → is_held v ≡ true → take_shape t v ≡ Ok w → is_held w ≡ true
+  pub found : (t : TypeName) (v w : Value) → is_held v ≡ true → is_held w ≡ true → SameMeaning v w → conforms w t ≡ true → take_shape t v ≡ Ok w
+  pub refused : (t : TypeName) (v w : Value) (k : RefusalKind) → is_held v ≡ true → take_shape t v ≡ Err k → is_held w ≡ true → SameMeaning v w → conforms w t ≡ true → ⊥
+  pub one : (t : TypeName) (v w u : Value) → is_held v ≡ true → is_held w ≡ true → is_held u ≡ true → SameMeaning v w → SameMeaning v u → conforms w t ≡ true → conforms u t ≡ true → w ≡ u
+  -- each decimal that a program holds passes the test
+  pub decimals : (d : DecimalNumber) → (is_form d ≡ true) ↔ IsDecimal d

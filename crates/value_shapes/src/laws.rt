@@ -1,5 +1,6 @@
 // What holds of a value that is taken as one of a type, each law as the clause of a function that does nothing.
-ghost use Rattle.value_shapes.specs.Laws.{AreOfTheType, AreKept, AreOfTheMeaning, AreTakenOnce};
+ghost use Rattle.value_shapes.specs.Apart.{AreApart};
+ghost use Rattle.value_shapes.specs.Laws.{AreOfTheType, AreKept, AreOfTheMeaning, AreTakenOnce, AreTheOnly};
 
 /// What is taken of a value as one of a type is one of the type.
 pub fn taken_values_are_of_the_type()
@@ -19,4 +20,16 @@ pub fn taken_values_are_of_the_meaning()
 /// What was taken as one of a type is taken again as it is.
 pub fn taken_values_stay()
     ensures { AreTakenOnce }
+{}
+
+/// No other value of the type means the same, where numbers are such as a program holds them; where a value is refused, none
+/// does.
+pub fn taken_values_are_the_only()
+    ensures { AreTheOnly }
+{}
+
+/// What means the same as a value of one token or as a dictionary: beside the value itself only the decimal, the time and
+/// the truth value of a whole number, the time of a decimal, and the truth value of its word.
+pub fn meanings_are_apart()
+    ensures { AreApart }
 {}

@@ -8,8 +8,8 @@ mod laws;
 mod shaped;
 
 pub use laws::{
-    taken_values_are_of_the_meaning, taken_values_are_of_the_type, taken_values_stay,
-    values_of_the_type_are_kept,
+    meanings_are_apart, taken_values_are_of_the_meaning, taken_values_are_of_the_type,
+    taken_values_are_the_only, taken_values_stay, values_of_the_type_are_kept,
 };
 pub use shaped::value_of_type;
 

@@ -1,5 +1,8 @@
 //! What is read and taken as which value, told by the variants.
-use sdf_values::{DictItem, DictType, ElementType, Num, RefusalKind, TypeName, Value};
+use crate::value_of_type;
+use sdf_values::{
+    DictItem, DictType, ElementType, Num, Precision, RefusalKind, TypeName, Value, Width,
+};
 use std::alloc::Global;
 use std::test::Fail;
 use usda_lexer::Tokens;
@@ -178,13 +181,7 @@ fn is_text(value: &Value, words: &str) -> bool {
 // The only entry of a dictionary.
 fn only_entry(value: &Value) -> Option<&DictItem> {
     match value {
-        Value::Dict(items) => {
-            if items.len() == 1 {
-                items.get(0)
-            } else {
-                None
-            }
-        }
+        Value::Dict(items) => { if items.len() == 1 { items.get(0) } else { None } }
         _ => None,
     }
 }
@@ -217,13 +214,7 @@ fn nested(alloc: Global, levels: usize) -> Result<String, Fail> {
 // The only member of a tuple.
 fn only_member(value: &Value) -> Option<&Value> {
     match value {
-        Value::Tuple(items) => {
-            if items.len() == 1 {
-                items.get(0)
-            } else {
-                None
-            }
-        }
+        Value::Tuple(items) => { if items.len() == 1 { items.get(0) } else { None } }
         _ => None,
     }
 }
@@ -266,4 +257,82 @@ fn the_65th_tuple_is_too_deep(rt: HostRuntime) -> Result<(), Fail> {
     assert!(rt; kind == RefusalKind::TooDeep);
     assert!(rt; at == 64);
     Ok(())
+}
+
+// What is read without a type, as one of this type.
+fn shaped(alloc: Global, element: ElementType, text: &str) -> Result<Value, Fail> {
+    let ty = TypeName {
+        element,
+        array: false,
+    };
+    let value = untyped(alloc, text)?;
+    match value_of_type(alloc, ty, value) {
+        Ok(value) => Ok(value),
+        Err(_) => Err(Fail::from("refused")),
+    }
+}
+
+#[test]
+fn a_word_is_taken_as_a_truth_value(rt: HostRuntime) -> Result<(), Fail> {
+    let value = shaped(rt.alloc(), ElementType::Bool, "true")?;
+    assert!(rt; is_true(&value));
+    Ok(())
+}
+
+#[test]
+fn a_whole_number_is_taken_as_a_decimal(rt: HostRuntime) -> Result<(), Fail> {
+    let value = shaped(rt.alloc(), ElementType::Real(Precision::Double), "120")?;
+    assert!(rt; is_number(&value, 12, 1));
+    Ok(())
+}
+
+fn is_time(value: &Value, units: i128) -> bool {
+    match value {
+        Value::Time(time) => time.units == units,
+        _ => false,
+    }
+}
+
+#[test]
+fn a_half_is_taken_as_a_time(rt: HostRuntime) -> Result<(), Fail> {
+    let value = shaped(rt.alloc(), ElementType::Timecode, "0.5")?;
+    assert!(rt; is_time(&value, 500_000_000_000_000_000));
+    Ok(())
+}
+
+fn are_one_and_a_half(value: &Value) -> bool {
+    match value {
+        Value::Tuple(items) => match (items.get(0), items.get(1)) {
+            (Some(first), Some(second)) => {
+                items.len() == 2 && is_number(first, 1, 0) && is_number(second, 5, -1)
+            }
+            _ => false,
+        },
+        _ => false,
+    }
+}
+
+#[test]
+fn members_are_taken_one_by_one(rt: HostRuntime) -> Result<(), Fail> {
+    let pair = ElementType::Reals(Precision::Double, Width::Two);
+    let value = shaped(rt.alloc(), pair, "(1, 0.5)")?;
+    assert!(rt; are_one_and_a_half(&value));
+    Ok(())
+}
+
+#[test]
+fn a_number_with_a_point_is_no_int(rt: HostRuntime) -> Result<(), Fail> {
+    let value = untyped(rt.alloc(), "1.0")?;
+    let ty = TypeName {
+        element: ElementType::Int,
+        array: false,
+    };
+    match value_of_type(rt.alloc(), ty, value) {
+        Err(ValueFault::Refused { kind, at }) => {
+            assert!(rt; kind == RefusalKind::ValueShape);
+            assert!(rt; at == 0);
+            Ok(())
+        }
+        _ => Err(Fail::from("not refused")),
+    }
 }
