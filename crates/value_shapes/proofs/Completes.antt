@@ -1,5 +1,5 @@
 -- A value of the type that means the same is what is taken.
-use Rattle.std.proofs.Common.{◌≡◌, ◌∙◌, ℕ, suc, ◌^◌, ◌&&◌, ◌==◌, not, nat_le, Bool, true, false, List, [], ◌∷◌, length, map, Option, Some, None, Ok, Err, ap, sym, refl, subst, eqb-true, arith}
+use Rattle.std.proofs.Common.{◌≡◌, ◌∙◌, ℕ, ◌^◌, ◌&&◌, ◌==◌, not, nat_le, Bool, true, false, List, ◌∷◌, length, map, Option, Some, None, Ok, Err, ap, sym, refl, eqb-true, arith}
 use Rattle.std.specs.Prelude.{if◌then◌else◌, ℤ, pos, negsuc, unsigned_abs}
 use Rattle.std.specs.Option.{is_some}
 use Rattle.std.proofs.lemmas.Bool.Decides.{nat_tests}
@@ -18,7 +18,7 @@ use Rattle.sdf_values.specs.declared.type_name.TypeName.{TypeName}
 use Rattle.sdf_values.specs.declared.value.Value.{Value}
 use Rattle.sdf_values.specs.declared.value.Value.TheOpen.{Value-F}
 use Rattle.sdf_values.specs.declared.value.Value.TheVariants as value
-use Rattle.usda_values.specs.Scalars.{Taken, take_decimal, take_time, take_whole_time, in_128_bits, decimal_of_whole, time_of}
+use Rattle.usda_values.specs.Scalars.{Taken, take_decimal, take_time, take_whole_time, in_128_bits, decimal_of_whole}
 use Rattle.usda_values.specs.Shaping.{Taking, TakenAll, before_all, take_all, take_counted, as_tuple, as_array, take_tuple, take_step, take_item, taken}
 use Rattle.usda_values.proofs.TimeLaw.{time_found}
 use Rattle.value_shapes.specs.Held.{is_held, held_step, held_item, is_form}

@@ -1,12 +1,11 @@
 -- Values of one token: what is taken of them is of the type and means the same.
-use Rattle.std.proofs.Common.{◌≡◌, ◌∙◌, ℕ, ◌==◌, Bool, true, false, List, Option, Some, None, Result, Ok, Err, ap, sym, refl, subst, eqb-true}
+use Rattle.std.proofs.Common.{◌≡◌, ◌∙◌, ℕ, ◌==◌, Bool, true, false, List, Option, Some, None, Ok, Err, ap, sym, refl, subst, eqb-true}
 use Rattle.std.specs.Prelude.{codes, if◌then◌else◌, ℤ, pos, negsuc}
 use Rattle.std.specs.Cmp.Lexicographic.{pointwise, bytes_decides}
 use Rattle.sdf_values.specs.Numbers.{DecimalNumber}
 use Rattle.sdf_values.specs.Conforms.{holds, holds_step, item_step, is_between, whole_bounds, one}
 use Rattle.sdf_values.specs.declared.decimal.Num.{Num}
 use Rattle.sdf_values.specs.declared.decimal.Num.TheVariants as num
-use Rattle.sdf_values.specs.declared.refusal.RefusalKind.{RefusalKind}
 use Rattle.sdf_values.specs.declared.refusal.RefusalKind.TheVariants.{ValueShape}
 use Rattle.sdf_values.specs.declared.type_name.ElementType.{ElementType}
 use Rattle.sdf_values.specs.declared.type_name.ElementType.TheVariants as element
@@ -14,8 +13,8 @@ use Rattle.sdf_values.specs.declared.type_name.Precision.{Precision}
 use Rattle.sdf_values.specs.declared.type_name.TypeName.{TypeName}
 use Rattle.sdf_values.specs.declared.value.Value.{Value}
 use Rattle.sdf_values.specs.declared.value.Value.TheVariants as value
-use Rattle.usda_values.specs.Scalars.{Taken, take_element, take_bool, take_bool_word, take_bit, take_real, take_decimal, take_timecode, take_number_time, take_whole_time, take_time, take_text, take_asset, take_whole_value, take_whole, decimal_of_whole, time_of}
-use Rattle.value_shapes.specs.Meanings.{SameMeaning, itself, whole_as_number, whole_as_time, number_as_time, number_as_truth, word_as_truth, truth_number, truth_word}
+use Rattle.usda_values.specs.Scalars.{Taken, take_element, take_bool, take_bool_word, take_bit, take_real, take_decimal, take_timecode, take_number_time, take_whole_time, take_time, take_text, take_asset, take_whole_value, decimal_of_whole, time_of}
+use Rattle.value_shapes.specs.Meanings.{SameMeaning, itself, whole_as_number, whole_as_time, number_as_time, number_as_truth, word_as_truth}
 use Rattle.value_shapes.specs.Held.{is_held, held_step, held_item}
 use Rattle.value_shapes.proofs.Values as fold
 use Rattle.value_shapes.proofs.Found.{decimal_held, time_limit}

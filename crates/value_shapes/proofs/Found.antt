@@ -1,6 +1,6 @@
 -- The decimal and the time of a number are found where there are any.
 use Rattle.std.proofs.Common.{◌≡◌, ◌≢◌, ◌∙◌, ℕ, zero, suc, ◌+◌, ◌*◌, ◌/◌, ◌%◌, ◌^◌, ◌<◌, ◌≤◌, ◌==◌, nat_lt, nat_le, Bool, true, false, Option, Some, None, ap, sym, refl, subst, arith, eqb-true}
-use Rattle.std.specs.Prelude.{if◌then◌else◌, ℤ, pos, negsuc, ◌+ℤ◌, ◌*ℤ◌, ◌≤ℤ◌, int_le, unsigned_abs}
+use Rattle.std.specs.Prelude.{if◌then◌else◌, ℤ, pos, negsuc, ◌+ℤ◌, ◌*ℤ◌, int_le, unsigned_abs}
 use Rattle.std.proofs.lemmas.Bool.Decides.{nat_tests}
 use Rattle.std.proofs.lemmas.Int.{ints}
 use Rattle.std.proofs.Math.Nat.{mul_assoc}
@@ -12,7 +12,7 @@ use Rattle.usda_values.specs.Scalars.{in_128_bits, stripped, tens_out, if_short,
 use Rattle.std.specs.Option.{is_some}
 use Rattle.value_shapes.specs.Held.{is_form}
 use Rattle.value_shapes.proofs.Forms.{at_least, form_found, held_size}
-use Rattle.value_shapes.proofs.Numbers.{IsWhole, whole_parts, signed_back, abs_zero, times_one, tens_joined, places_of, places}
+use Rattle.value_shapes.proofs.Numbers.{whole_parts, signed_back, times_one, tens_joined, places_of, places}
 
 -- a number without the tens that divide it
 record IsStripped (fuel n tens : ℕ) : Type 0 where

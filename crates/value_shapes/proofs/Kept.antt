@@ -1,5 +1,5 @@
 -- A value of a type is taken as it is, level by level.
-use Rattle.std.proofs.Common.{◌≡◌, ◌∙◌, ℕ, zero, suc, ◌&&◌, ◌||◌, ◌==◌, not, Bool, true, false, List, [], ◌∷◌, length, map, Option, Some, None, Ok, Err, ap, sym, refl, eqb-true}
+use Rattle.std.proofs.Common.{◌≡◌, ◌∙◌, ℕ, ◌&&◌, ◌==◌, not, Bool, true, false, List, [], ◌∷◌, length, map, Option, Some, None, Ok, Err, ap, sym, refl, eqb-true}
 use Rattle.std.specs.Prelude.{if◌then◌else◌, ℤ}
 use Rattle.std.proofs.lemmas.List.{length-map}
 use Rattle.sdf_values.specs.Conforms.{holds, holds_step, item_step, is_element, is_between, whole_bounds, all_hold, are_members, members_of, one}
@@ -8,7 +8,7 @@ use Rattle.sdf_values.specs.declared.refusal.RefusalKind.TheVariants.{ValueShape
 use Rattle.sdf_values.specs.declared.type_name.ElementType.{ElementType}
 use Rattle.sdf_values.specs.declared.type_name.ElementType.TheVariants as element
 use Rattle.sdf_values.specs.declared.type_name.TypeName.{TypeName}
-use Rattle.sdf_values.specs.declared.value.DictItem.{DictItem, fold-DictItem}
+use Rattle.sdf_values.specs.declared.value.DictItem.{fold-DictItem}
 use Rattle.sdf_values.specs.declared.value.Value.{Value}
 use Rattle.sdf_values.specs.declared.value.Value.TheOpen.{Value-F}
 use Rattle.sdf_values.specs.declared.value.Value.TheVariants as value

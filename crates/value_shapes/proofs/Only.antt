@@ -1,5 +1,5 @@
 -- The laws on the one value of the type that means the same.
-use Rattle.std.proofs.Common.{◌≡◌, ◌∙◌, Bool, true, false, Ok, Err, ap, sym, refl, subst}
+use Rattle.std.proofs.Common.{◌≡◌, true, Ok, Err, ap, sym, refl, subst}
 use Rattle.sdf_values.specs.Conforms.{conforms}
 use Rattle.sdf_values.specs.declared.refusal.RefusalKind.{RefusalKind}
 use Rattle.sdf_values.specs.declared.type_name.TypeName.{TypeName}

@@ -1,21 +1,18 @@
 -- What is taken of a value is of the type and means the same, level by level.
-use Rattle.std.proofs.Common.{◌≡◌, ◌∙◌, ℕ, zero, suc, ◌&&◌, ◌==◌, Bool, true, false, List, [], ◌∷◌, length, map, Option, Some, None, Ok, Err, ap, sym, refl, subst, eq-eqb}
+use Rattle.std.proofs.Common.{◌≡◌, ◌∙◌, ℕ, zero, suc, ◌&&◌, Bool, true, false, List, [], ◌∷◌, length, map, Option, Some, None, Ok, Err, ap, sym, refl, subst, eq-eqb}
 use Rattle.std.specs.Prelude.{if◌then◌else◌}
 use Rattle.std.proofs.lemmas.List.{length-map}
-use Rattle.sdf_values.specs.Conforms.{holds, holds_step, item_step, is_block, is_block_step, is_block_item, conforms, all_hold, are_members, members_of, one}
-use Rattle.sdf_values.specs.declared.refusal.RefusalKind.{RefusalKind}
+use Rattle.sdf_values.specs.Conforms.{holds, holds_step, item_step, all_hold, are_members, members_of, one}
 use Rattle.sdf_values.specs.declared.refusal.RefusalKind.TheVariants.{ValueShape}
 use Rattle.sdf_values.specs.declared.type_name.ElementType.{ElementType}
 use Rattle.sdf_values.specs.declared.type_name.TypeName.{TypeName}
-use Rattle.sdf_values.specs.declared.value.DictItem.{DictItem, fold-DictItem}
 use Rattle.sdf_values.specs.declared.value.Value.{Value}
-use Rattle.sdf_values.specs.declared.value.Value.TheOpen.{Value-F}
 use Rattle.sdf_values.specs.declared.value.Value.TheVariants as value
 use Rattle.usda_values.specs.Scalars.{Taken, take_element}
-use Rattle.usda_values.specs.Shaping.{Taking, TakenAll, before_all, take_all, take_counted, as_tuple, as_array, take_tuple, take_leaf, take_step, take_item, taken, take_shape}
+use Rattle.usda_values.specs.Shaping.{Taking, TakenAll, before_all, take_all, take_counted, as_tuple, as_array, take_tuple, take_leaf, take_step, take_item, taken}
 use Rattle.sdf_values.specs.Proper.{all_true}
 use Rattle.value_shapes.specs.Held.{is_held, held_step, held_item}
-use Rattle.value_shapes.specs.Meanings.{SameMeaning, SameMeanings, itself, tuple, array, none, more}
+use Rattle.value_shapes.specs.Meanings.{SameMeanings, tuple, array, none, more}
 use Rattle.value_shapes.proofs.Values as fold
 use Rattle.value_shapes.proofs.Values.{Each, Cases, by_cases}
 use Rattle.value_shapes.proofs.Elements.{Test, Fits, element_fits}

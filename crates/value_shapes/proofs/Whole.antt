@@ -2,10 +2,9 @@
 use Rattle.std.proofs.Common.{◌≡◌, ◌∙◌, ◌||◌, Bool, true, false, Ok, ap, sym, refl, subst}
 use Rattle.sdf_values.specs.Conforms.{holds, is_block, is_block_step, is_block_item, conforms}
 use Rattle.sdf_values.specs.declared.type_name.TypeName.{TypeName}
-use Rattle.sdf_values.specs.declared.value.DictItem.{fold-DictItem}
 use Rattle.sdf_values.specs.declared.value.Value.{Value}
 use Rattle.sdf_values.specs.declared.value.Value.TheVariants as value
-use Rattle.usda_values.specs.Shaping.{take_shape, take_shape_step, taken}
+use Rattle.usda_values.specs.Shaping.{take_shape, take_shape_step}
 use Rattle.value_shapes.specs.Held.{is_held}
 use Rattle.value_shapes.specs.Meanings.{SameMeaning, itself}
 use Rattle.value_shapes.proofs.Values as fold

@@ -1,10 +1,11 @@
 -- Values whose numbers are such as a program holds them.
-use Rattle.std.specs.Prelude.{ℕ, Bool, true, false, not, ◌&&◌, ◌||◌, ◌==◌, ◌%◌, ◌^◌, nat_le, nat_lt, List, ℤ, pos, negsuc, int_le, unsigned_abs}
+use Rattle.std.specs.Prelude.{Bool, true, not, ◌&&◌, ◌||◌, ◌==◌, ◌%◌, ◌^◌, nat_le, nat_lt, pos, negsuc, int_le, unsigned_abs}
 use Rattle.std.specs.Option.{is_some}
 use Rattle.sdf_values.specs.Numbers.{DecimalNumber}
 use Rattle.sdf_values.specs.Proper.{all_true}
 use Rattle.sdf_values.specs.declared.decimal.Num.{Num}
 use Rattle.sdf_values.specs.declared.decimal.Num.TheVariants as num
+use Rattle.sdf_values.specs.declared.value.DictItem.{DictItem, fold-DictItem}
 use Rattle.sdf_values.specs.declared.value.Value.{Value, fold-Value}
 use Rattle.sdf_values.specs.declared.value.Value.TheOpen.{Value-F, DictItem-F}
 use Rattle.usda_values.specs.Scalars.{in_128_bits}
@@ -35,3 +36,6 @@ held_item item = item.value
 -- whole numbers within 128 signed bits, decimals in their one form, times within 10^12 whole units of 0
 abbrev pub is_held : Value → Bool
 is_held = fold-Value Bool Bool held_step held_item
+
+abbrev pub is_held_item : DictItem → Bool
+is_held_item = fold-DictItem Bool Bool held_step held_item

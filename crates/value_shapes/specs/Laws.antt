@@ -1,11 +1,13 @@
 -- What holds of the value that is taken of another as one of a type.
-use Rattle.std.specs.Prelude.{◌≡◌, ◌↔◌, true, Ok, Err}
+use Rattle.std.specs.Prelude.{◌≡◌, ◌↔◌, true, Result, Ok, Err}
 use Rattle.sdf_values.specs.Conforms.{conforms}
 use Rattle.sdf_values.specs.Numbers.{DecimalNumber, IsDecimal}
 use Rattle.sdf_values.specs.declared.refusal.RefusalKind.{RefusalKind}
 use Rattle.sdf_values.specs.declared.type_name.TypeName.{TypeName}
 use Rattle.sdf_values.specs.declared.value.Value.{Value}
 use Rattle.usda_values.specs.Shaping.{take_shape}
+use Rattle.usda_values.specs.declared.fault.ValueFault.{ValueFault}
+use Rattle.usda_values.specs.declared.fault.ValueFault.TheVariants.{Refused, NoMemory}
 use Rattle.value_shapes.specs.Held.{is_form, is_held}
 use Rattle.value_shapes.specs.Meanings.{SameMeaning}
 
@@ -34,3 +36,9 @@ pub record AreTheOnly : Type 0 where
   pub one : (t : TypeName) (v w u : Value) → is_held v ≡ true → is_held w ≡ true → is_held u ≡ true → SameMeaning v w → SameMeaning v u → conforms w t ≡ true → conforms u t ≡ true → w ≡ u
   -- each decimal that a program holds passes the test
   pub decimals : (d : DecimalNumber) → (is_form d ≡ true) ↔ IsDecimal d
+
+-- this value and no other, and no refusal, unless memory runs out
+abbrev pub GivesOnly : Result Value ValueFault → Value → Type 0
+GivesOnly (Ok u) w = u ≡ w
+GivesOnly (Err (Refused kind at)) w = ⊥
+GivesOnly (Err NoMemory) w = Unit {0}

@@ -4,9 +4,11 @@
 //! function that does nothing.
 #![tactic(auto)]
 
+mod held;
 mod laws;
 mod shaped;
 
+pub use held::numbers_are_held;
 pub use laws::{
     meanings_are_apart, taken_values_are_of_the_meaning, taken_values_are_of_the_type,
     taken_values_are_the_only, taken_values_stay, values_of_the_type_are_kept,

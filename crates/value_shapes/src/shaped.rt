@@ -1,7 +1,10 @@
 //! A value as one of a type.
 ghost use Rattle.std.specs.Prelude.{◌≡◌, true, Ok, Err, IfOk};
 ghost use Rattle.sdf_values.specs.Conforms.{conforms};
+ghost use Rattle.sdf_values.specs.declared.value.Value.{Value};
 ghost use Rattle.usda_values.specs.Shaping.{AnswersShape, take_shape};
+ghost use Rattle.value_shapes.specs.Held.{is_held};
+ghost use Rattle.value_shapes.specs.Laws.{GivesOnly};
 ghost use Rattle.value_shapes.specs.Meanings.{SameMeaning};
 
 use sdf_values::{TypeName, Value};
@@ -11,10 +14,14 @@ use usda_values::{ValueFault, take_shape};
 /// The value of the type that means the same as this one. A value of the type is answered as it is.
 ///
 /// The refusal is that of `take_shape`: its kind is the first that a reader of the same tokens would meet, its `at` is 0.
+/// A value is refused only where none of the type means the same, since the numbers of each value that a program has are
+/// held as the last clause but one wants it: `numbers_are_held`.
 pub fn value_of_type(alloc: Global, ty: TypeName, v: Value) -> Result<Value, ValueFault>
     ensures of_the_type { IfOk result (λ w. conforms w ty ≡ true) }
     ensures of_the_meaning { IfOk result (λ w. SameMeaning v w) }
     ensures kept { conforms v ty ≡ true → IfOk result (λ w. w ≡ v) }
+    // where some value of the type means the same, it is answered
+    ensures only { (w : Value) → is_held v ≡ true → is_held w ≡ true → SameMeaning v w → conforms w ty ≡ true → GivesOnly result w }
     // the answer and the refusal by the definition
     ensures answer { AnswersShape result (take_shape ty v) }
 {

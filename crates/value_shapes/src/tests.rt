@@ -1,5 +1,5 @@
 //! What is read and taken as which value, told by the variants.
-use crate::value_of_type;
+use crate::{numbers_are_held, value_of_type};
 use sdf_values::{
     DictItem, DictType, ElementType, Num, Precision, RefusalKind, TypeName, Value, Width,
 };
@@ -335,4 +335,11 @@ fn a_number_with_a_point_is_no_int(rt: HostRuntime) -> Result<(), Fail> {
         }
         _ => Err(Fail::from("not refused")),
     }
+}
+
+#[test]
+fn each_number_is_held(rt: HostRuntime) -> Result<(), Fail> {
+    let value = untyped(rt.alloc(), "(1, 0.5, inf)")?;
+    numbers_are_held(&value);
+    Ok(())
 }
