@@ -1,5 +1,5 @@
 -- What means the same as a value of each kind.
-use Rattle.std.proofs.Common.{◌≡◌, ◌⊎◌, inl, inr, ℕ, Bool, List, refl, subst}
+use Rattle.std.proofs.Common.{◌≡◌, ◌⊎◌, inl, inr, ℕ, Bool, List, [], ◌∷◌, refl, subst}
 use Rattle.std.specs.Prelude.{ℤ, pos, negsuc}
 use Rattle.sdf_values.specs.Numbers.{DecimalNumber, SameNumber}
 use Rattle.sdf_values.specs.Scales.{IsTimeOf}
@@ -9,7 +9,8 @@ use Rattle.sdf_values.specs.declared.value.DictItem.{DictItem}
 use Rattle.sdf_values.specs.declared.value.Value.{Value}
 use Rattle.sdf_values.specs.declared.value.Value.TheVariants as value
 use Rattle.value_shapes.specs.Apart.{IsOfWhole}
-use Rattle.value_shapes.specs.Meanings.{SameMeaning, itself, whole_as_number, whole_as_time, number_as_time, number_as_truth, word_as_truth, tuple, array, truth_word}
+use Rattle.value_shapes.proofs.Inside.{one_tuple, one_array}
+use Rattle.value_shapes.specs.Meanings.{SameMeaning, SameMeanings, itself, whole_as_number, whole_as_time, number_as_time, number_as_truth, word_as_truth, tuple, array, none, more, truth_word}
 
 pub truth_alone : (c : Bool) (v w : Value) → SameMeaning v w → v ≡ value.Bool c → w ≡ value.Bool c
 truth_alone c v w (itself _) e = e
@@ -116,3 +117,39 @@ whole_means m v w (number_as_truth b) e = inr (inr (inr (b, refl, cc)))
 whole_means m v w (word_as_truth b) e = absurd cc
 whole_means m v w (tuple vs ws k) e = absurd cc
 whole_means m v w (array vs ws k) e = absurd cc
+
+same_each : (vs : List Value) → SameMeanings vs vs
+same_each [] = none
+same_each (v ∷ vs) = more v v vs vs (itself v) (same_each vs)
+
+abbrev IsTuple : List Value → Value → Type 0
+IsTuple us w = (ws : List Value) × (w ≡ value.Tuple ws) × SameMeanings us ws
+
+abbrev IsArray : List Value → Value → Type 0
+IsArray us w = (ws : List Value) × (w ≡ value.Array ws) × SameMeanings us ws
+
+of_tuple : (us vs ws : List Value) → SameMeanings vs ws → vs ≡ us → IsTuple us (value.Tuple ws)
+of_tuple us vs ws k e = (ws, refl, subst (λ l. SameMeanings l ws) e k)
+
+of_array : (us vs ws : List Value) → SameMeanings vs ws → vs ≡ us → IsArray us (value.Array ws)
+of_array us vs ws k e = (ws, refl, subst (λ l. SameMeanings l ws) e k)
+
+pub tuple_means : (us : List Value) (v w : Value) → SameMeaning v w → v ≡ value.Tuple us → (ws : List Value) × (w ≡ value.Tuple ws) × SameMeanings us ws
+tuple_means us v w (itself _) e = (us, e, same_each us)
+tuple_means us v w (whole_as_number n d k) e = absurd cc
+tuple_means us v w (whole_as_time n t k) e = absurd cc
+tuple_means us v w (number_as_time d t k) e = absurd cc
+tuple_means us v w (number_as_truth b) e = absurd cc
+tuple_means us v w (word_as_truth b) e = absurd cc
+tuple_means us v w (tuple vs ws k) e = of_tuple us vs ws k (one_tuple vs us e)
+tuple_means us v w (array vs ws k) e = absurd cc
+
+pub array_means : (us : List Value) (v w : Value) → SameMeaning v w → v ≡ value.Array us → (ws : List Value) × (w ≡ value.Array ws) × SameMeanings us ws
+array_means us v w (itself _) e = (us, e, same_each us)
+array_means us v w (whole_as_number n d k) e = absurd cc
+array_means us v w (whole_as_time n t k) e = absurd cc
+array_means us v w (number_as_time d t k) e = absurd cc
+array_means us v w (number_as_truth b) e = absurd cc
+array_means us v w (word_as_truth b) e = absurd cc
+array_means us v w (tuple vs ws k) e = absurd cc
+array_means us v w (array vs ws k) e = of_array us vs ws k (one_array vs us e)

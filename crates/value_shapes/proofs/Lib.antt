@@ -5,6 +5,7 @@ pub mod Taken
 pub mod Kept
 pub mod Whole
 pub mod Answered
+pub mod Inside
 pub mod Apart
 pub mod Forms
 pub mod Found

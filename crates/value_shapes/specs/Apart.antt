@@ -7,7 +7,7 @@ use Rattle.sdf_values.specs.declared.decimal.Num.TheVariants as num
 use Rattle.sdf_values.specs.declared.value.DictItem.{DictItem}
 use Rattle.sdf_values.specs.declared.value.Value.{Value}
 use Rattle.sdf_values.specs.declared.value.Value.TheVariants as value
-use Rattle.value_shapes.specs.Meanings.{SameMeaning, truth_number, truth_word}
+use Rattle.value_shapes.specs.Meanings.{SameMeaning, SameMeanings, truth_number, truth_word}
 
 -- the decimal, the time or the truth value of a whole number
 abbrev pub IsOfWhole : ℤ → Value → Type 0
@@ -28,3 +28,6 @@ pub record AreApart : Type 0 where
   pub word : (s : List ℕ) (w : Value) → SameMeaning (value.Word s) w → (w ≡ value.Word s) ⊎ ((b : Bool) × (w ≡ value.Bool b) × (s ≡ truth_word b))
   pub number : (x : Num) (w : Value) → SameMeaning (value.Number x) w → (w ≡ value.Number x) ⊎ ((d : DecimalNumber) × (units : ℤ) × (x ≡ num.Finite d) × (w ≡ value.Time units) × IsTimeOf d units)
   pub whole : (n : ℤ) (w : Value) → SameMeaning (value.Whole n) w → (w ≡ value.Whole n) ⊎ IsOfWhole n w
+  -- a tuple of as many members, each of the meaning of the one at its place, and the same of arrays
+  pub tuple : (vs : List Value) (w : Value) → SameMeaning (value.Tuple vs) w → (ws : List Value) × (w ≡ value.Tuple ws) × SameMeanings vs ws
+  pub array : (vs : List Value) (w : Value) → SameMeaning (value.Array vs) w → (ws : List Value) × (w ≡ value.Array ws) × SameMeanings vs ws

@@ -28,8 +28,9 @@ pub fn taken_values_are_the_only()
     ensures { AreTheOnly }
 {}
 
-/// What means the same as a value of one token or as a dictionary: beside the value itself only the decimal, the time and
-/// the truth value of a whole number, the time of a decimal, and the truth value of its word.
+/// What means the same as a value of each kind: beside the value itself only the decimal, the time and the truth value of
+/// a whole number, the time of a decimal, the truth value of its word, and tuples and arrays of as many members of the
+/// same meanings.
 pub fn meanings_are_apart()
     ensures { AreApart }
 {}

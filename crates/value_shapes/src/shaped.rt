@@ -13,9 +13,9 @@ use usda_values::{ValueFault, take_shape};
 
 /// The value of the type that means the same as this one. A value of the type is answered as it is.
 ///
+/// Where some value of the type means the same, it is answered, and no value is refused, unless memory runs out. That
+/// clause speaks of values whose numbers are held as a program holds them: `numbers_are_held` shows this of each value.
 /// The refusal is that of `take_shape`: its kind is the first that a reader of the same tokens would meet, its `at` is 0.
-/// A value is refused only where none of the type means the same, since the numbers of each value that a program has are
-/// held as the last clause but one wants it: `numbers_are_held`.
 pub fn value_of_type(alloc: Global, ty: TypeName, v: Value) -> Result<Value, ValueFault>
     ensures of_the_type { IfOk result (λ w. conforms w ty ≡ true) }
     ensures of_the_meaning { IfOk result (λ w. SameMeaning v w) }

@@ -1,6 +1,6 @@
 use Rattle.std.proofs.Common.{refl}
 use Rattle.sdf_values.specs.declared.value.Value.TheVariants as value
-use Rattle.value_shapes.proofs.Apart.{truth_alone, time_alone, text_alone, asset_alone, path_alone, dict_alone, block_alone, word_means, number_means, whole_means}
+use Rattle.value_shapes.proofs.Apart.{truth_alone, time_alone, text_alone, asset_alone, path_alone, dict_alone, block_alone, word_means, number_means, whole_means, tuple_means, array_means}
 use Rattle.value_shapes.proofs.laws.meanings_are_apart.Goals as goal
 
 pub returns : goal.returns
@@ -15,4 +15,6 @@ returns c = record {
   word = λ s w h. word_means s (value.Word s) w h refl;
   number = λ x w h. number_means x (value.Number x) w h refl;
   whole = λ n w h. whole_means n (value.Whole n) w h refl;
+  tuple = λ vs w h. tuple_means vs (value.Tuple vs) w h refl;
+  array = λ vs w h. array_means vs (value.Array vs) w h refl;
 }
