@@ -23,11 +23,13 @@ use Rattle.usda_values.specs.Shaping.{Taking, TakenAll, before_all, take_all, ta
 use Rattle.usda_values.proofs.TimeLaw.{time_found}
 use Rattle.value_shapes.specs.Held.{is_held, held_step, held_item, is_form}
 use Rattle.value_shapes.specs.Meanings.{SameMeaning, SameMeanings, itself, whole_as_number, whole_as_time, number_as_time, number_as_truth, word_as_truth, tuple, array, none, more, truth_number, truth_word}
+use Rattle.value_shapes.proofs.Bools.{both}
 use Rattle.value_shapes.proofs.Values as fold
 use Rattle.value_shapes.proofs.Elements.{Test}
 use Rattle.value_shapes.proofs.Forms.{form_is, held_size}
 use Rattle.value_shapes.proofs.Found.{decimal_found, time_found_of}
 use Rattle.value_shapes.proofs.Kept.{kept}
+use Rattle.value_shapes.proofs.Taken.{typed}
 
 -- the value is taken wherever it is one of the type
 abbrev IsFound : Value → Value → Type 0
@@ -38,14 +40,7 @@ AreFound vs ws =
     all_true (map is_held vs) ≡ true → all_true (map is_held ws) ≡ true → (t : TypeName) → all_hold (map holds ws) t ≡ true
     → (take_all (map taken vs) t ≡ Ok ws) × (take_counted (length ws) (map taken vs) t ≡ Ok ws)
 
-both : (a b : Bool) → (a && b) ≡ true → (a ≡ true) × (b ≡ true)
-both true b e = (refl, e)
-both false b e = absurd cc
-
 -- the types of the values of one token
-abbrev typed : ElementType → Bool → TypeName
-typed e a = record { element = e; array = a }
-
 real_type : (x : Num) (a : Bool) (e : ElementType) → (not a && is_element (Value-F.Number x) e) ≡ true → (p : Precision) × (typed e a ≡ one (element.Real p))
 real_type x false (element.Real p) h = (p, refl)
 real_type x false _ h = absurd cc

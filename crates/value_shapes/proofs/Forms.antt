@@ -8,14 +8,8 @@ use Rattle.sdf_values.specs.Numbers.{DecimalNumber, IsDecimal, zero_number}
 use Rattle.sdf_values.proofs.Powers.{same_parts}
 use Rattle.usda_values.specs.Scalars.{in_128_bits}
 use Rattle.value_shapes.specs.Held.{is_zero, is_form}
+use Rattle.value_shapes.proofs.Bools.{both, and_true}
 use Rattle.value_shapes.proofs.Numbers.{abs_zero}
-
-both : (a b : Bool) → (a && b) ≡ true → (a ≡ true) × (b ≡ true)
-both true b e = (refl, e)
-both false b e = absurd cc
-
-and_true : (a b : Bool) → a ≡ true → b ≡ true → (a && b) ≡ true
-and_true a b e f = ap (λ x. x && b) e ∙ f
 
 zero_is : (d : DecimalNumber) → is_zero d ≡ true → d ≡ zero_number
 zero_is d h =

@@ -14,6 +14,7 @@ use Rattle.sdf_values.specs.declared.value.Value.TheOpen.{Value-F}
 use Rattle.sdf_values.specs.declared.value.Value.TheVariants as value
 use Rattle.usda_values.specs.Scalars.{Taken, take_element, take_whole}
 use Rattle.usda_values.specs.Shaping.{Taking, TakenAll, before_all, take_all, take_counted, as_tuple, as_array, take_tuple, take_leaf, take_step, take_item, taken}
+use Rattle.value_shapes.proofs.Bools.{both}
 use Rattle.value_shapes.proofs.Values as fold
 use Rattle.value_shapes.proofs.Values.{Each, Cases, by_cases}
 use Rattle.value_shapes.proofs.Elements.{Test}
@@ -21,10 +22,6 @@ use Rattle.value_shapes.proofs.Elements.{Test}
 -- the value is taken as it is wherever it is one of the type
 abbrev pub IsKept : Value → Type 0
 IsKept v = (t : TypeName) → holds v t ≡ true → taken v t ≡ Ok v
-
-both : (a b : Bool) → (a && b) ≡ true → (a ≡ true) × (b ≡ true)
-both true b e = (refl, e)
-both false b e = absurd cc
 
 -- values of one token
 truth_kept : (b : Bool) (e : ElementType) → is_element (Value-F.Bool b) e ≡ true → take_element e (value.Bool b) ≡ Ok (value.Bool b)

@@ -1,3 +1,4 @@
+pub mod Bools
 pub mod Values
 pub mod Numbers
 pub mod Elements
@@ -11,3 +12,5 @@ pub mod Forms
 pub mod Found
 pub mod Completes
 pub mod Only
+pub mod TypedLevels
+pub mod TypedReading

@@ -13,6 +13,7 @@ use Rattle.usda_values.specs.Shaping.{Taking, TakenAll, before_all, take_all, ta
 use Rattle.sdf_values.specs.Proper.{all_true}
 use Rattle.value_shapes.specs.Held.{is_held, held_step, held_item}
 use Rattle.value_shapes.specs.Meanings.{SameMeanings, tuple, array, none, more}
+use Rattle.value_shapes.proofs.Bools.{both}
 use Rattle.value_shapes.proofs.Values as fold
 use Rattle.value_shapes.proofs.Values.{Each, Cases, by_cases}
 use Rattle.value_shapes.proofs.Elements.{Test, Fits, element_fits}
@@ -21,20 +22,16 @@ use Rattle.value_shapes.proofs.Elements.{Test, Fits, element_fits}
 abbrev pub IsFitting : Value → Type 0
 IsFitting v = (t : TypeName) (w : Value) → taken v t ≡ Ok w → Fits t v w
 
-abbrev typed : ElementType → Bool → TypeName
+abbrev pub typed : ElementType → Bool → TypeName
 typed e a = record { element = e; array = a }
 
 -- values of one token
-leaf_cases : (a : Bool) (e : ElementType) (v w : Value) → (if a then Err ValueShape else take_element e v) ≡ Ok w → Fits (typed e a) v w
+pub leaf_cases : (a : Bool) (e : ElementType) (v w : Value) → (if a then Err ValueShape else take_element e v) ≡ Ok w → Fits (typed e a) v w
 leaf_cases true e v w h = absurd cc
 leaf_cases false e v w h = element_fits e v w h
 
 leaf : (v : Value) → ((t : TypeName) → taken v t ≡ take_leaf v t) → IsFitting v
 leaf v is t w h = leaf_cases t.array t.element v w (sym (is t) ∙ h)
-
-both : (a b : Bool) → (a && b) ≡ true → (a ≡ true) × (b ≡ true)
-both true b e = (refl, e)
-both false b e = absurd cc
 
 -- members that were taken
 record Members (vs ws : List Value) (t : TypeName) : Type 0 where
@@ -85,7 +82,7 @@ counted_fit (v ∷ vs) each (suc n) t us h = first (taken v t) refl h (λ ws g. 
     first (Err k) e g rest = absurd cc
 
 -- tuples
-holds_tuple : (ws : List Value) (e : ElementType) (m : ElementType × ℕ) → members_of e ≡ Some m → length ws ≡ m.1 → all_hold (map holds ws) (one m.0) ≡ true → holds (value.Tuple ws) (one e) ≡ true
+pub holds_tuple : (ws : List Value) (e : ElementType) (m : ElementType × ℕ) → members_of e ≡ Some m → length ws ≡ m.1 → all_hold (map holds ws) (one m.0) ≡ true → holds (value.Tuple ws) (one e) ≡ true
 holds_tuple ws e m is count all =
     ap (λ f. f (one e)) (fold.of_tuple Test Test holds_step item_step ws) ∙ ap (λ o. are_members o (map holds ws)) is
     ∙ ap (λ b. b && all_hold (map holds ws) (one m.0)) (eq-eqb (length (map holds ws)) m.1 (length-map ws holds ∙ count)) ∙ all
@@ -114,7 +111,7 @@ tuple_fits : (vs : List Value) → Each IsFitting vs → IsFitting (value.Tuple 
 tuple_fits vs each t w h = tuple_cases vs each t.array t.element w (sym (ap (λ f. f t) (fold.of_tuple Taking Taking take_step take_item vs)) ∙ h)
 
 -- arrays
-holds_array : (ws : List Value) (e : ElementType) → all_hold (map holds ws) (one e) ≡ true → holds (value.Array ws) (typed e true) ≡ true
+pub holds_array : (ws : List Value) (e : ElementType) → all_hold (map holds ws) (one e) ≡ true → holds (value.Array ws) (typed e true) ≡ true
 holds_array ws e all = ap (λ f. f (typed e true)) (fold.of_array Test Test holds_step item_step ws) ∙ all
 
 array_of : (vs : List Value) (e : ElementType) (r : TakenAll) (w : Value) → ((us : List Value) → r ≡ Ok us → Members vs us (one e)) → as_array r ≡ Ok w → Fits (typed e true) (value.Array vs) w

@@ -7,18 +7,15 @@ use Rattle.sdf_values.specs.declared.value.Value.TheVariants as value
 use Rattle.usda_values.specs.Shaping.{take_shape, take_shape_step}
 use Rattle.value_shapes.specs.Held.{is_held}
 use Rattle.value_shapes.specs.Meanings.{SameMeaning, itself}
+use Rattle.value_shapes.proofs.Bools.{or_true}
 use Rattle.value_shapes.proofs.Values as fold
 use Rattle.value_shapes.proofs.Values.{Cases, by_cases}
 use Rattle.value_shapes.proofs.Elements.{Fits}
 use Rattle.value_shapes.proofs.Taken.{fits}
 use Rattle.value_shapes.proofs.Kept.{kept}
 
-block_is : is_block value.Block ≡ true
+pub block_is : is_block value.Block ≡ true
 block_is = fold.of_block Bool Bool is_block_step is_block_item
-
-or_true : (a b : Bool) → b ≡ true → (a || b) ≡ true
-or_true true b h = cc
-or_true false b h = h
 
 -- a value of the type or the block, and of the meaning, with numbers as a program holds them where those of the first are
 pub record FitsWhole (t : TypeName) (v w : Value) : Type 0 where

@@ -1,10 +1,16 @@
 -- What holds of the value that is taken of another as one of a type.
-use Rattle.std.specs.Prelude.{◌≡◌, ◌↔◌, true, Result, Ok, Err}
+use Rattle.std.specs.Prelude.{◌≡◌, ◌↔◌, ℕ, true, List, Option, Result, Ok, Err}
 use Rattle.sdf_values.specs.Conforms.{conforms}
 use Rattle.sdf_values.specs.Numbers.{DecimalNumber, IsDecimal}
 use Rattle.sdf_values.specs.declared.refusal.RefusalKind.{RefusalKind}
 use Rattle.sdf_values.specs.declared.type_name.TypeName.{TypeName}
 use Rattle.sdf_values.specs.declared.value.Value.{Value}
+use Rattle.usda_lexer.specs.declared.token.LexFault.{LexFault}
+use Rattle.usda_lexer.specs.Words.{Word, Lexing}
+use Rattle.usda_values.specs.declared.level.Place.TheVariants as place
+use Rattle.usda_values.specs.declared.shape.Shape.TheVariants.{Typed}
+use Rattle.usda_values.specs.Drafts.{draft_of}
+use Rattle.usda_values.specs.Reads.{got, reads}
 use Rattle.usda_values.specs.Shaping.{take_shape}
 use Rattle.usda_values.specs.declared.fault.ValueFault.{ValueFault}
 use Rattle.usda_values.specs.declared.fault.ValueFault.TheVariants.{Refused, NoMemory}
@@ -42,3 +48,8 @@ abbrev pub GivesOnly : Result Value ValueFault → Value → Type 0
 GivesOnly (Ok u) w = u ≡ w
 GivesOnly (Err (Refused kind at)) w = ⊥
 GivesOnly (Err NoMemory) w = Unit {0}
+
+-- what is read where a type is expected, directly behind the `=` of a statement, is of the type
+abbrev pub AreReadOfTheType : Type 0
+AreReadOfTheType =
+    (t : TypeName) (ws : List Word) (f : Option LexFault) (end : ℕ) (v : Value) (left : Lexing) → reads ws f end (draft_of place.Value (Typed t)) ≡ got v left → conforms v t ≡ true

@@ -1,6 +1,6 @@
 // What holds of a value that is taken as one of a type, each law as the clause of a function that does nothing.
 ghost use Rattle.value_shapes.specs.Apart.{AreApart};
-ghost use Rattle.value_shapes.specs.Laws.{AreOfTheType, AreKept, AreOfTheMeaning, AreTakenOnce, AreTheOnly};
+ghost use Rattle.value_shapes.specs.Laws.{AreOfTheType, AreKept, AreOfTheMeaning, AreTakenOnce, AreTheOnly, AreReadOfTheType};
 
 /// What is taken of a value as one of a type is one of the type.
 pub fn taken_values_are_of_the_type()
@@ -26,6 +26,11 @@ pub fn taken_values_stay()
 /// does.
 pub fn taken_values_are_the_only()
     ensures { AreTheOnly }
+{}
+
+/// What is read where a type is expected is one of the type.
+pub fn typed_values_are_of_the_type()
+    ensures { AreReadOfTheType }
 {}
 
 /// What means the same as a value of each kind: beside the value itself only the decimal, the time and the truth value of

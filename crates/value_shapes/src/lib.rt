@@ -11,7 +11,8 @@ mod shaped;
 pub use held::numbers_are_held;
 pub use laws::{
     meanings_are_apart, taken_values_are_of_the_meaning, taken_values_are_of_the_type,
-    taken_values_are_the_only, taken_values_stay, values_of_the_type_are_kept,
+    taken_values_are_the_only, taken_values_stay, typed_values_are_of_the_type,
+    values_of_the_type_are_kept,
 };
 pub use shaped::value_of_type;
 
