@@ -14,7 +14,7 @@ pub use laws::{
     taken_values_are_the_only, taken_values_stay, typed_values_are_of_the_type,
     values_of_the_type_are_kept,
 };
-pub use shaped::value_of_type;
+pub use shaped::{read_of_type, value_of_type};
 
 #[cfg(test)]
 mod tests;

@@ -1,15 +1,20 @@
-//! A value as one of a type.
+//! A value as one of a type, and a value that is read as one.
 ghost use Rattle.std.specs.Prelude.{◌≡◌, true, Ok, Err, IfOk};
 ghost use Rattle.sdf_values.specs.Conforms.{conforms};
 ghost use Rattle.sdf_values.specs.declared.value.Value.{Value};
+ghost use Rattle.usda_values.specs.Drafts.{draft_of};
+ghost use Rattle.usda_values.specs.Reads.{AnswersRead};
 ghost use Rattle.usda_values.specs.Shaping.{AnswersShape, take_shape};
+ghost use Rattle.usda_values.specs.declared.level.Place.TheVariants as place;
+ghost use Rattle.usda_values.specs.declared.shape.Shape.TheVariants.{Typed};
 ghost use Rattle.value_shapes.specs.Held.{is_held};
 ghost use Rattle.value_shapes.specs.Laws.{GivesOnly};
 ghost use Rattle.value_shapes.specs.Meanings.{SameMeaning};
 
 use sdf_values::{TypeName, Value};
 use std::alloc::Global;
-use usda_values::{ValueFault, take_shape};
+use usda_lexer::Tokens;
+use usda_values::{Shape, ValueFault, read_shaped, take_shape};
 
 /// The value of the type that means the same as this one. A value of the type is answered as it is.
 ///
@@ -26,4 +31,18 @@ pub fn value_of_type(alloc: Global, ty: TypeName, v: Value) -> Result<Value, Val
     ensures answer { AnswersShape result (take_shape ty v) }
 {
     take_shape(alloc, ty, v)
+}
+
+/// Reads one value of the type, directly behind the `=` of a statement. After a refusal the tokens stand at the one that
+/// was refused.
+pub fn read_of_type(
+    alloc: Global,
+    ty: TypeName,
+    tokens: &mut Tokens<'_>,
+) -> Result<Value, ValueFault>
+    ensures of_the_type { IfOk result (λ w. conforms w ty ≡ true) }
+    // the value and what is left, or the first refusal with its place, by the definition
+    ensures answer { AnswersRead result (draft_of place.Value (Typed ty)) tokens.old tokens.new }
+{
+    read_shaped(alloc, Shape::Typed(ty), tokens)
 }

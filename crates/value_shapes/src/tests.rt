@@ -1,12 +1,12 @@
 //! What is read and taken as which value, told by the variants.
-use crate::{numbers_are_held, value_of_type};
+use crate::{numbers_are_held, read_of_type, value_of_type};
 use sdf_values::{
     DictItem, DictType, ElementType, Num, Precision, RefusalKind, TypeName, Value, Width,
 };
 use std::alloc::Global;
 use std::test::Fail;
 use usda_lexer::Tokens;
-use usda_values::{Shape, ValueFault, read_dict, read_shaped, read_value};
+use usda_values::{ValueFault, read_dict, read_value};
 
 // A value of which nothing is known.
 fn untyped(alloc: Global, text: &str) -> Result<Value, Fail> {
@@ -24,11 +24,11 @@ fn typed(alloc: Global, element: ElementType, text: &str) -> Result<Value, Fail>
     let Ok(mut tokens) = Tokens::new(text.as_bytes()) else {
         return Err(Fail::from("no UTF-8"));
     };
-    let shape = Shape::Typed(TypeName {
+    let ty = TypeName {
         element,
         array: false,
-    });
-    match read_shaped(alloc, shape, &mut tokens) {
+    };
+    match read_of_type(alloc, ty, &mut tokens) {
         Ok(value) => Ok(value),
         Err(_) => Err(Fail::from("refused")),
     }
