@@ -1,5 +1,5 @@
 -- The test for the one form of a decimal, and the size of a whole number that is held.
-use Rattle.std.proofs.Common.{◌≡◌, ◌∙◌, suc, ◌<◌, ◌^◌, ◌%◌, ◌&&◌, ◌||◌, ◌==◌, not, nat_lt, Bool, true, false, Some, None, ap, refl, arith, eqb-true, eq-eqb}
+use Rattle.std.proofs.Common.{◌≡◌, suc, ◌<◌, ◌^◌, ◌%◌, ◌&&◌, ◌||◌, ◌==◌, not, nat_lt, Bool, true, false, Some, None, ap, refl, arith, eqb-true, eq-eqb}
 use Rattle.std.specs.Prelude.{if◌then◌else◌, ℤ, pos, negsuc, ◌≤ℤ◌, int_le, unsigned_abs}
 use Rattle.std.specs.Option.{is_some}
 use Rattle.std.proofs.lemmas.Bool.Decides.{nat_tests}

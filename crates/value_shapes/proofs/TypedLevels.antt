@@ -1,9 +1,8 @@
 -- The levels of a value that is read where a type is expected: what stands in them is of the types of their members.
-use Rattle.std.proofs.Common.{◌≡◌, ◌∙◌, ℕ, zero, suc, ◌+◌, ◌&&◌, ◌||◌, ◌==◌, Bool, true, false, List, [], ◌∷◌, ◌++◌, length, length-append, map, Option, Some, None, Ok, Err, ap, sym, refl, subst, arith, eqb-true}
+use Rattle.std.proofs.Common.{◌≡◌, ◌∙◌, ℕ, zero, suc, ◌+◌, ◌&&◌, ◌||◌, ◌==◌, Bool, true, false, List, [], ◌∷◌, ◌++◌, length, length-append, map, Some, Ok, Err, ap, sym, refl, subst, arith, eqb-true}
 use Rattle.std.specs.Prelude.{if◌then◌else◌}
-use Rattle.plain_data.specs.Ends.{last, front, last-push, front-push}
-use Rattle.sdf_values.specs.Conforms.{holds, is_block, is_block_step, is_block_item, conforms, all_hold, members_of, one}
-use Rattle.sdf_values.specs.declared.refusal.RefusalKind.{RefusalKind}
+use Rattle.plain_data.specs.Ends.{last, last-push, front-push}
+use Rattle.sdf_values.specs.Conforms.{holds, is_block, conforms, all_hold, members_of, one}
 use Rattle.sdf_values.specs.declared.refusal.RefusalKind.TheVariants.{ValueShape}
 use Rattle.sdf_values.specs.declared.type_name.ElementType.{ElementType}
 use Rattle.sdf_values.specs.declared.type_name.TypeName.{TypeName}
@@ -17,10 +16,8 @@ use Rattle.usda_values.specs.declared.level.Place.{Place}
 use Rattle.usda_values.specs.declared.level.Place.TheVariants as place
 use Rattle.usda_values.specs.declared.shape.Shape.TheVariants.{Typed}
 use Rattle.usda_values.specs.Drafts.{one_fewer, is_full, is_lacking, is_statement, give_member, give_to, give, behind_value, wrap_as, go_out}
-use Rattle.usda_values.specs.Scalars.{take_element}
 use Rattle.usda_values.specs.Shapes.{take_typed}
 use Rattle.value_shapes.proofs.Bools.{both, or_true}
-use Rattle.value_shapes.proofs.Values as fold
 use Rattle.value_shapes.proofs.Taken.{typed, leaf_cases, holds_tuple, holds_array}
 use Rattle.value_shapes.proofs.Whole.{block_is}
 
@@ -93,12 +90,12 @@ placed t _ l v (tuple outer parent _ e m room below pfull pi is b i r count all)
     let k = counted room (sym (ap is_full r) ∙ full) in
     by_bracket t (outer ++ parent ∷ []) l v bracket.Tuple b
     (ongoing place.BehindMember (give_member v l) (outer ++ parent ∷ []) refl
-        (tuple outer parent (give_member v l) e m k.0 below pfull pi is b i (ap one_fewer (r ∙ ap Some k.1))
-            (one_longer l.values v k.0 m.1 (ap (λ n. length l.values + n) (sym k.1) ∙ count)) (all_more l.values v (one m.0) all (member_holds l v (one m.0) bracket.Tuple b refl i may))))
+    (tuple outer parent (give_member v l) e m k.0 below pfull pi is b i (ap one_fewer (r ∙ ap Some k.1))
+    (one_longer l.values v k.0 m.1 (ap (λ n. length l.values + n) (sym k.1) ∙ count)) (all_more l.values v (one m.0) all (member_holds l v (one m.0) bracket.Tuple b refl i may))))
 placed t _ l v (array outer parent _ e below pfull pi b i all) full may =
     by_bracket t (outer ++ parent ∷ []) l v bracket.Array b
     (ongoing place.BehindMember (give_member v l) (outer ++ parent ∷ []) refl
-        (array outer parent (give_member v l) e below pfull pi b i (all_more l.values v (one e) all (member_holds l v (one e) bracket.Array b refl i may))))
+    (array outer parent (give_member v l) e below pfull pi b i (all_more l.values v (one e) all (member_holds l v (one e) bracket.Array b refl i may))))
 
 -- a level that is closed
 held_by : (parent : Level) (v : Value) (u : TypeName) → parent.item ≡ Typed u → holds v u ≡ true → MayStand parent v

@@ -18,14 +18,13 @@ use Rattle.usda_values.specs.declared.level.Bracket.TheVariants as bracket
 use Rattle.usda_values.specs.declared.level.Level.{Level}
 use Rattle.usda_values.specs.declared.level.Place.{Place}
 use Rattle.usda_values.specs.declared.level.Place.TheVariants as place
-use Rattle.usda_values.specs.declared.shape.Shape.{Shape}
 use Rattle.usda_values.specs.declared.shape.Shape.TheVariants.{Typed, Untyped}
-use Rattle.usda_values.specs.Drafts.{Acted, new_level, is_full, is_lacking, is_statement, give_act, given, put_act, deeper, open_members, open_dict, go_out, close_act, closes, act_value, act_value_or_end, act_behind_member, act_at, value_act, at_place, is_complete, is_complete_at, value_of, value_of_last, draft_of}
-use Rattle.usda_values.specs.Reads.{Reading, got, reads, behind_act, lexing_of, no_more}
+use Rattle.usda_values.specs.Drafts.{Acted, new_level, is_full, is_lacking, is_statement, give_act, given, put_act, deeper, open_members, open_dict, go_out, close_act, closes, act_value, act_value_or_end, act_behind_member, act_at, value_act, is_complete, is_complete_at, value_of, value_of_last, draft_of}
+use Rattle.usda_values.specs.Reads.{got, reads, behind_act, lexing_of, no_more}
 use Rattle.usda_values.specs.Scalars.{Taken, token_value}
-use Rattle.usda_values.specs.Shapes.{Members, counted_members, tuple_members, array_members, takes_dictionary, take_value}
+use Rattle.usda_values.specs.Shapes.{counted_members, tuple_members, array_members, takes_dictionary, take_value}
 use Rattle.value_shapes.proofs.Taken.{typed}
-use Rattle.value_shapes.proofs.TypedLevels.{is_open, Stack, bottom, tuple, array, Good, ongoing, finished, IsGood, MayStand, type_of, placed, closed, typed_stands}
+use Rattle.value_shapes.proofs.TypedLevels.{is_open, Stack, bottom, tuple, array, Good, ongoing, finished, IsGood, type_of, placed, closed, typed_stands}
 
 -- a draft of these parts
 abbrev draft : Place → Level → List Level → ValueDraft
@@ -99,7 +98,7 @@ put_keeps t p l outer (Ok v) below next h = test (is_full l.room) refl h
     shown (Ok x) e full g =
         keeps_ok t (give_act x (draft p l outer))
         (placed t outer l x below full
-            (λ u i. typed_stands (is_statement l.bracket) u v x (sym (ap (λ s. take_value s (is_statement l.bracket) v) i) ∙ e))) next g
+        (λ u i. typed_stands (is_statement l.bracket) u v x (sym (ap (λ s. take_value s (is_statement l.bracket) v) i) ∙ e))) next g
 
     test : (b : Bool) → is_full l.room ≡ b → (if b then Err ValueShape else given (take_value l.item (is_statement l.bracket) v) (draft p l outer)) ≡ Ok next → IsGood t next
     test true full g = absurd cc
