@@ -1,0 +1,2 @@
+pub mod Authoring
+pub mod Outcomes

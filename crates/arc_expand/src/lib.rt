@@ -1,0 +1,14 @@
+//! What the layers of a stack author at a path: arcs, variant sets and selections.
+#![tactic(auto)]
+
+mod authored;
+mod edits;
+mod entry;
+mod offset;
+mod opinion;
+mod outcome;
+mod target;
+#[cfg(test)]
+mod tests;
+
+pub use authored::{authored_at, has_spec_at, selections_at, variant_sets_at};
