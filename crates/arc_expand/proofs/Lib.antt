@@ -1,6 +1,9 @@
-pub mod Authors
+pub mod Authoring
 pub mod Given
+pub mod Kept
+pub mod NoTargets
+pub mod Noting
+pub mod Offsets
 pub mod Outcomes
-pub mod SameItems
-pub mod Stacks
+pub mod StackLaws
 pub mod Targets

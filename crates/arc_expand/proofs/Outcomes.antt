@@ -3,9 +3,10 @@ use Rattle.std.proofs.Common.{◌≡◌, ◌∙◌, sym, ap, refl, Bool, true, f
 use Rattle.std.specs.Option.{ForSome}
 use Rattle.sdf_values.specs.Scales.{Offset}
 use Rattle.composition.specs.Texts.{Text}
+use Rattle.composition.specs.Assets.{anchor}
 use Rattle.composition.specs.Paths.{Path, limits}
 use Rattle.composition.specs.World.{World, LayerHead, Heading, headed, no_layer, refused, StackName, in_range, first_layer, stack_of, default_target}
-use Rattle.composition.specs.Arcs.{Source, own, named, unanchored, Item, Outcome, leads, gives_no_arc, bad_target, offset_range, is_no_target, leaves_range, or_default, outcome_at, outcome_in, outcome_from}
+use Rattle.composition.specs.Arcs.{Source, own, named, unanchored, Item, Outcome, leads, gives_no_arc, no_default_prim, bad_target, offset_range, is_no_target, leaves_range, or_default, source_of, outcome_at, outcome_in, outcome_from}
 use Rattle.layer_stack.specs.Meant.{defined_stack}
 use Rattle.arc_expand.specs.Outcomes.{default_of, target_in, outcome_of, outcome_by, outcome_within, outcome_to, leaves_with, IsDefaultPrim, HasTarget, HasTargets}
 
@@ -36,6 +37,10 @@ module _ (w : World) (s : StackName) (o : Offset) where
   within_range : in_range o ≡ true → leaves_range limits w o s ≡ leaves_with (defined_stack w s).layers o
   within_range is = range_is ∙ ap by_range is
 
+  pub no_default : gives_no_arc no_default_prim ≡ outcome_to w s o None
+  unfolding outcome_to
+  no_default = refl
+
   module _ (t : Path) where
     abbrev by_leaving : Bool → Outcome
     by_leaving b = elim b as (λ _. Outcome) [ true ↦ gives_no_arc offset_range | false ↦ leads (record { stack = s; target = t; offset = o }) ]
@@ -43,23 +48,23 @@ module _ (w : World) (s : StackName) (o : Offset) where
     abbrev by_target : Bool → Outcome
     by_target b = elim b as (λ _. Outcome) [ true ↦ gives_no_arc bad_target | false ↦ by_leaving (leaves_range limits w o s) ]
 
-    outcome_by : outcome_to w s o (Some t) ≡ by_target (is_no_target t)
+    decided : outcome_to w s o (Some t) ≡ by_target (is_no_target t)
     unfolding outcome_to
-    outcome_by = refl
+    decided = refl
 
     pub no_target : is_no_target t ≡ true → gives_no_arc bad_target ≡ outcome_to w s o (Some t)
-    no_target is = sym (outcome_by ∙ ap by_target is)
+    no_target is = sym (decided ∙ ap by_target is)
 
     pub leaves_alone : is_no_target t ≡ false → in_range o ≡ false → gives_no_arc offset_range ≡ outcome_to w s o (Some t)
-    leaves_alone is out = sym (outcome_by ∙ (ap by_target is ∙ ap by_leaving (out_of_range out)))
+    leaves_alone is out = sym (decided ∙ (ap by_target is ∙ ap by_leaving (out_of_range out)))
 
     pub leaves_with_layer : is_no_target t ≡ false → in_range o ≡ true → leaves_with (defined_stack w s).layers o ≡ true
         → gives_no_arc offset_range ≡ outcome_to w s o (Some t)
-    leaves_with_layer is within out = sym (outcome_by ∙ (ap by_target is ∙ ap by_leaving (within_range within ∙ out)))
+    leaves_with_layer is within out = sym (decided ∙ (ap by_target is ∙ ap by_leaving (within_range within ∙ out)))
 
     pub leads_there : is_no_target t ≡ false → in_range o ≡ true → leaves_with (defined_stack w s).layers o ≡ false
         → leads (record { stack = s; target = t; offset = o }) ≡ outcome_to w s o (Some t)
-    leads_there is within stays = sym (outcome_by ∙ (ap by_target is ∙ ap by_leaving (within_range within ∙ stays)))
+    leads_there is within stays = sym (decided ∙ (ap by_target is ∙ ap by_leaving (within_range within ∙ stays)))
 
 -- ---- where default prims name paths
 
@@ -86,3 +91,15 @@ module _ (w : World) where
   pub outcome_agrees : HasTargets w → (s : StackName) (i : Item) → outcome_from limits w s i i.source ≡ outcome_of w s i
   unfolding outcome_of
   outcome_agrees has s i = source_agrees has s i i.source
+
+-- ---- the layer that an item names
+
+module _ (layer asset : Text) where
+  abbrev by_anchor : Option Text → Source
+  by_anchor o = elim o as (λ _. Source) [ Some name ↦ named name | None ↦ unanchored asset ]
+
+  pub named_source : (name : Text) → anchor layer asset ≡ Some name → named name ≡ source_of layer (Some asset)
+  named_source name is = sym (ap by_anchor is)
+
+  pub unanchored_source : anchor layer asset ≡ None → unanchored asset ≡ source_of layer (Some asset)
+  unanchored_source is = sym (ap by_anchor is)

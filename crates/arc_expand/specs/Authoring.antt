@@ -1,13 +1,14 @@
 -- What the layers of a stack author at a path: opinions, list edits, items with their authors and outcomes.
-use Rattle.std.specs.Prelude.{◌≡◌, Bool, not, List, map, Option, option_map}
-use Rattle.std.specs.List.{filter_map, list_any}
+use Rattle.std.specs.Prelude.{◌≡◌, Bool, not, List, [], map, Option, option_map}
+use Rattle.std.specs.List.{filter_map}
+use Rattle.std.specs.Option.{unwrap_or}
 use Rattle.list_ops.specs.declared.op.ListOp.{ListOp}
 use Rattle.path_maps.specs.declared.kind.ArcKind.{ArcKind}
 use Rattle.sdf_values.specs.Scales.{Offset}
 use Rattle.composition.specs.Texts.{Text}
 use Rattle.composition.specs.Paths.{Path, limits}
 use Rattle.composition.specs.World.{World, StackName}
-use Rattle.composition.specs.Arcs.{Opinion, Item, Authored, items_of, edits_of, opinions_at, author_of, same_item, gives, strongest_folded, arcs_of, variant_sets_of, selections_of, is_empty}
+use Rattle.composition.specs.Arcs.{Opinion, Item, Authored, items_of, opinions_at, same_item, strongest_folded, arcs_of, variant_sets_of, selections_of, is_empty}
 use Rattle.layer_stack.specs.Meant.{defined_stack}
 use Rattle.layer_stack.specs.declared.stacks.LayerStack.{LayerStack}
 use Rattle.arc_expand.specs.Outcomes.{outcome_of}
@@ -21,7 +22,7 @@ pub record IsStackOf (w : World) (stack : LayerStack) : Type 0 where
 unfoldable pub opinion_of : World → Path → Text × Offset → Option Opinion
 opinion_of w q e = option_map (λ spec. record { layer = e.0; offset = e.1; spec = spec }) (w.spec e.0 q)
 
-unfoldable pub opinions_in : World → List (Text × Offset) → Path → List Opinion
+abbrev pub opinions_in : World → List (Text × Offset) → Path → List Opinion
 opinions_in w layers q = filter_map (opinion_of w q) layers
 
 -- what the layers of a stack say at a path, the strongest first
@@ -33,25 +34,18 @@ opinions w s q = opinions_at limits w (defined_stack w s) q
 unfoldable pub edit_of : ArcKind → Opinion → Option (Text × ListOp Item)
 edit_of k o = option_map (λ op. (o.layer, op)) (items_of k o)
 
-unfoldable pub edits : ArcKind → List Opinion → List (Text × ListOp Item)
-edits k os = edits_of k os
+abbrev pub edits : ArcKind → List Opinion → List (Text × ListOp Item)
+edits k os = filter_map (edit_of k) os
 
 -- the items that the edits make, the strongest edit given first
 unfoldable pub folded_items : List (Text × ListOp Item) → List Item
 folded_items edits = strongest_folded same_item (map (λ e. e.1) edits)
 
--- some layer gives the item
-unfoldable pub is_given : List (Text × ListOp Item) → Item → Bool
-is_given edits i = list_any (λ e. gives same_item e.1 i) edits
-
--- the strongest layer that gives the item
-unfoldable pub author : List (Text × ListOp Item) → Item → Text
-author edits i = author_of edits i
-
 -- ---- what is authored
 
-unfoldable pub authored_item : World → StackName → List (Text × ListOp Item) → Item → Authored
-authored_item w s edits i = record { item = i; author = author_of edits i; outcome = outcome_of w s i }
+-- an item with its author, of those that `author` tells, and its outcome
+unfoldable pub authored_by : World → StackName → (Item → Option Text) → Item → Authored
+authored_by w s author i = record { item = i; author = unwrap_or (author i) []; outcome = outcome_of w s i }
 
 -- the items of a kind, with their authors and outcomes
 unfoldable pub authored : World → StackName → Path → ArcKind → List Authored

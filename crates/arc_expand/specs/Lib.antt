@@ -1,2 +1,5 @@
 pub mod Authoring
+pub mod Authors
+pub mod ItemOrder
 pub mod Outcomes
+pub mod SameItems

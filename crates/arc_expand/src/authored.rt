@@ -1,10 +1,16 @@
 ghost use Rattle.std.specs.Prelude.{◌≡◌, ◌++◌, IfOk, OnOk, map, true};
-ghost use Rattle.std.specs.List.{AllByRecursion};
+ghost use Rattle.std.specs.List.{All};
 ghost use Rattle.layer_set.specs.LookUps.{look_ups};
+ghost use Rattle.composition.specs.Arcs.{selections_of};
+ghost use Rattle.std.specs.Option.{is_some};
+ghost use Rattle.std.specs.BTreeMap.{get};
+ghost use Rattle.arc_expand.specs.ItemOrder.{item_cmp};
 ghost use Rattle.arc_expand.specs.Outcomes.{HasTargets};
-ghost use Rattle.arc_expand.specs.Authoring.{IsStackOf, authored_item, is_given, authored, variant_sets, selections, has_spec};
+ghost use Rattle.arc_expand.specs.Authoring.{IsStackOf, authored_by, authored, variant_sets, selections, has_spec};
 
-use crate::edits::{author, edits, folded_items, strongest_folded};
+use crate::authors::authors;
+use crate::edits::{edits, folded_items, strongest_folded};
+use crate::ordered::OrderedItem;
 use crate::opinion::{LayerOpinion, opinions};
 use crate::outcome::outcome;
 use asset_names::AssetId;
@@ -14,29 +20,30 @@ use list_ops::ListOp;
 use path_maps::ArcKind;
 use plain_data::{Items, Text, copy};
 use prim_nodes::Authored;
-use prim_view::FaultItem;
 use sdf_paths::Path;
+use sdf_specs::Selections;
 use std::alloc::{AllocError, Global};
+use std::collections::BTreeMap;
 
 /// An item with its author and its outcome.
 fn authored_item(
     alloc: Global,
     world: &World,
     stack: &LayerStack,
-    edits: &[(AssetId, ListOp<FaultItem>)],
-    item: &FaultItem,
+    authors: &BTreeMap<OrderedItem, AssetId>,
+    item: &OrderedItem,
 ) -> Result<Authored, AllocError>
     requires stack { IsStackOf (look_ups world.now) stack.now }
-    requires given { is_given edits.now item.now ≡ true }
-    ensures { IfOk result (λ a. a ≡ authored_item (look_ups world.now) stack.now.name edits.now item.now) }
+    requires author { is_some (get item_cmp authors.now item.now) ≡ true }
+    ensures { IfOk result (λ a. a ≡ authored_by (look_ups world.now) stack.now.name (get item_cmp authors.now) item.now) }
 {
-    let Some(layer) = author(edits, item) else {
+    let Some(layer) = authors.get(item) else {
         unreachable!()
     };
     Ok(Authored {
-        item: copy(item)?,
+        item: copy(&item.item)?,
         author: copy(layer)?,
-        outcome: outcome(alloc, world, stack, item)?,
+        outcome: outcome(alloc, world, stack, &item.item)?,
     })
 }
 
@@ -45,16 +52,16 @@ fn authored_items(
     alloc: Global,
     world: &World,
     stack: &LayerStack,
-    edits: &[(AssetId, ListOp<FaultItem>)],
-    items: &[FaultItem],
+    authors: &BTreeMap<OrderedItem, AssetId>,
+    items: &[OrderedItem],
 ) -> Result<Items<Authored>, AllocError>
     requires stack { IsStackOf (look_ups world.now) stack.now }
-    requires given { AllByRecursion (λ i. is_given edits.now i ≡ true) items.now }
-    ensures { IfOk result (λ all. all ≡ map (authored_item (look_ups world.now) stack.now.name edits.now) items.now) }
+    requires authors { All (λ i. is_some (get item_cmp authors.now i) ≡ true) items.now }
+    ensures { IfOk result (λ all. all ≡ map (authored_by (look_ups world.now) stack.now.name (get item_cmp authors.now)) items.now) }
 {
     let mut all = Items::new(alloc);
     for item in items {
-        all.push(authored_item(alloc, world, stack, edits, item)?)?;
+        all.push(authored_item(alloc, world, stack, authors, item)?)?;
     }
     Ok(all)
 }
@@ -78,7 +85,8 @@ pub fn authored_at(
     let opinions = opinions(alloc, world, stack, at)?;
     let edits = edits(alloc, kind, opinions.as_slice())?;
     let items = folded_items(alloc, edits.as_slice())?;
-    authored_items(alloc, world, stack, edits.as_slice(), items.as_slice())
+    let authors = authors(alloc, edits.as_slice())?;
+    authored_items(alloc, world, stack, &authors, items.as_slice())
 }
 
 /// Copies of the edits of variant sets.
@@ -113,17 +121,31 @@ pub fn variant_sets_at(
     strongest_folded(alloc, set_edits(alloc, opinions.as_slice())?)
 }
 
-/// Appends copies of the selections of one opinion.
+/// Appends copies of selections.
 fn push_selections(
     out: &mut Items<(Text, Text)>,
-    opinion: &LayerOpinion<'_>,
+    selections: &Selections,
 ) -> Result<(), AllocError>
-    ensures { OnOk result (out.new ≡ out.old ++ opinion.now.spec.arcs.selections) }
+    ensures { OnOk result (out.new ≡ out.old ++ selections.now) }
 {
-    for (set, variant) in opinion.spec.arcs.selections.iter() {
+    for (set, variant) in selections.iter() {
         out.push((copy(set)?, copy(variant)?))?;
     }
     Ok(())
+}
+
+/// Copies of the selections of all opinions.
+fn all_selections(
+    alloc: Global,
+    opinions: &[LayerOpinion<'_>],
+) -> Result<Items<(Text, Text)>, AllocError>
+    ensures { IfOk result (λ all. all ≡ selections_of opinions.now) }
+{
+    let mut all = Items::new(alloc);
+    for opinion in opinions {
+        push_selections(&mut all, &opinion.spec.arcs.selections)?;
+    }
+    Ok(all)
 }
 
 /// The variants that the layers of a stack select at a path, the strongest opinions first, those of one layer in the order of sets.
@@ -141,11 +163,7 @@ pub fn selections_at(
     ensures { IfOk result (λ all. all ≡ selections (look_ups world.now) stack.now.name at.now) }
 {
     let opinions = opinions(alloc, world, stack, at)?;
-    let mut all = Items::new(alloc);
-    for opinion in opinions.as_slice() {
-        push_selections(&mut all, opinion)?;
-    }
-    Ok(all)
+    all_selections(alloc, opinions.as_slice())
 }
 
 /// Whether some layer of a stack has a spec at a path.

@@ -5,6 +5,7 @@ ghost use Rattle.composition.specs.Arcs.{Item, source_of, class_item, reference_
 ghost use Rattle.sdf_values.specs.Scales.{Offset};
 
 use crate::offset::{composed, identity};
+use crate::ordered::OrderedItem;
 use asset_names::{AssetFault, AssetId};
 use list_ops::ListOp;
 use plain_data::{Items, copy};
@@ -24,7 +25,7 @@ pub trait Entry {
         alloc: Global,
         layer: &AssetId,
         offset: LayerOffset,
-    ) -> Result<FaultItem, AllocError>
+    ) -> Result<OrderedItem, AllocError>
         ensures { IfOk result (λ item. item ≡ item_of layer.now offset self.now) };
 }
 
@@ -38,11 +39,13 @@ impl Entry for Path {
         _alloc: Global,
         _layer: &AssetId,
         _offset: LayerOffset,
-    ) -> Result<FaultItem, AllocError> {
-        Ok(FaultItem {
-            source: ItemSource::Own,
-            path: Some(copy(self)?),
-            offset: identity(),
+    ) -> Result<OrderedItem, AllocError> {
+        Ok(OrderedItem {
+            item: FaultItem {
+                source: ItemSource::Own,
+                path: Some(copy(self)?),
+                offset: identity(),
+            },
         })
     }
 }
@@ -57,11 +60,13 @@ impl Entry for RefItem {
         alloc: Global,
         layer: &AssetId,
         offset: LayerOffset,
-    ) -> Result<FaultItem, AllocError> {
-        Ok(FaultItem {
-            source: source(alloc, layer, self)?,
-            path: copy(&self.path)?,
-            offset: composed(self.offset, offset),
+    ) -> Result<OrderedItem, AllocError> {
+        Ok(OrderedItem {
+            item: FaultItem {
+                source: source(alloc, layer, self)?,
+                path: copy(&self.path)?,
+                offset: composed(self.offset, offset),
+            },
         })
     }
 }
@@ -86,7 +91,7 @@ fn items<T: Entry>(
     layer: &AssetId,
     offset: LayerOffset,
     entries: &Items<T>,
-) -> Result<Items<FaultItem>, AllocError>
+) -> Result<Items<OrderedItem>, AllocError>
     ensures { IfOk result (λ items. items ≡ map (T.item_of layer.now offset) entries.now) }
 {
     let mut items = Items::new(alloc);
@@ -102,7 +107,7 @@ fn explicit_items<T: Entry>(
     layer: &AssetId,
     offset: LayerOffset,
     entries: &Option<Items<T>>,
-) -> Result<Option<Items<FaultItem>>, AllocError>
+) -> Result<Option<Items<OrderedItem>>, AllocError>
     ensures { IfOk result (λ found. found ≡ option_map (map (T.item_of layer.now offset)) entries.now) }
 {
     match entries {
@@ -117,7 +122,7 @@ pub fn edit<T: Entry>(
     layer: &AssetId,
     offset: LayerOffset,
     op: &ListOp<T>,
-) -> Result<ListOp<FaultItem>, AllocError>
+) -> Result<ListOp<OrderedItem>, AllocError>
     ensures { IfOk result (λ edit. edit ≡ map_op (T.item_of layer.now offset) op.now) }
 {
     Ok(ListOp {

@@ -2,13 +2,17 @@
 #![tactic(auto)]
 
 mod authored;
+mod authors;
 mod edits;
 mod entry;
 mod offset;
 mod opinion;
+mod ordered;
 mod outcome;
+mod stacks;
 mod target;
 #[cfg(test)]
 mod tests;
 
 pub use authored::{authored_at, has_spec_at, selections_at, variant_sets_at};
+pub use stacks::stack_of;

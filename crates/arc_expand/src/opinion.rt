@@ -25,7 +25,12 @@ pub struct LayerOpinion<'w> {
 impl<'w> Model for LayerOpinion<'w> {
     ghost use Rattle.composition.specs.Arcs.{Opinion};
 
+    ghost use Rattle.std.specs.Coded.{codes};
+    ghost use Rattle.spec_parts.specs.contracts.spec.Spec as of_spec;
+
     ghost Value = { Opinion };
+
+    ghost coded = { Prim.hlevel (codes, of_spec.the_row.coded) };
 
     ghost view = { λ o. record { layer = o.layer.now; offset = o.offset; spec = o.spec.now } };
 }

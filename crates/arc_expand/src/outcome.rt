@@ -1,15 +1,16 @@
 // What becomes of an item: an arc, or the first reason why there is none.
 ghost use Rattle.std.specs.Prelude.{◌≡◌, IfOk};
 ghost use Rattle.layer_set.specs.LookUps.{look_ups, heading_of};
-ghost use Rattle.composition.specs.World.{first_layer, stack_of};
+ghost use Rattle.composition.specs.World.{first_layer};
 ghost use Rattle.arc_expand.specs.Authoring.{IsStackOf};
 ghost use Rattle.arc_expand.specs.Outcomes.{outcome_of, outcome_within, outcome_to};
 
 use crate::offset::{leaves_with, ranged};
+use crate::stacks::stack_of;
 use crate::target::{is_no_target, target};
 use asset_names::AssetId;
 use layer_set::{Held, World};
-use layer_stack::{LayerStack, stack};
+use layer_stack::LayerStack;
 use plain_data::copy;
 use prim_nodes::{Lead, Outcome};
 use prim_view::{ArcReason, FaultItem, FaultOffset, ItemSource, StackName};
@@ -76,14 +77,6 @@ fn outcome_within(
     }
 }
 
-/// The stack of a layer's name.
-fn stack_of(alloc: Global, world: &World, name: &AssetId) -> Result<LayerStack, AllocError>
-    ensures name { IfOk result (λ s. s.name ≡ stack_of (look_ups world.now) name.now) }
-    ensures stack { IfOk result (λ s. IsStackOf (look_ups world.now) s) }
-{
-    stack(alloc, world, &StackName::Asset(copy(name)?))
-}
-
 /// What becomes of an item of a stack.
 pub fn outcome(
     alloc: Global,
@@ -100,7 +93,7 @@ pub fn outcome(
             outcome_within(alloc, world, stack, item, held)
         }
         ItemSource::Named(name) => {
-            let stack = stack_of(alloc, world, name)?;
+            let stack = stack_of(alloc, world, &StackName::Asset(copy(name)?))?;
             outcome_within(alloc, world, &stack, item, world.held(name))
         }
         ItemSource::Unanchored(_) => Ok(Outcome::GivesNoArc(ArcReason::BadTarget)),

@@ -1,5 +1,6 @@
 // Targets of items.
 ghost use Rattle.std.specs.Prelude.{◌≡◌, ◌∷◌, IfOk};
+ghost use Rattle.composition.specs.Paths.{has_selections};
 ghost use Rattle.composition.specs.World.{is_absolute};
 ghost use Rattle.composition.specs.Arcs.{is_no_target};
 ghost use Rattle.layer_set.specs.LookUps.{layer_head};
@@ -10,11 +11,24 @@ use sdf_paths::{Path, PathFault};
 use sdf_specs::Head;
 use std::alloc::{AllocError, Global};
 
+/// Whether the path selects a variant.
+fn has_selections(path: &Path) -> bool
+    ensures { result ≡ has_selections path.now }
+{
+    !path.is_plain()
+}
+
 /// Whether no arc leads to the path: it is `/` or a property's or has selections.
 pub fn is_no_target(path: &Path) -> bool
     ensures { result ≡ is_no_target path.now }
 {
-    path.is_root() || !path.is_plain() || path.is_property()
+    if path.is_root() {
+        return true;
+    }
+    if has_selections(path) {
+        return true;
+    }
+    path.is_property()
 }
 
 /// The path that a text is read as; nothing where it is none or passes a limit.

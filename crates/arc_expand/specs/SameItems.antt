@@ -1,6 +1,6 @@
 -- The test of items tells every two apart.
 use Rattle.std.proofs.Common.{◌≡◌, ◌∙◌, sym, ap, refl, arith, ℕ, ◌≤◌, Bool, true, false, ◌&&◌, IsTrue, ◌↔◌, List, [], ◌∷◌, Option, Some, None}
-use Rattle.std.specs.Prelude.{ℤ, pos, negsuc, int_le, nat_le}
+use Rattle.std.specs.Prelude.{◌==◌, ℤ, pos, negsuc, int_le, nat_le}
 use Rattle.std.specs.Str.{bytes_eq}
 use Rattle.std.specs.Cmp.Lexicographic.{bytes_decides}
 use Rattle.std.proofs.lemmas.Bool.Decides.{nat_tests}
@@ -9,15 +9,10 @@ use Rattle.sdf_paths.specs.Paths.{same_element}
 use Rattle.sdf_paths.specs.declared.element.Element.{Element}
 use Rattle.sdf_paths.specs.declared.element.Element.TheVariants.{Prim, Property, Selection}
 use Rattle.sdf_values.specs.Scales.{Offset}
-use Rattle.sdf_values.specs.Equality.{same_value, value_same, value_refl}
-use Rattle.list_ops.specs.ListEdits.{folded}
-use Rattle.list_ops.specs.declared.op.ListOp.{ListOp}
-use Rattle.prim_view.specs.contracts.fault.FaultItem.{the_row}
 use Rattle.composition.specs.Texts.{Text, same_list, same_text, same_option, both}
 use Rattle.composition.specs.Paths.{Path, same_path}
 use Rattle.composition.specs.World.{same_number, same_offset}
 use Rattle.composition.specs.Arcs.{Source, Item, own, named, unanchored, same_source, same_item}
-use Rattle.layer_stack.proofs.Names.{same_is_bytes, same_text_same, same_itself}
 
 parts : (a b : Bool) → both a b ≡ true → (a ≡ true) × (b ≡ true)
 parts true b h = (refl, h)
@@ -25,6 +20,25 @@ parts false b h = absurd cc
 
 hold : (a b : Bool) → a ≡ true → b ≡ true → both a b ≡ true
 hold a b h k = ap (λ (x : Bool). both x b) h ∙ k
+
+-- ---- texts
+
+pub same_is_bytes : (a b : Text) → same_text a b ≡ bytes_eq a b
+same_is_bytes [] [] = refl
+same_is_bytes [] (y ∷ ys) = refl
+same_is_bytes (x ∷ xs) [] = refl
+same_is_bytes (x ∷ xs) (y ∷ ys) =
+    elim (x == y) as (λ b. (elim b as (λ _. Bool) [ true ↦ same_text xs ys | false ↦ false ]) ≡ (b && bytes_eq xs ys)) [ true ↦ same_is_bytes xs ys | false ↦ refl ]
+
+text_exact : (a b : Text) → same_text a b ≡ true → a ≡ b
+text_exact a b h = text_same a b (sym (same_is_bytes a b) ∙ h)
+
+text_itself : (a : Text) → same_text a a ≡ true
+text_itself a = same_is_bytes a a ∙ (bytes_decides a a).1 refl
+
+-- the test of texts is that of their bytes
+pub text_tests_are : ◌≡◌ {A = Text → Text → Bool} bytes_eq same_text
+text_tests_are = λ i. λ a b. sym (same_is_bytes a b) i
 
 -- ---- numbers and offsets
 
@@ -112,8 +126,8 @@ module _ {T : Type 0} (same : T → T → Bool) where
 
 source_same : (a b : Source) → same_source a b ≡ true → a ≡ b
 source_same own own h = refl
-source_same (named a) (named b) h = ap named (same_text_same a b h)
-source_same (unanchored a) (unanchored b) h = ap unanchored (same_text_same a b h)
+source_same (named a) (named b) h = ap named (text_exact a b h)
+source_same (unanchored a) (unanchored b) h = ap unanchored (text_exact a b h)
 source_same own (named b) h = absurd cc
 source_same own (unanchored b) h = absurd cc
 source_same (named a) own h = absurd cc
@@ -123,8 +137,8 @@ source_same (unanchored a) (named b) h = absurd cc
 
 source_itself : (a : Source) → same_source a a ≡ true
 source_itself own = refl
-source_itself (named a) = same_itself a
-source_itself (unanchored a) = same_itself a
+source_itself (named a) = text_itself a
+source_itself (unanchored a) = text_itself a
 
 pub item_same : (a b : Item) → same_item a b ≡ true → a ≡ b
 item_same a b h =
@@ -141,7 +155,7 @@ item_itself a =
     (hold (same_option same_path a.path a.path) (same_offset a.offset a.offset)
     (option_itself same_path (list_itself same_element element_itself) a.path) (offset_itself a.offset))
 
-both_ways : (a b : Bool) → (a ≡ true → b ≡ true) → (b ≡ true → a ≡ true) → a ≡ b
+pub both_ways : (a b : Bool) → (a ≡ true → b ≡ true) → (b ≡ true → a ≡ true) → a ≡ b
 both_ways true b f g = sym (f refl)
 both_ways false true f g = g refl
 both_ways false false f g = refl
@@ -152,17 +166,3 @@ one_is_same a b is = ap (λ (x : Item). same_item a x) (sym is) ∙ item_itself 
 -- an answer that tells whether two items are one
 pub item_told : (a b : Item) (r : Bool) → IsTrue r ↔ (a ≡ b) → r ≡ same_item a b
 item_told a b r told = both_ways r (same_item a b) (λ h. one_is_same a b (told.0 h)) (λ h. told.1 (item_same a b h))
-
-test_is : (a b : Item) → same_value the_row.coded a b ≡ same_item a b
-test_is a b = both_ways (same_value the_row.coded a b) (same_item a b) (λ h. one_is_same a b (value_same the_row.coded a b h)) (λ h. value_refl the_row.coded a b (item_same a b h))
-
-pub tests_are : ◌≡◌ {A = Item → Item → Bool} (same_value the_row.coded) same_item
-tests_are = λ i. λ a b. test_is a b i
-
--- ---- texts
-
-text_test_is : (a b : Text) → bytes_eq a b ≡ same_text a b
-text_test_is a b = sym (same_is_bytes a b)
-
-pub text_tests_are : ◌≡◌ {A = Text → Text → Bool} bytes_eq same_text
-text_tests_are = λ i. λ a b. text_test_is a b i
