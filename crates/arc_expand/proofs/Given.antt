@@ -115,8 +115,8 @@ module _ {T : Type 0} (same : T → T → Bool) (itself : (x : T) → same x x �
       All-weaker (λ x. contains same op.prepended x ≡ true) (λ x. contains same (op.added ++ op.prepended ++ op.appended) x ≡ true)
           (λ x h. one_of_three op.added op.prepended op.appended x (or_left _ _ (or_right _ _ h))) op.prepended (contains_each op.prepended),
       All-weaker (λ x. contains same op.appended x ≡ true) (λ x. contains same (op.added ++ op.prepended ++ op.appended) x ≡ true)
-          (λ x h. one_of_three op.added op.prepended op.appended x (or_right _ _ h)) op.appended (contains_each op.appended)
-    )
+          (λ x h. one_of_three op.added op.prepended op.appended x (or_right _ _ h)) op.appended (contains_each op.appended),
+    ),
   )
 
   weaker : (P Q : T → Type 0) → ((x : T) → P x → Q x) → (explicit : Option (List T)) (op : ListOp T) → Brings P explicit op → Brings Q explicit op

@@ -10,8 +10,8 @@ ghost use Rattle.arc_expand.specs.Authoring.{IsStackOf, authored_by, authored, v
 
 use crate::authors::authors;
 use crate::edits::{edits, folded_items, strongest_folded};
-use crate::ordered::OrderedItem;
 use crate::opinion::{LayerOpinion, opinions};
+use crate::ordered::OrderedItem;
 use crate::outcome::outcome;
 use asset_names::AssetId;
 use layer_set::World;
@@ -90,10 +90,7 @@ pub fn authored_at(
 }
 
 /// Copies of the edits of variant sets.
-fn set_edits(
-    alloc: Global,
-    opinions: &[LayerOpinion<'_>],
-) -> Result<Vec<ListOp<Text>>, AllocError>
+fn set_edits(alloc: Global, opinions: &[LayerOpinion<'_>]) -> Result<Vec<ListOp<Text>>, AllocError>
     ensures { IfOk result (λ all. all.items ≡ map (λ o. o.spec.arcs.variant_sets) opinions.now) }
 {
     let mut all = Vec::new(alloc);
@@ -122,10 +119,7 @@ pub fn variant_sets_at(
 }
 
 /// Appends copies of selections.
-fn push_selections(
-    out: &mut Items<(Text, Text)>,
-    selections: &Selections,
-) -> Result<(), AllocError>
+fn push_selections(out: &mut Items<(Text, Text)>, selections: &Selections) -> Result<(), AllocError>
     ensures { OnOk result (out.new ≡ out.old ++ selections.now) }
 {
     for (set, variant) in selections.iter() {

@@ -24,7 +24,6 @@ pub struct LayerOpinion<'w> {
 
 impl<'w> Model for LayerOpinion<'w> {
     ghost use Rattle.composition.specs.Arcs.{Opinion};
-
     ghost use Rattle.std.specs.Coded.{codes};
     ghost use Rattle.spec_parts.specs.contracts.spec.Spec as of_spec;
 

@@ -73,11 +73,7 @@ fn default_target(alloc: Global, text: &str) -> Result<Option<Path>, AllocError>
 }
 
 /// The path, or else the target of the layer's default prim.
-pub fn target(
-    alloc: Global,
-    path: &Option<Path>,
-    head: &Head,
-) -> Result<Option<Path>, AllocError>
+pub fn target(alloc: Global, path: &Option<Path>, head: &Head) -> Result<Option<Path>, AllocError>
     ensures { IfOk result (λ target. target ≡ target_in path.now (layer_head head.now)) }
 {
     if let Some(path) = path {

@@ -203,7 +203,10 @@ fn each_reason(rt: HostRuntime) -> Result<(), Fail> {
         ("g.usda", "G", &[], &[]),
     ];
     let text = authored(rt.alloc(), &rows)?;
-    assert_eq!(rt; text.as_str(), "@no.usda@ 0 1 by root.usda: missing\n@broken.usdc@ 0 1 by root.usda: broken\n@n.usda@ 0 1 by root.usda: no default\n@g.usda@</> 0 1 by root.usda: bad target\n@g.usda@</G.x> 0 1 by root.usda: bad target\n@g.usda@</G{v=a}> 0 1 by root.usda: bad target\n@g.usda@ 0 1 by root.usda: g.usda /G\n");
+    assert_eq!(rt;
+        text.as_str(),
+        "@no.usda@ 0 1 by root.usda: missing\n@broken.usdc@ 0 1 by root.usda: broken\n@n.usda@ 0 1 by root.usda: no default\n@g.usda@</> 0 1 by root.usda: bad target\n@g.usda@</G.x> 0 1 by root.usda: bad target\n@g.usda@</G{v=a}> 0 1 by root.usda: bad target\n@g.usda@ 0 1 by root.usda: g.usda /G\n"
+    );
     Ok(())
 }
 
@@ -228,7 +231,10 @@ fn two_reasons_at_one_item(rt: HostRuntime) -> Result<(), Fail> {
         ("g.usda", "", &[], &[]),
     ];
     let text = authored(rt.alloc(), &rows)?;
-    assert_eq!(rt; text.as_str(), "@no.usda@</G.x> 1000000007 1 by sub.usda: missing\n@g.usda@</> 1000000007 1 by sub.usda: bad target\n@g.usda@</G> 1000000007 1 by sub.usda: range\n");
+    assert_eq!(rt;
+        text.as_str(),
+        "@no.usda@</G.x> 1000000007 1 by sub.usda: missing\n@g.usda@</> 1000000007 1 by sub.usda: bad target\n@g.usda@</G> 1000000007 1 by sub.usda: range\n"
+    );
     Ok(())
 }
 
@@ -263,7 +269,10 @@ fn a_delete_in_a_weaker_layer(rt: HostRuntime) -> Result<(), Fail> {
         ("g.usda", "", &[], &[]),
     ];
     let text = authored(rt.alloc(), &rows)?;
-    assert_eq!(rt; text.as_str(), "@g.usda@</D> 0 1 by low.usda: g.usda /D\n@g.usda@</B> 0 1 by root.usda: g.usda /B\n");
+    assert_eq!(rt;
+        text.as_str(),
+        "@g.usda@</D> 0 1 by low.usda: g.usda /D\n@g.usda@</B> 0 1 by root.usda: g.usda /B\n"
+    );
     Ok(())
 }
 
@@ -288,7 +297,10 @@ fn one_target_by_two_spellings(rt: HostRuntime) -> Result<(), Fail> {
         ("g.usda", "", &[], &[]),
     ];
     let text = authored(rt.alloc(), &rows)?;
-    assert_eq!(rt; text.as_str(), "@sets/g.usda@</G> 0 1 by sets/low.usda: missing\n@g.usda@</G> 0 1 by root.usda: g.usda /G\n");
+    assert_eq!(rt;
+        text.as_str(),
+        "@sets/g.usda@</G> 0 1 by sets/low.usda: missing\n@g.usda@</G> 0 1 by root.usda: g.usda /G\n"
+    );
     Ok(())
 }
 
@@ -305,7 +317,10 @@ fn offsets_of_a_layer_and_an_item(rt: HostRuntime) -> Result<(), Fail> {
         ("g.usda", "", &[], &[]),
     ];
     let text = authored(rt.alloc(), &rows)?;
-    assert_eq!(rt; text.as_str(), "@g.usda@</G> 16 8 by low.usda: g.usda /G\n@g.usda@</G> 16 10 by low.usda: g.usda /G\n");
+    assert_eq!(rt;
+        text.as_str(),
+        "@g.usda@</G> 16 8 by low.usda: g.usda /G\n@g.usda@</G> 16 10 by low.usda: g.usda /G\n"
+    );
     Ok(())
 }
 
@@ -322,7 +337,10 @@ fn an_offset_that_leaves_the_range_with_a_layer(rt: HostRuntime) -> Result<(), F
         ("far.usda", "", &[], &[]),
     ];
     let text = authored(rt.alloc(), &rows)?;
-    assert_eq!(rt; text.as_str(), "@g.usda@</G> 0 2 by root.usda: range\n@g.usda@</G> 0 1 by root.usda: g.usda /G\n");
+    assert_eq!(rt;
+        text.as_str(),
+        "@g.usda@</G> 0 2 by root.usda: range\n@g.usda@</G> 0 1 by root.usda: g.usda /G\n"
+    );
     Ok(())
 }
 
@@ -360,7 +378,10 @@ fn items_without_an_asset_mean_the_first_layer(rt: HostRuntime) -> Result<(), Fa
         ),
     ];
     let text = authored(rt.alloc(), &rows)?;
-    assert_eq!(rt; text.as_str(), " 0 1 by low.usda: Root /World/Set\n</B> 0 1 by low.usda: Root /B\n");
+    assert_eq!(rt;
+        text.as_str(),
+        " 0 1 by low.usda: Root /World/Set\n</B> 0 1 by low.usda: Root /B\n"
+    );
     Ok(())
 }
 
@@ -380,10 +401,7 @@ fn classes_and_sets(alloc: Global) -> Result<World, Fail> {
     let mut specs = OrderedTable::new(alloc);
     specs.insert(Path::parse(alloc, "/A")?, spec)?;
     let layer = Layer::from_parts(alloc, Head::blank(alloc), specs);
-    world.put(
-        AssetId::of_word(alloc, "root.usda")?,
-        Held::Present(layer),
-    )?;
+    world.put(AssetId::of_word(alloc, "root.usda")?, Held::Present(layer))?;
     Ok(world)
 }
 

@@ -13,7 +13,7 @@ pub returns : goal.returns
 unfolding authored_by
 returns c =
     let item : c.in_ok-copy.field-0 ≡ c.args.item.now = c.in_ok-copy.ensures ∙ c.item.view_is in
-    let found : get item_cmp c.args.authors.now c.args.item.now ≡ Some c.in-Some.layer.now = ? in
+    let found : get item_cmp c.args.authors.now c.args.item.now ≡ Some c.in-Some.layer.now = sym c.in-Some.ensures.value in
     let author : c.in_ok-copy-2.field-0 ≡ unwrap_or (get item_cmp c.args.authors.now c.args.item.now) [] =
     c.in_ok-copy-2.ensures ∙ sym (ap (λ (o : Option Text). unwrap_or o []) found) in
     let outcome : c.in_ok-outcome.field-0 ≡ outcome_of (look_ups c.args.world.now) c.args.stack.now.name c.args.item.now =
