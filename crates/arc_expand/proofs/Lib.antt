@@ -1,3 +1,4 @@
+pub mod Asking
 pub mod Authoring
 pub mod Given
 pub mod Kept

@@ -1,3 +1,4 @@
+pub mod Arcs
 pub mod Authoring
 pub mod Authors
 pub mod ItemOrder

@@ -1,13 +1,13 @@
 // Small worlds whose layers say something of references at `/A`, and what they author there. An item is written by its layer, its path
 // and its offset, then its author, and then the arc or why there is none.
-use crate::{authored_at, has_spec_at, selections_at, stack_of, variant_sets_at};
+use crate::{arcs_at, authored_at, has_spec_at, selections_at, stack_of, variant_sets_at};
 use asset_names::AssetId;
-use layer_set::{Held, World};
+use layer_set::{Held, Key, World};
 use list_ops::ListOp;
 use path_maps::ArcKind;
 use plain_data::{Items, Text};
 use prim_nodes::{Authored, Outcome};
-use prim_view::{ArcReason, FaultItem, ItemSource, StackName};
+use prim_view::{ArcReason, FaultItem, ItemSource, StackName, print_fault};
 use sdf_paths::Path;
 use sdf_specs::{
     Head, Layer, OrderedTable, RefItem, Refusal, RefusalKind, Spec, Specifier, SubLayer,
@@ -439,5 +439,68 @@ fn a_path_has_a_spec_or_none(rt: HostRuntime) -> Result<(), Fail> {
     assert!(rt; has_spec_at(alloc, &world, &root, &here)?);
     let there = Path::parse(alloc, "/B")?;
     assert!(rt; !has_spec_at(alloc, &world, &root, &there)?);
+    Ok(())
+}
+
+// The arcs of references at `/A`: how many, the faults, and the keys that were read.
+fn arcs(alloc: Global, rows: &[Row<'_>]) -> Result<String, Fail> {
+    let world = world(alloc, rows)?;
+    let at = Path::parse(alloc, "/A")?;
+    let root = stack_of(alloc, &world, &StackName::Root)?;
+    let here = arcs_at(alloc, &world, &root, &at, ArcKind::Reference)?;
+    let mut out = String::new(alloc);
+    for arc in here.items.as_slice() {
+        let target = arc.target.print()?;
+        writeln!(out, "{target} by {}", arc.author.text())?;
+    }
+    for fault in here.faults.as_slice() {
+        let fault = print_fault(alloc, fault)?;
+        writeln!(out, "{fault}")?;
+    }
+    for key in here.reads.as_slice() {
+        write_key(&mut out, key)?;
+    }
+    Ok(out)
+}
+
+fn write_key(out: &mut String, key: &Key) -> Result<(), Fail> {
+    match key {
+        Key::Head(id) => writeln!(out, "head {}", id.text())?,
+        Key::Arcs(id, path) => {
+            let path = path.print()?;
+            writeln!(out, "arcs {} {path}", id.text())?;
+        }
+        Key::Body(_, _) => {}
+        Key::Load(_) => {}
+    }
+    Ok(())
+}
+
+#[test]
+fn arcs_faults_and_keys(rt: HostRuntime) -> Result<(), Fail> {
+    let rows: [Row<'_>; 4] = [
+        ("root.usda", "", &[("low.usda", 0, 1)], &[]),
+        (
+            "low.usda",
+            "",
+            &[],
+            &[(
+                "=",
+                &[
+                    ("broken.usdc", "", 0, 1),
+                    ("no.usda", "", 0, 1),
+                    ("g.usda", "", 0, 1),
+                    ("g.usda", "/H", 0, 1),
+                ],
+            )],
+        ),
+        ("g.usda", "G", &[("far.usda", 0, 1), ("g.usda", 0, 1)], &[]),
+        ("far.usda", "", &[], &[]),
+    ];
+    let text = arcs(rt.alloc(), &rows)?;
+    assert_eq!(rt;
+        text.as_str(),
+        "/G by low.usda\n/H by low.usda\nBrokenLayer @low.usda@</A> references @broken.usdc@ Crate 1:1\nMissingLayer @low.usda@</A> references @no.usda@\narcs root.usda /A\narcs low.usda /A\nhead broken.usdc\nhead no.usda\nhead g.usda\nhead far.usda\n"
+    );
     Ok(())
 }
