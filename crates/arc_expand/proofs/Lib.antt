@@ -1,5 +1,6 @@
 pub mod Asking
 pub mod Authoring
+pub mod DefaultPrims
 pub mod Given
 pub mod Kept
 pub mod NoTargets

@@ -20,14 +20,9 @@ use std::test::Fail;
 // A sublayer as written: its asset, offset and scale.
 type Sub<'a> = (&'a str, i64, i64);
 
-// A reference as written: its asset and its path, `""` for none, its offset and scale.
-type Ref<'a> = (&'a str, &'a str, i64, i64);
-
-// A list of references: `=` explicit, `-` deleted, `+` added, `<` prepended, `>` appended, `%` ordered.
-type Edit<'a> = (&'a str, &'a [Ref<'a>]);
-
-// A layer: its name, its default prim, `""` for none, its sublayers, and its edits of references at `/A`.
-type Row<'a> = (&'a str, &'a str, &'a [Sub<'a>], &'a [Edit<'a>]);
+// A reference as written: its list, `=` explicit, `-` deleted, `+` added, `<` prepended, `>` appended, `%` ordered; its asset and its
+// path, `""` for none; its offset and scale.
+type Ref<'a> = (&'a str, &'a str, &'a str, i64, i64);
 
 fn offset(offset: i64, scale: i64) -> Result<LayerOffset, Fail> {
     if scale < 1 || scale > 1_000_000 || offset.unsigned_abs() > 1_000_000_000 {
@@ -52,32 +47,38 @@ fn some_path(alloc: Global, text: &str) -> Result<Option<Path>, Fail> {
     }
 }
 
-fn references(alloc: Global, rows: &[Ref<'_>]) -> Result<Items<RefItem>, Fail> {
+fn reference(alloc: Global, row: &Ref<'_>) -> Result<RefItem, Fail> {
+    Ok(RefItem {
+        asset: some_text(alloc, row.1)?,
+        path: some_path(alloc, row.2)?,
+        offset: offset(row.3, row.4)?,
+    })
+}
+
+fn references(alloc: Global, list: &str, rows: &[Ref<'_>]) -> Result<Items<RefItem>, Fail> {
     let mut items = Items::new(alloc);
     for row in rows {
-        items.push(RefItem {
-            asset: some_text(alloc, row.0)?,
-            path: some_path(alloc, row.1)?,
-            offset: offset(row.2, row.3)?,
-        })?;
+        if row.0 == list {
+            items.push(reference(alloc, row)?)?;
+        }
     }
     Ok(items)
 }
 
-fn list_edit(alloc: Global, edits: &[Edit<'_>]) -> Result<ListOp<RefItem>, Fail> {
-    let mut op = ListOp::new(alloc);
-    for edit in edits {
-        let items = references(alloc, edit.1)?;
-        match edit.0 {
-            "=" => op.explicit = Some(items),
-            "-" => op.deleted = items,
-            "+" => op.added = items,
-            "<" => op.prepended = items,
-            ">" => op.appended = items,
-            _ => op.ordered = items,
-        }
-    }
-    Ok(op)
+fn list_edit(alloc: Global, rows: &[Ref<'_>]) -> Result<ListOp<RefItem>, Fail> {
+    let explicit = references(alloc, "=", rows)?;
+    Ok(ListOp {
+        explicit: if explicit.is_empty() {
+            None
+        } else {
+            Some(explicit)
+        },
+        deleted: references(alloc, "-", rows)?,
+        added: references(alloc, "+", rows)?,
+        prepended: references(alloc, "<", rows)?,
+        appended: references(alloc, ">", rows)?,
+        ordered: references(alloc, "%", rows)?,
+    })
 }
 
 fn sublayers(alloc: Global, subs: &[Sub<'_>]) -> Result<Items<SubLayer>, Fail> {
@@ -90,15 +91,25 @@ fn sublayers(alloc: Global, subs: &[Sub<'_>]) -> Result<Items<SubLayer>, Fail> {
     Ok(all)
 }
 
-fn layer(alloc: Global, row: &Row<'_>) -> Result<Held, Fail> {
+// Puts a layer with a default prim, `""` for none, with sublayers, and with references at `/A`.
+fn add(
+    alloc: Global,
+    world: &mut World,
+    name: &str,
+    default_prim: &str,
+    subs: &[Sub<'_>],
+    references: &[Ref<'_>],
+) -> Result<(), Fail> {
     let mut head = Head::blank(alloc);
-    head.default_prim = some_text(alloc, row.1)?;
-    head.sublayers = sublayers(alloc, row.2)?;
+    head.default_prim = some_text(alloc, default_prim)?;
+    head.sublayers = sublayers(alloc, subs)?;
     let mut spec = Spec::blank(alloc, Specifier::Over);
-    spec.arcs.references = list_edit(alloc, row.3)?;
+    spec.arcs.references = list_edit(alloc, references)?;
     let mut specs = OrderedTable::new(alloc);
     specs.insert(Path::parse(alloc, "/A")?, spec)?;
-    Ok(Held::Present(Layer::from_parts(alloc, head, specs)))
+    let layer = Layer::from_parts(alloc, head, specs);
+    world.put(AssetId::of_word(alloc, name)?, Held::Present(layer))?;
+    Ok(())
 }
 
 // What stands for a text that is refused.
@@ -110,12 +121,9 @@ fn broken() -> Held {
     })
 }
 
-// A world of these layers whose root is `root.usda`, with a layer `broken.usdc` that was refused.
-fn world(alloc: Global, rows: &[Row<'_>]) -> Result<World, Fail> {
+// A world without layers whose root is `root.usda`, but for `broken.usdc` that was refused.
+fn empty_world(alloc: Global) -> Result<World, Fail> {
     let mut world = World::new(alloc, AssetId::of_word(alloc, "root.usda")?, None)?;
-    for row in rows {
-        world.put(AssetId::of_word(alloc, row.0)?, layer(alloc, row)?)?;
-    }
     world.put(AssetId::of_word(alloc, "broken.usdc")?, broken())?;
     Ok(world)
 }
@@ -171,38 +179,36 @@ fn shown(alloc: Global, all: &Items<Authored>) -> Result<String, Fail> {
 }
 
 // The references that the layers of the root's stack author at `/A`.
-fn authored(alloc: Global, rows: &[Row<'_>]) -> Result<String, Fail> {
-    let world = world(alloc, rows)?;
+fn authored(alloc: Global, world: &World) -> Result<String, Fail> {
     let at = Path::parse(alloc, "/A")?;
-    let root = stack_of(alloc, &world, &StackName::Root)?;
-    let all = authored_at(alloc, &world, &root, &at, ArcKind::Reference)?;
+    let root = stack_of(alloc, world, &StackName::Root)?;
+    let all = authored_at(alloc, world, &root, &at, ArcKind::Reference)?;
     shown(alloc, &all)
 }
 
 #[test]
 fn each_reason(rt: HostRuntime) -> Result<(), Fail> {
-    let rows: [Row<'_>; 3] = [
-        (
-            "root.usda",
-            "",
-            &[],
-            &[(
-                "=",
-                &[
-                    ("no.usda", "", 0, 1),
-                    ("broken.usdc", "", 0, 1),
-                    ("n.usda", "", 0, 1),
-                    ("g.usda", "/", 0, 1),
-                    ("g.usda", "/G.x", 0, 1),
-                    ("g.usda", "/G{v=a}", 0, 1),
-                    ("g.usda", "", 0, 1),
-                ],
-            )],
-        ),
-        ("n.usda", "", &[], &[]),
-        ("g.usda", "G", &[], &[]),
-    ];
-    let text = authored(rt.alloc(), &rows)?;
+    let alloc = rt.alloc();
+    let mut world = empty_world(alloc)?;
+    add(
+        alloc,
+        &mut world,
+        "root.usda",
+        "",
+        &[],
+        &[
+            ("=", "no.usda", "", 0, 1),
+            ("=", "broken.usdc", "", 0, 1),
+            ("=", "n.usda", "", 0, 1),
+            ("=", "g.usda", "/", 0, 1),
+            ("=", "g.usda", "/G.x", 0, 1),
+            ("=", "g.usda", "/G{v=a}", 0, 1),
+            ("=", "g.usda", "", 0, 1),
+        ],
+    )?;
+    add(alloc, &mut world, "n.usda", "", &[], &[])?;
+    add(alloc, &mut world, "g.usda", "G", &[], &[])?;
+    let text = authored(alloc, &world)?;
     assert_eq!(rt;
         text.as_str(),
         "@no.usda@ 0 1 by root.usda: missing\n@broken.usdc@ 0 1 by root.usda: broken\n@n.usda@ 0 1 by root.usda: no default\n@g.usda@</> 0 1 by root.usda: bad target\n@g.usda@</G.x> 0 1 by root.usda: bad target\n@g.usda@</G{v=a}> 0 1 by root.usda: bad target\n@g.usda@ 0 1 by root.usda: g.usda /G\n"
@@ -212,25 +218,30 @@ fn each_reason(rt: HostRuntime) -> Result<(), Fail> {
 
 #[test]
 fn two_reasons_at_one_item(rt: HostRuntime) -> Result<(), Fail> {
-    let far = 1_000_000_000;
-    let rows: [Row<'_>; 3] = [
-        ("root.usda", "", &[("sub.usda", 7, 1)], &[]),
-        (
-            "sub.usda",
-            "",
-            &[],
-            &[(
-                "+",
-                &[
-                    ("no.usda", "/G.x", far, 1),
-                    ("g.usda", "/", far, 1),
-                    ("g.usda", "/G", far, 1),
-                ],
-            )],
-        ),
-        ("g.usda", "", &[], &[]),
-    ];
-    let text = authored(rt.alloc(), &rows)?;
+    let alloc = rt.alloc();
+    let mut world = empty_world(alloc)?;
+    add(
+        alloc,
+        &mut world,
+        "root.usda",
+        "",
+        &[("sub.usda", 7, 1)],
+        &[],
+    )?;
+    add(
+        alloc,
+        &mut world,
+        "sub.usda",
+        "",
+        &[],
+        &[
+            ("+", "no.usda", "/G.x", 1_000_000_000, 1),
+            ("+", "g.usda", "/", 1_000_000_000, 1),
+            ("+", "g.usda", "/G", 1_000_000_000, 1),
+        ],
+    )?;
+    add(alloc, &mut world, "g.usda", "", &[], &[])?;
+    let text = authored(alloc, &world)?;
     assert_eq!(rt;
         text.as_str(),
         "@no.usda@</G.x> 1000000007 1 by sub.usda: missing\n@g.usda@</> 1000000007 1 by sub.usda: bad target\n@g.usda@</G> 1000000007 1 by sub.usda: range\n"
@@ -240,35 +251,38 @@ fn two_reasons_at_one_item(rt: HostRuntime) -> Result<(), Fail> {
 
 #[test]
 fn a_delete_in_a_weaker_layer(rt: HostRuntime) -> Result<(), Fail> {
-    let rows: [Row<'_>; 4] = [
-        (
-            "root.usda",
-            "",
-            &[("mid.usda", 0, 1)],
-            &[("+", &[("g.usda", "/B", 0, 1)])],
-        ),
-        (
-            "mid.usda",
-            "",
-            &[("low.usda", 0, 1)],
-            &[("-", &[("./g.usda", "/B", 0, 1), ("g.usda", "/C", 0, 1)])],
-        ),
-        (
-            "low.usda",
-            "",
-            &[],
-            &[(
-                "=",
-                &[
-                    ("g.usda", "/B", 0, 1),
-                    ("g.usda", "/C", 0, 1),
-                    ("g.usda", "/D", 0, 1),
-                ],
-            )],
-        ),
-        ("g.usda", "", &[], &[]),
-    ];
-    let text = authored(rt.alloc(), &rows)?;
+    let alloc = rt.alloc();
+    let mut world = empty_world(alloc)?;
+    add(
+        alloc,
+        &mut world,
+        "root.usda",
+        "",
+        &[("mid.usda", 0, 1)],
+        &[("+", "g.usda", "/B", 0, 1)],
+    )?;
+    add(
+        alloc,
+        &mut world,
+        "mid.usda",
+        "",
+        &[("low.usda", 0, 1)],
+        &[("-", "./g.usda", "/B", 0, 1), ("-", "g.usda", "/C", 0, 1)],
+    )?;
+    add(
+        alloc,
+        &mut world,
+        "low.usda",
+        "",
+        &[],
+        &[
+            ("=", "g.usda", "/B", 0, 1),
+            ("=", "g.usda", "/C", 0, 1),
+            ("=", "g.usda", "/D", 0, 1),
+        ],
+    )?;
+    add(alloc, &mut world, "g.usda", "", &[], &[])?;
+    let text = authored(alloc, &world)?;
     assert_eq!(rt;
         text.as_str(),
         "@g.usda@</D> 0 1 by low.usda: g.usda /D\n@g.usda@</B> 0 1 by root.usda: g.usda /B\n"
@@ -278,25 +292,29 @@ fn a_delete_in_a_weaker_layer(rt: HostRuntime) -> Result<(), Fail> {
 
 #[test]
 fn one_target_by_two_spellings(rt: HostRuntime) -> Result<(), Fail> {
-    let rows: [Row<'_>; 3] = [
-        (
-            "root.usda",
-            "",
-            &[("sets/low.usda", 0, 1)],
-            &[(
-                ">",
-                &[("./g.usda", "/G", 0, 1), ("x/../g.usda", "/G", 0, 1)],
-            )],
-        ),
-        (
-            "sets/low.usda",
-            "",
-            &[],
-            &[("+", &[("../g.usda", "/G", 0, 1), ("g.usda", "/G", 0, 1)])],
-        ),
-        ("g.usda", "", &[], &[]),
-    ];
-    let text = authored(rt.alloc(), &rows)?;
+    let alloc = rt.alloc();
+    let mut world = empty_world(alloc)?;
+    add(
+        alloc,
+        &mut world,
+        "root.usda",
+        "",
+        &[("sets/low.usda", 0, 1)],
+        &[
+            (">", "./g.usda", "/G", 0, 1),
+            (">", "x/../g.usda", "/G", 0, 1),
+        ],
+    )?;
+    add(
+        alloc,
+        &mut world,
+        "sets/low.usda",
+        "",
+        &[],
+        &[("+", "../g.usda", "/G", 0, 1), ("+", "g.usda", "/G", 0, 1)],
+    )?;
+    add(alloc, &mut world, "g.usda", "", &[], &[])?;
+    let text = authored(alloc, &world)?;
     assert_eq!(rt;
         text.as_str(),
         "@sets/g.usda@</G> 0 1 by sets/low.usda: missing\n@g.usda@</G> 0 1 by root.usda: g.usda /G\n"
@@ -306,17 +324,26 @@ fn one_target_by_two_spellings(rt: HostRuntime) -> Result<(), Fail> {
 
 #[test]
 fn offsets_of_a_layer_and_an_item(rt: HostRuntime) -> Result<(), Fail> {
-    let rows: [Row<'_>; 3] = [
-        ("root.usda", "", &[("low.usda", 10, 2)], &[]),
-        (
-            "low.usda",
-            "",
-            &[],
-            &[("+", &[("g.usda", "/G", 3, 4), ("g.usda", "/G", 3, 5)])],
-        ),
-        ("g.usda", "", &[], &[]),
-    ];
-    let text = authored(rt.alloc(), &rows)?;
+    let alloc = rt.alloc();
+    let mut world = empty_world(alloc)?;
+    add(
+        alloc,
+        &mut world,
+        "root.usda",
+        "",
+        &[("low.usda", 10, 2)],
+        &[],
+    )?;
+    add(
+        alloc,
+        &mut world,
+        "low.usda",
+        "",
+        &[],
+        &[("+", "g.usda", "/G", 3, 4), ("+", "g.usda", "/G", 3, 5)],
+    )?;
+    add(alloc, &mut world, "g.usda", "", &[], &[])?;
+    let text = authored(alloc, &world)?;
     assert_eq!(rt;
         text.as_str(),
         "@g.usda@</G> 16 8 by low.usda: g.usda /G\n@g.usda@</G> 16 10 by low.usda: g.usda /G\n"
@@ -326,17 +353,26 @@ fn offsets_of_a_layer_and_an_item(rt: HostRuntime) -> Result<(), Fail> {
 
 #[test]
 fn an_offset_that_leaves_the_range_with_a_layer(rt: HostRuntime) -> Result<(), Fail> {
-    let rows: [Row<'_>; 3] = [
-        (
-            "root.usda",
-            "",
-            &[],
-            &[("+", &[("g.usda", "/G", 0, 2), ("g.usda", "/G", 0, 1)])],
-        ),
-        ("g.usda", "", &[("far.usda", 0, 600_000)], &[]),
-        ("far.usda", "", &[], &[]),
-    ];
-    let text = authored(rt.alloc(), &rows)?;
+    let alloc = rt.alloc();
+    let mut world = empty_world(alloc)?;
+    add(
+        alloc,
+        &mut world,
+        "root.usda",
+        "",
+        &[],
+        &[("+", "g.usda", "/G", 0, 2), ("+", "g.usda", "/G", 0, 1)],
+    )?;
+    add(
+        alloc,
+        &mut world,
+        "g.usda",
+        "",
+        &[("far.usda", 0, 600_000)],
+        &[],
+    )?;
+    add(alloc, &mut world, "far.usda", "", &[], &[])?;
+    let text = authored(alloc, &world)?;
     assert_eq!(rt;
         text.as_str(),
         "@g.usda@</G> 0 2 by root.usda: range\n@g.usda@</G> 0 1 by root.usda: g.usda /G\n"
@@ -346,38 +382,51 @@ fn an_offset_that_leaves_the_range_with_a_layer(rt: HostRuntime) -> Result<(), F
 
 #[test]
 fn an_explicit_list_over_weaker_edits(rt: HostRuntime) -> Result<(), Fail> {
-    let rows: [Row<'_>; 3] = [
-        (
-            "root.usda",
-            "",
-            &[("low.usda", 0, 1)],
-            &[("=", &[("g.usda", "/B", 0, 1)])],
-        ),
-        (
-            "low.usda",
-            "",
-            &[],
-            &[("+", &[("g.usda", "/C", 0, 1), ("g.usda", "/B", 0, 1)])],
-        ),
-        ("g.usda", "", &[], &[]),
-    ];
-    let text = authored(rt.alloc(), &rows)?;
+    let alloc = rt.alloc();
+    let mut world = empty_world(alloc)?;
+    add(
+        alloc,
+        &mut world,
+        "root.usda",
+        "",
+        &[("low.usda", 0, 1)],
+        &[("=", "g.usda", "/B", 0, 1)],
+    )?;
+    add(
+        alloc,
+        &mut world,
+        "low.usda",
+        "",
+        &[],
+        &[("+", "g.usda", "/C", 0, 1), ("+", "g.usda", "/B", 0, 1)],
+    )?;
+    add(alloc, &mut world, "g.usda", "", &[], &[])?;
+    let text = authored(alloc, &world)?;
     assert_eq!(rt; text.as_str(), "@g.usda@</B> 0 1 by root.usda: g.usda /B\n");
     Ok(())
 }
 
 #[test]
 fn items_without_an_asset_mean_the_first_layer(rt: HostRuntime) -> Result<(), Fail> {
-    let rows: [Row<'_>; 2] = [
-        ("root.usda", "/World/Set", &[("low.usda", 0, 1)], &[]),
-        (
-            "low.usda",
-            "L",
-            &[],
-            &[("+", &[("", "", 0, 1), ("", "/B", 0, 1)])],
-        ),
-    ];
-    let text = authored(rt.alloc(), &rows)?;
+    let alloc = rt.alloc();
+    let mut world = empty_world(alloc)?;
+    add(
+        alloc,
+        &mut world,
+        "root.usda",
+        "/World/Set",
+        &[("low.usda", 0, 1)],
+        &[],
+    )?;
+    add(
+        alloc,
+        &mut world,
+        "low.usda",
+        "L",
+        &[],
+        &[("+", "", "", 0, 1), ("+", "", "/B", 0, 1)],
+    )?;
+    let text = authored(alloc, &world)?;
     assert_eq!(rt;
         text.as_str(),
         " 0 1 by low.usda: Root /World/Set\n</B> 0 1 by low.usda: Root /B\n"
@@ -443,11 +492,10 @@ fn a_path_has_a_spec_or_none(rt: HostRuntime) -> Result<(), Fail> {
 }
 
 // The arcs of references at `/A`: how many, the faults, and the keys that were read.
-fn arcs(alloc: Global, rows: &[Row<'_>]) -> Result<String, Fail> {
-    let world = world(alloc, rows)?;
+fn arcs(alloc: Global, world: &World) -> Result<String, Fail> {
     let at = Path::parse(alloc, "/A")?;
-    let root = stack_of(alloc, &world, &StackName::Root)?;
-    let here = arcs_at(alloc, &world, &root, &at, ArcKind::Reference)?;
+    let root = stack_of(alloc, world, &StackName::Root)?;
+    let here = arcs_at(alloc, world, &root, &at, ArcKind::Reference)?;
     let mut out = String::new(alloc);
     for arc in here.items.as_slice() {
         let target = arc.target.print()?;
@@ -478,26 +526,39 @@ fn write_key(out: &mut String, key: &Key) -> Result<(), Fail> {
 
 #[test]
 fn arcs_faults_and_keys(rt: HostRuntime) -> Result<(), Fail> {
-    let rows: [Row<'_>; 4] = [
-        ("root.usda", "", &[("low.usda", 0, 1)], &[]),
-        (
-            "low.usda",
-            "",
-            &[],
-            &[(
-                "=",
-                &[
-                    ("broken.usdc", "", 0, 1),
-                    ("no.usda", "", 0, 1),
-                    ("g.usda", "", 0, 1),
-                    ("g.usda", "/H", 0, 1),
-                ],
-            )],
-        ),
-        ("g.usda", "G", &[("far.usda", 0, 1), ("g.usda", 0, 1)], &[]),
-        ("far.usda", "", &[], &[]),
-    ];
-    let text = arcs(rt.alloc(), &rows)?;
+    let alloc = rt.alloc();
+    let mut world = empty_world(alloc)?;
+    add(
+        alloc,
+        &mut world,
+        "root.usda",
+        "",
+        &[("low.usda", 0, 1)],
+        &[],
+    )?;
+    add(
+        alloc,
+        &mut world,
+        "low.usda",
+        "",
+        &[],
+        &[
+            ("=", "broken.usdc", "", 0, 1),
+            ("=", "no.usda", "", 0, 1),
+            ("=", "g.usda", "", 0, 1),
+            ("=", "g.usda", "/H", 0, 1),
+        ],
+    )?;
+    add(
+        alloc,
+        &mut world,
+        "g.usda",
+        "G",
+        &[("far.usda", 0, 1), ("g.usda", 0, 1)],
+        &[],
+    )?;
+    add(alloc, &mut world, "far.usda", "", &[], &[])?;
+    let text = arcs(alloc, &world)?;
     assert_eq!(rt;
         text.as_str(),
         "/G by low.usda\n/H by low.usda\nBrokenLayer @low.usda@</A> references @broken.usdc@ Crate 1:1\nMissingLayer @low.usda@</A> references @no.usda@\narcs root.usda /A\narcs low.usda /A\nhead broken.usdc\nhead no.usda\nhead g.usda\nhead far.usda\n"
