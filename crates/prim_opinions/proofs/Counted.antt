@@ -1,5 +1,6 @@
 -- The specs that count, as one more opinion is looked at.
-use Rattle.std.proofs.Common.{◌≡◌, ◌∙◌, sym, ap, refl, Bool, true, false, cond, List, [], ◌∷◌, ◌++◌, Option, Some, None}
+use Rattle.std.proofs.Common.{◌≡◌, ◌∙◌, sym, ap, refl, ℕ, ◌+◌, ◌<◌, length, take, get_or, Bool, true, false, cond, List, [], ◌∷◌, ◌++◌, Option, Some, None}
+use Rattle.std.proofs.lemmas.List.{take_more}
 use Rattle.std.specs.Prelude.{filter, flat_map}
 use Rattle.std.proofs.lemmas.Grind.{flat_map-append}
 use Rattle.spec_properties.specs.Properties.{property_at}
@@ -44,3 +45,12 @@ counted_more name said s =
     by_property : (o : Option Property) → counting (specs_of name said ++ if_there s o) ≡ with_property_of (counting (specs_of name said)) s o
     by_property None = ap counting (append_none (specs_of name said))
     by_property (Some p) = counting_more (specs_of name said) (record { said = s; property = p })
+
+pub none_counted : (name : Text) → counted name [] ≡ []
+unfolding counted
+none_counted name = refl
+
+pub counted_next : (name : Text) (said : List Said) (i : ℕ) (s : Said) → i < length said → s ≡ get_or said i s
+    → with_property_of (counted name (take i said)) s (property_at name s.spec.body.properties) ≡ counted name (take (i + 1) said)
+counted_next name said i s within item =
+    sym (ap (counted name) (take_more said i s within ∙ ap (λ (x : Said). take i said ++ x ∷ []) (sym item)) ∙ counted_more name (take i said) s)

@@ -1,5 +1,7 @@
 -- Gathering site by site and layer by layer gives the opinions that are defined.
-use Rattle.std.proofs.Common.{◌≡◌, ◌∙◌, sym, ap, refl, ℕ, ◌<◌, List, [], ◌∷◌, ◌++◌, map, take, drop, length, Option, Some, None}
+use Rattle.std.proofs.Common.{◌≡◌, ◌∙◌, sym, ap, refl, ℕ, ◌<◌, List, [], ◌∷◌, ◌++◌, map, take, get_or, ◌+◌, length, Option, Some, None}
+use Rattle.std.proofs.lemmas.List.{take_more, append_assoc}
+use Rattle.std.proofs.lemmas.Grind.{flat_map-append}
 use Rattle.std.specs.Prelude.{flat_map, option_map, option_to_list}
 use Rattle.std.specs.List.{filter_map, cons_option}
 use Rattle.sdf_values.specs.Scales.{Offset, composed}
@@ -45,3 +47,33 @@ gathered w sites = flat_map (λ n. said_in w n (defined_stack w n.stack).layers)
 pub gathered_is : (w : World) (sites : List Site) → gathered w sites ≡ said_on w sites
 unfolding gathered said_on
 gathered_is w sites = flat_map_same (λ n. said_in w n (defined_stack w n.stack).layers) (said_at limits w) (at_stack w) sites
+
+append_none : {X : Type 0} (xs : List X) → xs ++ [] ≡ xs
+append_none [] = refl
+append_none (x ∷ xs) = ap (λ ys. x ∷ ys) (append_none xs)
+
+flat_map_next : {X Y : Type 0} (f : X → List Y) (xs : List X) (i : ℕ) (x : X) → i < length xs → x ≡ get_or xs i x → flat_map f (take (i + 1) xs) ≡ flat_map f (take i xs) ++ f x
+flat_map_next f xs i x within item =
+    ap (flat_map f) (take_more xs i x within ∙ ap (λ y. take i xs ++ y ∷ []) (sym item))
+    ∙ (flat_map-append f (take i xs) (x ∷ []) ∙ ap (λ ys. flat_map f (take i xs) ++ ys) (append_none (f x)))
+
+module _ (w : World) where
+  pub none_in : (n : Site) (out : List Said) → out ≡ out ++ said_in w n []
+  unfolding said_in
+  none_in n out = sym (append_none out)
+
+  pub said_next : (n : Site) (out : List Said) (layers : List (Text × Offset)) (i : ℕ) (e : Text × Offset) → i < length layers → e ≡ get_or layers i e
+      → (out ++ said_in w n (take i layers)) ++ option_to_list (said_by w n e) ≡ out ++ said_in w n (take (i + 1) layers)
+  unfolding said_in
+  said_next n out layers i e within item =
+      append_assoc out (said_in w n (take i layers)) (option_to_list (said_by w n e))
+      ∙ ap (λ (said : List Said). out ++ said) (sym (flat_map_next (λ (x : Text × Offset). option_to_list (said_by w n x)) layers i e within item))
+
+  pub none_gathered : gathered w [] ≡ []
+  unfolding gathered
+  none_gathered = refl
+
+  pub gathered_next : (sites : List Site) (i : ℕ) (n : Site) → i < length sites → n ≡ get_or sites i n
+      → gathered w (take i sites) ++ said_in w n (defined_stack w n.stack).layers ≡ gathered w (take (i + 1) sites)
+  unfolding gathered
+  gathered_next sites i n within item = sym (flat_map_next (λ (x : Site). said_in w x (defined_stack w x.stack).layers) sites i n within item)

@@ -1,4 +1,5 @@
 -- Two types have one name exactly where the elements have, and both or neither are arrays.
+use mathlib.Core.Bool.{beq, not}
 use Rattle.std.proofs.Common.{◌≡◌, ◌∙◌, sym, ap, refl, ℕ, Bool, true, false, ◌||◌, List, [], ◌∷◌, ◌++◌}
 use Rattle.std.specs.Prelude.{◌==◌, codes, IsTrue, ◌↔◌, if◌then◌else◌}
 use Rattle.std.specs.List.{list_any}
@@ -101,3 +102,15 @@ module _ (a b : TypeName) where
 
       names : type_text a ≡ type_text b → element_name a.element ≡ element_name b.element
       names e = append_cancel_right (element_name a.element) (element_name b.element) (brackets b.array) (ap (λ (x : Bool). element_name a.element ++ brackets x) (sym arrays) ∙ e)
+
+pub flags_apart : (x y : Bool) → not (beq x y) ≡ true → x ≡ y → ⊥
+flags_apart true true h e = absurd cc
+flags_apart true false h e = absurd cc
+flags_apart false true h e = absurd cc
+flags_apart false false h e = absurd cc
+
+pub flags_same : (x y : Bool) → not (beq x y) ≡ false → x ≡ y
+flags_same true true h = refl
+flags_same true false h = absurd cc
+flags_same false true h = absurd cc
+flags_same false false h = refl

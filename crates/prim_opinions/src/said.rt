@@ -30,12 +30,7 @@ impl<'w> Model for SaidAt<'w> {
 
 impl<'w> SaidAt<'w> {
     /// What a layer of a stack says at a site.
-    pub fn new(
-        site: &'w Site,
-        layer: AssetId,
-        offset: StageOffset,
-        spec: &'w Spec,
-    ) -> SaidAt<'w>
+    pub fn new(site: &'w Site, layer: AssetId, offset: StageOffset, spec: &'w Spec) -> SaidAt<'w>
         ensures { result ≡ record { site = site.now; layer = layer; offset = offset; spec = spec.now } }
     {
         SaidAt {
