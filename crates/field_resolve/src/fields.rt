@@ -83,7 +83,7 @@ pub fn specifier_of(said: &[SaidAt]) -> Specifier
 }
 
 /// The strongest type that is given.
-pub fn type_of<'w>(said: &[SaidAt<'w, '_>]) -> Option<&'w Text>
+pub fn type_of<'w>(said: &[SaidAt<'w>]) -> Option<&'w Text>
     ensures { option_copied result ≡ type_on said.now }
 {
     for opinion in said {
