@@ -41,7 +41,7 @@ fn same_sort(a: &Property, b: &Property) -> bool
 }
 
 /// Whether a property counts beside stronger ones.
-fn counts(stronger: &[PropertyAt<'_>], property: &Property) -> bool
+fn counts(stronger: &[PropertyAt<'_, '_, '_>], property: &Property) -> bool
     ensures { result ≡ counts stronger.now property.now }
 {
     match stronger.first() {
@@ -51,10 +51,10 @@ fn counts(stronger: &[PropertyAt<'_>], property: &Property) -> bool
 }
 
 /// Appends a property if it counts beside those that are there.
-fn push_if_counts<'o>(
-    out: &mut Items<PropertyAt<'o>>,
-    said: &'o SaidAt<'o>,
-    property: &'o Property,
+fn push_if_counts<'o, 'w, 's>(
+    out: &mut Items<PropertyAt<'o, 'w, 's>>,
+    said: &'o SaidAt<'w, 's>,
+    property: &'w Property,
 ) -> Result<(), AllocError>
     ensures { OnOk result (out.new ≡ with_counting out.old (record { said = said.now; property = property.now })) }
 {
@@ -65,10 +65,10 @@ fn push_if_counts<'o>(
 }
 
 /// Appends the property of a name that a layer has at a site, if there is one and it counts.
-fn push_property_of<'o>(
-    out: &mut Items<PropertyAt<'o>>,
+fn push_property_of<'o, 'w, 's>(
+    out: &mut Items<PropertyAt<'o, 'w, 's>>,
     name: &Text,
-    said: &'o SaidAt<'o>,
+    said: &'o SaidAt<'w, 's>,
 ) -> Result<(), AllocError>
     ensures { OnOk result (out.new ≡ with_property_of out.old said.now (property_at name.now said.now.spec.body.properties)) }
 {
@@ -83,11 +83,11 @@ fn push_property_of<'o>(
 /// # Errors
 ///
 /// Memory ran out.
-pub fn specs_of<'o>(
+pub fn specs_of<'o, 'w, 's>(
     alloc: Global,
     name: &Text,
-    said: &'o [SaidAt<'o>],
-) -> Result<Items<PropertyAt<'o>>, AllocError>
+    said: &'o [SaidAt<'w, 's>],
+) -> Result<Items<PropertyAt<'o, 'w, 's>>, AllocError>
     ensures { IfOk result (λ specs. specs ≡ counted name.now said.now) }
 {
     let mut specs = Items::new(alloc);

@@ -13,10 +13,10 @@ use sdf_values::LayerOffset;
 use std::alloc::{AllocError, Global};
 
 /// Appends what a layer of a stack says at a site, if it says something.
-fn push_said_by<'w>(
-    out: &mut Items<SaidAt<'w>>,
+fn push_said_by<'w, 's>(
+    out: &mut Items<SaidAt<'w, 's>>,
     world: &'w World,
-    site: &'w Site,
+    site: &'s Site,
     layer: &AssetId,
     offset: LayerOffset,
 ) -> Result<(), AllocError>
@@ -30,10 +30,10 @@ fn push_said_by<'w>(
 }
 
 /// Appends what the layers of a stack say at a site.
-fn push_said_in<'w>(
-    out: &mut Items<SaidAt<'w>>,
+fn push_said_in<'w, 's>(
+    out: &mut Items<SaidAt<'w, 's>>,
     world: &'w World,
-    site: &'w Site,
+    site: &'s Site,
     layers: &[(AssetId, LayerOffset)],
 ) -> Result<(), AllocError>
     ensures { OnOk result (out.new ≡ out.old ++ said_in (look_ups world.now) site.now layers.now) }
@@ -49,11 +49,11 @@ fn push_said_in<'w>(
 /// # Errors
 ///
 /// Memory ran out.
-pub fn opinions_on<'w>(
+pub fn opinions_on<'w, 's>(
     alloc: Global,
     world: &'w World,
-    sites: &'w [Site],
-) -> Result<Items<SaidAt<'w>>, AllocError>
+    sites: &'s [Site],
+) -> Result<Items<SaidAt<'w, 's>>, AllocError>
     ensures { IfOk result (λ said. said ≡ said_on (look_ups world.now) sites.now) }
 {
     let mut stacks = Stacks::new(alloc);

@@ -8,14 +8,14 @@ use std::marker::Model;
 
 /// What one layer says of a prim at one of its sites.
 #[derive(Drop)]
-pub struct SaidAt<'w> {
-    site: &'w Site,
+pub struct SaidAt<'w, 's> {
+    site: &'s Site,
     layer: AssetId,
     offset: StageOffset,
     spec: &'w Spec,
 }
 
-impl<'w> Model for SaidAt<'w> {
+impl<'w, 's> Model for SaidAt<'w, 's> {
     ghost use Rattle.composition.specs.Opinions.{Said};
     ghost use Rattle.std.specs.Coded.{codes};
     ghost use Rattle.prim_view.specs.contracts.site.Site as of_site;
@@ -28,9 +28,9 @@ impl<'w> Model for SaidAt<'w> {
     ghost view = { λ s. record { site = s.site.now; layer = s.layer; offset = s.offset; spec = s.spec.now } };
 }
 
-impl<'w> SaidAt<'w> {
+impl<'w, 's> SaidAt<'w, 's> {
     /// What a layer of a stack says at a site.
-    pub fn new(site: &'w Site, layer: AssetId, offset: StageOffset, spec: &'w Spec) -> SaidAt<'w>
+    pub fn new(site: &'s Site, layer: AssetId, offset: StageOffset, spec: &'w Spec) -> SaidAt<'w, 's>
         ensures { result ≡ record { site = site.now; layer = layer; offset = offset; spec = spec.now } }
     {
         SaidAt {
@@ -42,7 +42,7 @@ impl<'w> SaidAt<'w> {
     }
 
     /// The site.
-    pub fn site(&self) -> &'w Site
+    pub fn site(&self) -> &'s Site
         ensures { result.now ≡ self.now.site }
     {
         self.site
