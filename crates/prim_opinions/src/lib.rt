@@ -16,5 +16,3 @@ pub use place::property_path;
 pub use property::PropertyAt;
 pub use said::SaidAt;
 
-#[cfg(test)]
-mod tests;

@@ -1,1 +1,0 @@
-// Small worlds made of texts.
