@@ -1,10 +1,10 @@
 -- Paths through one arc, within the limits of paths.
-use Rattle.std.proofs.Common.{◌≡◌, ◌∙◌, sym, ap, refl, subst, ℕ, ◌≤◌, arith, Bool, true, false, List, [], ◌∷◌, ◌++◌, length, Option, Some, None}
+use Rattle.std.proofs.Common.{◌≡◌, ◌∙◌, sym, ap, refl, subst, ℕ, ◌≤◌, arith, Bool, true, false, ◌++◌, length, Option, Some, None}
 use Rattle.std.specs.Prelude.{nat_le, option_map}
 use Rattle.std.specs.Option.{ForSome, IsSomeAnd}
 use Rattle.std.proofs.lemmas.Bool.Decides.{nat_tests}
 use Rattle.sdf_paths.specs.declared.fault.PathFault.TheVariants.{Bad}
-use Rattle.sdf_paths.specs.Paths.{IsRefusal, IsPath, IsWellFormed, depth, plain, printed, rest_after, replaced, has_prefix, MayFollow, written_all, is_property}
+use Rattle.sdf_paths.specs.Paths.{IsRefusal, IsPath, depth, plain, printed, rest_after, replaced}
 use Rattle.sdf_paths.proofs.Shapes.{joined_path, depth_joined, length_printed, may_follow, plain_path}
 use Rattle.path_maps.specs.Maps.{is_under, outside_class, through_class, translated}
 use Rattle.path_maps.specs.declared.kind.ArcKind.{ArcKind}
@@ -54,9 +54,9 @@ module _ (target author p moved : Path) (good : IsPath author) (whole : IsPath p
       let few_joined : depth (author ++ rest) ≤ 64 = subst (λ (q : Path). depth q ≤ 64) same few in
       let short_joined : length (printed (author ++ rest)) ≤ 4096 = subst (λ (q : Path). length (printed q) ≤ 4096) same short in
       subst IsPath (sym same)
-          (joined_path target author p rest good whole is (may_follow author rest prim.below_root prim.no_property)
-          (omega (arith, few_joined, depth_joined author rest))
-          (omega (arith, short_joined, length_printed (author ++ rest))))
+      (joined_path target author p rest good whole is (may_follow author rest prim.below_root prim.no_property)
+      (omega (arith, few_joined, depth_joined author rest))
+      (omega (arith, short_joined, length_printed (author ++ rest))))
 
   replaced_well : replaced target author p ≡ Some moved → IsPath moved
   replaced_well = by_rest (rest_after target p) refl

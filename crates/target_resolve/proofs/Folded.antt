@@ -1,6 +1,5 @@
 -- Folds of paths by the comparison of the code are those by the test of the definitions.
-use Rattle.std.proofs.Common.{◌≡◌, ◌∙◌, sym, ap, refl, Bool, true, false, ◌&&◌, List, [], ◌∷◌, reverse}
-use Rattle.std.specs.Cmp.Lexicographic.{pointwise}
+use Rattle.std.proofs.Common.{◌≡◌, ◌∙◌, ap, refl, Bool, true, false, ◌&&◌, List, [], ◌∷◌, reverse}
 use Rattle.sdf_paths.specs.Paths.{same_element}
 use Rattle.sdf_paths.specs.contracts.element.ElementPartialEq.TheImpl.{ghosts as element_eq}
 use Rattle.sdf_paths.specs.contracts.path.PathPartialEq.TheImpl.{ghosts as path_eq}
@@ -8,7 +7,6 @@ use Rattle.sdf_paths.specs.declared.element.Element.{Element}
 use Rattle.sdf_paths.specs.declared.element.Element.TheVariants.{Prim, Property, Selection}
 use Rattle.list_ops.specs.declared.op.ListOp.{ListOp}
 use Rattle.list_ops.specs.ListEdits.{folded}
-use Rattle.composition.specs.Arcs.{strongest_folded}
 use Rattle.composition.specs.Paths.{Path, same_path}
 use Rattle.target_resolve.specs.Translating.{folded_paths}
 

@@ -10,7 +10,7 @@ use Rattle.prim_view.specs.declared.fault.PrimFault.TheVariants.{TargetOutside}
 use Rattle.composition.specs.Nodes.{ArcMap}
 use Rattle.composition.specs.Opinions.{Said, is_opinion}
 use Rattle.composition.specs.Paths.{Path, limits}
-use Rattle.composition.specs.Targets.{translated_op, translated_ops, target_fault, target_faults, targets_of}
+use Rattle.composition.specs.Targets.{translated_op, translated_ops, target_fault, target_faults}
 use Rattle.composition.specs.Texts.{Text}
 use Rattle.composition.specs.Values.{PropertySaid, property_path}
 use Rattle.target_resolve.specs.Translating.{on_stage, is_missing, is_lost, op_on_stage, outside, folded_paths, if_any, edits_of, tried}

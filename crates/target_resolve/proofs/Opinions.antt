@@ -1,5 +1,5 @@
 -- Whether an opinion has edits, list by list.
-use Rattle.std.proofs.Common.{◌≡◌, ◌∙◌, sym, ap, refl, Bool, true, false, not, List, [], ◌∷◌, ◌++◌}
+use Rattle.std.proofs.Common.{◌≡◌, ◌∙◌, ap, refl, Bool, true, not, List, [], ◌∷◌, ◌++◌}
 use Rattle.list_ops.specs.declared.op.ListOp.{ListOp}
 use Rattle.composition.specs.Arcs.{is_empty}
 use Rattle.composition.specs.Opinions.{has_edits}

@@ -112,7 +112,11 @@ fn with_explicit(edits: Edited, items: Moved) -> Edited
 }
 
 /// The edits of an opinion on the stage.
-pub fn translated_edits(alloc: Global, maps: &[ArcMap], op: &ListOp<Path>) -> Result<Edited, AllocError>
+pub fn translated_edits(
+    alloc: Global,
+    maps: &[ArcMap],
+    op: &ListOp<Path>,
+) -> Result<Edited, AllocError>
     ensures edits { IfOk result (λ e. e.op ≡ op_on_stage maps.now op.now) }
     ensures lost { IfOk result (λ e. e.lost ≡ filter (is_lost maps.now) (tried op.now)) }
 {
@@ -127,7 +131,10 @@ pub fn translated_edits(alloc: Global, maps: &[ArcMap], op: &ListOp<Path>) -> Re
 }
 
 /// What opinions, given from the strongest to the weakest, make together; none where there is no opinion.
-pub fn if_any(alloc: Global, opinions: Items<ListOp<Path>>) -> Result<Option<Items<Path>>, AllocError>
+pub fn if_any(
+    alloc: Global,
+    opinions: Items<ListOp<Path>>,
+) -> Result<Option<Items<Path>>, AllocError>
     ensures { IfOk result (λ list. list ≡ if_any opinions) }
 {
     if opinions.is_empty() {

@@ -6,4 +6,3 @@ mod targets;
 mod translate;
 
 pub use targets::{TargetList, resolve_targets, resolve_targets_by, resolve_targets_of};
-

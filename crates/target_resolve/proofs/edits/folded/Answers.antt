@@ -1,4 +1,4 @@
-use Rattle.std.proofs.Common.{◌≡◌, ◌∙◌, ap, List, reverse}
+use Rattle.std.proofs.Common.{◌∙◌, ap, List, reverse}
 use Rattle.sdf_paths.specs.contracts.path.PathPartialEq.TheImpl.{ghosts as path_eq}
 use Rattle.list_ops.specs.declared.op.ListOp.{ListOp}
 use Rattle.list_ops.specs.ListEdits.{folded}

@@ -1,4 +1,4 @@
-use Rattle.std.proofs.Common.{◌≡◌, ◌∙◌, sym, ap, List, ◌++◌, map}
+use Rattle.std.proofs.Common.{◌∙◌, sym, ap, List, ◌++◌, map}
 use Rattle.spec_properties.specs.declared.property.Property.{Property}
 use Rattle.list_ops.specs.declared.op.ListOp.{ListOp}
 use Rattle.prim_view.specs.declared.fault.PrimFault.{PrimFault}
@@ -18,12 +18,12 @@ loop-opinion-preserved c =
     let own = c.edits_of-edits.ensures ∙ ap (λ (p : Property). edits_of p) c.property.ensures in
     record {
       ops = c.in_ok-push_op.ensures
-      ∙ (ap (λ (ops : List (ListOp Path)). with_op ops c.edits_of-edits.result.now c.in_ok-there.there.op) c.loop-opinion.invariant.ops
-      ∙ ops_at c.args.specs.now c.loop-opinion.opinion-index c.opinion-item.result c.loop-opinion-test.true c.opinion-item.is
+          ∙ (ap (λ (ops : List (ListOp Path)). with_op ops c.edits_of-edits.result.now c.in_ok-there.there.op) c.loop-opinion.invariant.ops
+          ∙ ops_at c.args.specs.now c.loop-opinion.opinion-index c.opinion-item.result c.loop-opinion-test.true c.opinion-item.is
           c.as_slice.result.now c.edits_of-edits.result.now c.in_ok-there.there.op arcs own c.in_ok-there.ensures.edits);
       faults = c.in_ok-push_faults.ensures
-      ∙ (ap (λ (faults : List PrimFault). faults ++ map (outside c.args.name.now c.said-said.result.now) c.as_slice-in-loop-opinion.result.now) c.loop-opinion.invariant.faults
-      ∙ faults_at c.args.name.now c.args.specs.now c.loop-opinion.opinion-index c.opinion-item.result c.loop-opinion-test.true c.opinion-item.is
+          ∙ (ap (λ (faults : List PrimFault). faults ++ map (outside c.args.name.now c.said-said.result.now) c.as_slice-in-loop-opinion.result.now) c.loop-opinion.invariant.faults
+          ∙ faults_at c.args.name.now c.args.specs.now c.loop-opinion.opinion-index c.opinion-item.result c.loop-opinion-test.true c.opinion-item.is
           c.said-said.result.now c.as_slice.result.now c.edits_of-edits.result.now c.as_slice-in-loop-opinion.result.now c.said-said.ensures arcs own
           (c.as_slice-in-loop-opinion.ensures ∙ c.in_ok-there.ensures.lost));
     }

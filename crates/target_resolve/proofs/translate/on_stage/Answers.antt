@@ -1,4 +1,4 @@
-use Rattle.std.proofs.Common.{◌≡◌, ◌∙◌, sym, arith, Some, None}
+use Rattle.std.proofs.Common.{◌∙◌, sym, arith, Some, None}
 use Rattle.target_resolve.proofs.Moved.{step_on, at_end}
 use Rattle.target_resolve.proofs.translate.on_stage.Goals as goal
 

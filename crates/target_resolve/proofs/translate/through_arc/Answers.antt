@@ -1,4 +1,4 @@
-use Rattle.std.proofs.Common.{◌≡◌, ◌∙◌}
+use Rattle.std.proofs.Common.{◌∙◌}
 use Rattle.target_resolve.proofs.Fitting.{arc_kept, arc_refused}
 use Rattle.target_resolve.proofs.translate.through_arc.Goals as goal
 
@@ -8,4 +8,4 @@ returns-in-Ok c = c.in-Ok.ensures.ok ∙ arc_kept c.args.map.now c.args.path.now
 pub returns-in-Err-Bad : goal.returns-in-Err-Bad
 returns-in-Err-Bad c =
     arc_refused c.args.map.now c.args.path.now c.in-Err-Bad.field-0-0 c.author_of-author.ensures.path c.elements-elements.ensures.path c.author_of-author.ensures.prim
-        (rw c.in-Err-Bad.field-0-is at c.in-Err-Bad.ensures.bad)
+    (rw c.in-Err-Bad.field-0-is at c.in-Err-Bad.ensures.bad)
