@@ -1,14 +1,14 @@
 -- The specs that count, as one more opinion is looked at.
 use Rattle.std.proofs.Common.{◌≡◌, ◌∙◌, sym, ap, refl, ℕ, ◌+◌, ◌<◌, length, take, get_or, Bool, true, false, cond, List, [], ◌∷◌, ◌++◌, Option, Some, None}
 use Rattle.std.proofs.lemmas.List.{take_more}
-use Rattle.std.specs.Prelude.{filter, flat_map}
+use Rattle.std.specs.Prelude.{filter}
 use Rattle.std.proofs.lemmas.Grind.{flat_map-append}
 use Rattle.spec_properties.specs.Properties.{property_at}
 use Rattle.spec_properties.specs.declared.property.Property.{Property}
 use Rattle.composition.specs.Texts.{Text}
 use Rattle.composition.specs.Opinions.{Said}
 use Rattle.composition.specs.Values.{PropertySaid, same_sort, if_there, specs_of, counting}
-use Rattle.prim_opinions.specs.Counting.{counted, counts, with_counting, with_property_of}
+use Rattle.prim_opinions.specs.Counting.{counted, with_counting, with_property_of}
 
 filter_more : {X : Type 0} (p : X → Bool) (xs : List X) (x : X) → filter p (xs ++ x ∷ []) ≡ cond (p x) (filter p xs ++ x ∷ []) (filter p xs)
 filter_more p [] x = refl

@@ -10,7 +10,7 @@ use Rattle.composition.specs.Arcs.{Opinion}
 use Rattle.composition.specs.Texts.{Text}
 use Rattle.composition.specs.Paths.{limits}
 use Rattle.composition.specs.World.{World}
-use Rattle.composition.specs.Opinions.{Site, Said, said_at, said_at_all}
+use Rattle.composition.specs.Opinions.{Site, Said, said_at}
 use Rattle.layer_stack.specs.Meant.{defined_stack}
 use Rattle.prim_opinions.specs.Gathering.{said_by, said_in, said_on}
 

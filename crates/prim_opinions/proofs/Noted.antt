@@ -1,5 +1,5 @@
 -- Names of stacks that tie are one, and what stands at a name after another was noted.
-use Rattle.std.proofs.Common.{◌≡◌, sym, ap, refl, subst, Bool, true, false, cond, List, Option, Some, None}
+use Rattle.std.proofs.Common.{◌≡◌, sym, ap, refl, subst, true, cond, List, Option, Some, None}
 use Rattle.std.specs.Prelude.{IfSome, is_some}
 use Rattle.std.specs.Ordering.{is_eq}
 use Rattle.std.specs.declared.cmp.Ordering.{Ordering}

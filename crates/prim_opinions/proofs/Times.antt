@@ -1,5 +1,5 @@
 -- Products of offsets and scales, and times within their range.
-use Rattle.std.proofs.Common.{◌≡◌, ◌∙◌, sym, ap, refl, subst, ℕ, zero, suc, ◌*◌, ◌^◌, ◌<◌, ◌≤◌, arith, Bool, true, false, Option, Some, None, to_z, of_z, w64}
+use Rattle.std.proofs.Common.{◌≡◌, ◌∙◌, sym, ap, subst, ℕ, ◌*◌, ◌^◌, ◌<◌, ◌≤◌, arith, Bool, true, false, Option, Some, None, to_z, of_z, w64}
 use Rattle.std.specs.Int.{w128}
 use Rattle.std.specs.Prelude.{ℤ, pos, negsuc, ◌+ℤ◌, ◌*ℤ◌, ◌≤ℤ◌, unsigned_abs, nat_le, FitsSigned}
 use Rattle.std.proofs.lemmas.Int.{ints, to_z-of_z, fits_signed_mul, unsigned_abs-mul}

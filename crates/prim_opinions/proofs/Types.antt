@@ -1,6 +1,6 @@
 -- Two types have one name exactly where the elements have, and both or neither are arrays.
 use mathlib.Core.Bool.{beq, not}
-use Rattle.std.proofs.Common.{◌≡◌, ◌∙◌, sym, ap, refl, ℕ, Bool, true, false, ◌||◌, List, [], ◌∷◌, ◌++◌}
+use Rattle.std.proofs.Common.{◌≡◌, ◌∙◌, sym, ap, refl, Bool, true, false, ◌||◌, [], ◌++◌}
 use Rattle.std.specs.Prelude.{◌==◌, codes, IsTrue, ◌↔◌, if◌then◌else◌}
 use Rattle.std.specs.List.{list_any}
 use Rattle.std.proofs.lemmas.List.{append_cancel_right}

@@ -15,4 +15,3 @@ pub use offset::StageOffset;
 pub use place::property_path;
 pub use property::PropertyAt;
 pub use said::SaidAt;
-

@@ -30,7 +30,12 @@ impl<'w, 's> Model for SaidAt<'w, 's> {
 
 impl<'w, 's> SaidAt<'w, 's> {
     /// What a layer of a stack says at a site.
-    pub fn new(site: &'s Site, layer: AssetId, offset: StageOffset, spec: &'w Spec) -> SaidAt<'w, 's>
+    pub fn new(
+        site: &'s Site,
+        layer: AssetId,
+        offset: StageOffset,
+        spec: &'w Spec,
+    ) -> SaidAt<'w, 's>
         ensures { result ≡ record { site = site.now; layer = layer; offset = offset; spec = spec.now } }
     {
         SaidAt {

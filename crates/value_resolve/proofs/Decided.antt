@@ -1,11 +1,10 @@
 -- What the opinions decide, one after the other, is what the definitions say.
 use Rattle.std.proofs.Common.{◌≡◌, ◌∙◌, sym, ap, refl, ℕ, ◌+◌, ◌<◌, length, take, get_or, Bool, true, false, cond, List, [], ◌∷◌, ◌++◌, map, Option, Some, None}
-use Rattle.std.specs.Prelude.{fold, flat_map}
+use Rattle.std.specs.Prelude.{fold}
 use Rattle.std.proofs.lemmas.List.{map-append, take_more}
 use Rattle.std.proofs.lemmas.Grind.{flat_map-append}
 use Rattle.sdf_values.specs.declared.value.Value.{Value}
 use Rattle.spec_properties.specs.Entries.{SampleEntries}
-use Rattle.prim_view.specs.declared.fault.TimeFault.{TimeFault}
 use Rattle.prim_view.specs.declared.fault.PrimFault.{PrimFault}
 use Rattle.prim_view.specs.declared.fault.PrimFault.TheVariants.{TimeOutside}
 use Rattle.composition.specs.Arcs.{is_empty}
@@ -14,7 +13,7 @@ use Rattle.composition.specs.Opinions.{Said}
 use Rattle.composition.specs.Texts.{Text}
 use Rattle.composition.specs.Values.{PropertySaid, Given, given, deciding_default, deciding_samples, time_fault, time_faults, property_path}
 use Rattle.value_resolve.specs.declared.decision.Decision.{Decision}
-use Rattle.value_resolve.specs.Deciding.{undecided, is_nothing, decided_next}
+use Rattle.value_resolve.specs.Deciding.{undecided, decided_next}
 use Rattle.value_resolve.specs.Missing.{is_missing}
 use Rattle.value_resolve.specs.Resolving.{default_by, samples_by, faults_by, fault_if}
 

@@ -1,8 +1,8 @@
 -- A dictionary through an offset, entry by entry.
-use Rattle.std.proofs.Common.{◌≡◌, ◌∙◌, sym, ap, refl, map, List, [], ◌∷◌, Option}
+use Rattle.std.proofs.Common.{◌≡◌, ◌∙◌, sym, ap, map, List, Option}
 use Rattle.sdf_values.specs.Scales.{Offset}
 use Rattle.sdf_values.specs.declared.value.Value.{Value, fold-Value, fold-roll-Value}
-use Rattle.sdf_values.specs.declared.value.Value.TheOpen.{Value-F, DictItem-F}
+use Rattle.sdf_values.specs.declared.value.Value.TheOpen.{Value-F}
 use Rattle.sdf_values.specs.declared.value.Value.TheVariants as value
 use Rattle.sdf_values.specs.declared.value.Value.TheVariants.{rolls-Dict}
 use Rattle.sdf_values.specs.declared.value.DictItem.{DictItem, out-DictItem, fold-DictItem, fold-roll-DictItem}

@@ -1,5 +1,5 @@
 -- Entries put one after the other into a table.
-use Rattle.std.proofs.Common.{◌≡◌, ◌∙◌, sym, ap, refl, subst, Bool, true, false, List, [], ◌∷◌, ◌++◌, append_assoc, map, Option, Some, None}
+use Rattle.std.proofs.Common.{◌≡◌, ◌∙◌, sym, ap, refl, subst, List, [], ◌∷◌, ◌++◌, append_assoc, Option, Some, None}
 use Rattle.std.specs.Prelude.{filter_map}
 use Rattle.std.specs.List.{AllByRecursion, cons_option}
 use Rattle.std.specs.List.Sorted.{IsStrictlySortedBy}
@@ -7,7 +7,7 @@ use Rattle.std.specs.Map.{keys_of}
 use Rattle.std.specs.BTreeMap.{insert_entry}
 use Rattle.std.specs.Ordering.{match_ordering}
 use Rattle.std.specs.declared.cmp.Ordering.{Ordering}
-use Rattle.std.specs.declared.cmp.Ordering.TheVariants.{Less, Equal, Greater}
+use Rattle.std.specs.declared.cmp.Ordering.TheVariants.{Less, Greater}
 
 module _ {K V : Type 0} (cmp : K → K → Ordering) where
   unfoldable pub put_all : List (K × V) → List (K × V) → List (K × V)
@@ -48,9 +48,10 @@ module _ {K V : Type 0} (cmp : K → K → Ordering) where
 
     ahead_more : (acc es : List (K × V)) (x e' : K × V) → e'.0 ≡ g x.0 → AllByRecursion (λ k. cmp x.0 k ≡ Less) (keys_of es) → Ahead acc es → Ahead (acc ++ e' ∷ []) es
     ahead_more acc [] x e' key later h = tt
-    ahead_more acc (e ∷ es) x e' key later h =
-        ( all_more (λ (a : K × V). cmp (g e.0) a.0 ≡ Greater) acc e' h.0 (ap (λ (k : K). cmp (g e.0) k) key ∙ rises x.0 e.0 later.0)
-        , ahead_more acc es x e' key later.1 h.1)
+    ahead_more acc (e ∷ es) x e' key later h = (
+      all_more (λ (a : K × V). cmp (g e.0) a.0 ≡ Greater) acc e' h.0 (ap (λ (k : K). cmp (g e.0) k) key ∙ rises x.0 e.0 later.0),
+      ahead_more acc es x e' key later.1 h.1,
+    )
 
     after_kept : (acc es : List (K × V)) → IsStrictlySortedBy cmp (keys_of es) → Ahead acc es → After acc (filter_map f es)
     unfolding IsStrictlySortedBy

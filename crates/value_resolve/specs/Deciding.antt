@@ -1,6 +1,5 @@
 -- What the opinions on an attribute decide, from the strongest on.
 use Rattle.std.specs.Prelude.{Bool, true, false, [], None}
-use Rattle.sdf_values.specs.declared.value.Value.{Value}
 use Rattle.composition.specs.Arcs.{is_empty}
 use Rattle.composition.specs.Fields.{or_else}
 use Rattle.composition.specs.Values.{Given}

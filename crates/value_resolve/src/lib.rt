@@ -8,4 +8,3 @@ mod on_stage;
 mod samples;
 
 pub use attr::{AttrValue, resolve_attr, resolve_attr_by, resolve_attr_of};
-

@@ -1,4 +1,4 @@
-use Rattle.std.proofs.Common.{◌≡◌, ◌∙◌, sym}
+use Rattle.std.proofs.Common.{◌∙◌, sym}
 use Rattle.prim_opinions.proofs.Types.{types_differ, types_by_name, flags_apart, flags_same}
 use Rattle.prim_opinions.proofs.counting.same_type.Goals as goal
 

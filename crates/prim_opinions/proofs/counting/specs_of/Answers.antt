@@ -1,4 +1,4 @@
-use Rattle.std.proofs.Common.{◌≡◌, ◌∙◌, sym, ap, List}
+use Rattle.std.proofs.Common.{◌∙◌, sym, ap, List}
 use Rattle.spec_properties.specs.Properties.{property_at}
 use Rattle.composition.specs.Values.{PropertySaid}
 use Rattle.prim_opinions.specs.Counting.{with_property_of}

@@ -1,4 +1,4 @@
-use Rattle.std.proofs.Common.{◌≡◌, ◌∙◌, sym, ap, subst, arith, List, ◌++◌, take, length, Option}
+use Rattle.std.proofs.Common.{◌≡◌, ◌∙◌, sym, ap, subst, arith, List, ◌++◌, take}
 use Rattle.std.proofs.lemmas.List.{take_all}
 use Rattle.std.specs.Prelude.{IfSome}
 use Rattle.std.specs.BTreeMap.{get, is_at}
@@ -6,7 +6,7 @@ use Rattle.std.specs.Map.{lookup}
 use Rattle.sdf_values.specs.Scales.{Offset}
 use Rattle.layer_set.specs.LookUps.{look_ups}
 use Rattle.layer_stack.specs.Meant.{defined_stack}
-use Rattle.composition.specs.Opinions.{Site, Said}
+use Rattle.composition.specs.Opinions.{Said}
 use Rattle.composition.specs.Texts.{Text}
 use Rattle.composition.specs.World.{StackName}
 use Rattle.prim_opinions.specs.Gathering.{said_in}

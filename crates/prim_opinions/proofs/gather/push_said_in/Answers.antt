@@ -1,4 +1,4 @@
-use Rattle.std.proofs.Common.{◌≡◌, ◌∙◌, ap, List, ◌++◌}
+use Rattle.std.proofs.Common.{◌∙◌, ap, List, ◌++◌}
 use Rattle.std.specs.Prelude.{option_to_list}
 use Rattle.layer_set.specs.LookUps.{look_ups}
 use Rattle.composition.specs.Opinions.{Said}

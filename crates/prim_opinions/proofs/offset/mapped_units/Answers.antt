@@ -1,4 +1,4 @@
-use Rattle.std.proofs.Common.{◌≡◌, ◌∙◌, ap, subst, ℕ, ◌<◌, ◌≤◌, ◌^◌, Option, Some}
+use Rattle.std.proofs.Common.{◌∙◌, ap, subst, ℕ, ◌<◌, ◌≤◌, ◌^◌, Option, Some}
 use Rattle.std.specs.Prelude.{ℤ, ◌+ℤ◌, ◌*ℤ◌, unsigned_abs}
 use Rattle.prim_opinions.proofs.Times.{a_time, no_time, moved_is}
 use Rattle.prim_opinions.proofs.offset.mapped_units.Goals as goal

@@ -1,4 +1,4 @@
-use Rattle.std.proofs.Common.{◌≡◌, ◌≤◌, ◌^◌, ◌*◌, sym, subst, lit<}
+use Rattle.std.proofs.Common.{◌≤◌, ◌^◌, sym, subst, lit<}
 use Rattle.std.specs.Prelude.{ℤ, unsigned_abs}
 use Rattle.prim_opinions.proofs.Times.{multiplied, product_size}
 use Rattle.prim_opinions.proofs.offset.product.Goals as goal

@@ -1,4 +1,4 @@
-use Rattle.std.proofs.Common.{◌≡◌, ◌^◌, sym, subst, lit<}
+use Rattle.std.proofs.Common.{sym, subst, lit<}
 use Rattle.std.specs.Prelude.{ℤ, pos, ◌≤ℤ◌}
 use Rattle.prim_opinions.proofs.Times.{multiplied, scale_size, product_least}
 use Rattle.prim_opinions.proofs.offset.scale_of.Goals as goal

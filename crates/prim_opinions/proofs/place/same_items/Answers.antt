@@ -1,4 +1,4 @@
-use Rattle.std.proofs.Common.{◌≡◌, ◌∙◌, sym}
+use Rattle.std.proofs.Common.{◌∙◌, sym}
 use Rattle.plain_data.specs.Exact.{pointwise_same}
 use Rattle.prim_opinions.proofs.place.same_items.Goals as goal
 

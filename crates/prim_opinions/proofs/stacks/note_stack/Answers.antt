@@ -1,4 +1,4 @@
-use Rattle.std.proofs.Common.{◌≡◌, ◌∙◌, sym, ap}
+use Rattle.std.proofs.Common.{◌∙◌, sym, ap}
 use Rattle.std.specs.BTreeMap.{get}
 use Rattle.composition.specs.World.{StackName}
 use Rattle.layer_set.specs.LookUps.{look_ups}

@@ -1,5 +1,5 @@
-use Rattle.std.proofs.Common.{◌≡◌, ◌∙◌, sym, ap, subst, Bool, ◌||◌}
-use Rattle.std.specs.Prelude.{Option, Some, ℤ, pos, ◌≤ℤ◌, filter_map}
+use Rattle.std.proofs.Common.{◌∙◌, sym, ap, subst, Bool, ◌||◌}
+use Rattle.std.specs.Prelude.{Option, Some, pos, ◌≤ℤ◌, filter_map}
 use Rattle.std.specs.List.{list_any}
 use Rattle.sdf_values.specs.Scales.{Offset}
 use Rattle.sdf_values.specs.contracts.time.TimeCodeOrd.TheImpl.{ghosts as time_order}
@@ -16,7 +16,7 @@ loop-time-init c =
     let forward : pos 1 ≤ℤ c.args.offset.scale = subst (λ (o : Offset). pos 1 ≤ℤ o.scale) c.offset.view_is c.offset.invariant in
     record {
       kept = ap (λ (es : SampleEntries). put_all time_order.cmp c.new-kept.result (filter_map (mapped_sample c.args.times c.args.offset) es)) all
-      ∙ kept_start c.args.times c.args.offset c.args.samples.now c.new-kept.result forward c.iter-time-items.ensures.order c.new-kept.ensures;
+          ∙ kept_start c.args.times c.args.offset c.args.samples.now c.new-kept.result forward c.iter-time-items.ensures.order c.new-kept.ensures;
       lost = ap (λ (es : SampleEntries). list_any (λ e. is_lost (Some e) (mapped_sample c.args.times c.args.offset e)) es) all;
     }
 
@@ -26,16 +26,16 @@ loop-time-preserved c =
     let rest = c.in-Some.ensures.steps in
     record {
       kept = ap (λ (es : SampleEntries). put_all time_order.cmp es (filter_map (mapped_sample c.args.times c.args.offset) c.next.new.self))
-      (c.in_ok-missing.ensures.kept ∙ ap (λ (s : Option Sample). with_sample c.loop-time.kept s) c.in_ok-sample.ensures)
-      ∙ (kept_next c.args.times c.args.offset c.loop-time.kept e c.next.new.self
-      ∙ (ap (λ (es : SampleEntries). put_all time_order.cmp c.loop-time.kept (filter_map (mapped_sample c.args.times c.args.offset) es)) (sym rest)
-      ∙ c.loop-time.invariant.kept));
+          (c.in_ok-missing.ensures.kept ∙ ap (λ (s : Option Sample). with_sample c.loop-time.kept s) c.in_ok-sample.ensures)
+          ∙ (kept_next c.args.times c.args.offset c.loop-time.kept e c.next.new.self
+          ∙ (ap (λ (es : SampleEntries). put_all time_order.cmp c.loop-time.kept (filter_map (mapped_sample c.args.times c.args.offset) es)) (sym rest)
+          ∙ c.loop-time.invariant.kept));
       lost = ap (λ (b : Bool). b || list_any (λ e. is_lost (Some e) (mapped_sample c.args.times c.args.offset e)) c.next.new.self) c.either-lost.ensures
-      ∙ (lost_next c.loop-time.lost c.in_ok-missing.missing (is_lost (Some e) (mapped_sample c.args.times c.args.offset e))
+          ∙ (lost_next c.loop-time.lost c.in_ok-missing.missing (is_lost (Some e) (mapped_sample c.args.times c.args.offset e))
           (list_any (λ e. is_lost (Some e) (mapped_sample c.args.times c.args.offset e)) c.next.new.self)
           (c.in_ok-missing.ensures.missing ∙ (ap (λ (s : Option Sample). is_missing s) c.in_ok-sample.ensures ∙ missing_lost c.args.times c.args.offset e))
-      ∙ (ap (λ (es : SampleEntries). c.loop-time.lost || list_any (λ e. is_lost (Some e) (mapped_sample c.args.times c.args.offset e)) es) (sym rest)
-      ∙ c.loop-time.invariant.lost));
+          ∙ (ap (λ (es : SampleEntries). c.loop-time.lost || list_any (λ e. is_lost (Some e) (mapped_sample c.args.times c.args.offset e)) es) (sym rest)
+          ∙ c.loop-time.invariant.lost));
     }
 
 pub returns-clause-samples : goal.returns-clause-samples
