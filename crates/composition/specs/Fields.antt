@@ -1,6 +1,6 @@
 -- Names and fields of a prim: its children and properties in order, specifier, type, metadata and lists of strings.
-use Rattle.std.specs.Prelude.{Bool, false, not, List, [], ◌∷◌, ◌++◌, map, filter, fold, reverse, Option, Some, None}
-use Rattle.list_ops.specs.ListEdits.{firsts, without, reordered}
+use Rattle.std.specs.Prelude.{Bool, false, not, List, [], ◌∷◌, ◌++◌, map, filter, Option, Some, None}
+use Rattle.list_ops.specs.ListEdits.{firsts}
 use Rattle.list_ops.specs.declared.op.ListOp.{ListOp}
 use Rattle.sdf_paths.specs.Order.{text_cmp}
 use Rattle.sdf_paths.specs.declared.element.Element.TheVariants.{Prim}
@@ -24,13 +24,13 @@ pub record Naming : Type 0 where
   pub names : List Text
   pub order : List Text
 
--- new names come last, and then the spec's reorder is applied
-abbrev pub named_next : List Text → Naming → List Text
-named_next so_far n = reordered same_text n.order (so_far ++ without same_text (firsts same_text n.names) so_far)
+-- what a spec says of names as an edit of the names so far: new ones come last, and then its reorder is applied
+abbrev pub naming_edit : Naming → ListOp Text
+naming_edit n = record { explicit = None; deleted = []; added = n.names; prepended = []; appended = []; ordered = n.order }
 
--- the names of all specs, which are given from the strongest to the weakest
+-- the names of all specs, which are given from the strongest to the weakest; each name once
 abbrev pub names_of : List Naming → List Text
-names_of namings = fold named_next [] (reverse namings)
+names_of namings = firsts same_text (strongest_folded same_text (map naming_edit namings))
 
 -- a text that is no name of a prim is passed over
 abbrev pub children_naming : List Text → List Text → Naming

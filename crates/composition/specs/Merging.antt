@@ -1,5 +1,5 @@
 -- How metadata merges: dictionaries key by key, the stronger first, nested ones too; of all else the strongest is kept.
-use Rattle.std.specs.Prelude.{Bool, true, false, List, [], ◌∷◌, map, fold, Option, Some, None}
+use Rattle.std.specs.Prelude.{List, [], map, fold, Option, Some, None}
 use Rattle.sdf_paths.specs.Order.{text_cmp}
 use Rattle.spec_properties.specs.Entries.{MetaEntries}
 use Rattle.spec_tables.specs.Tables.{at_key, with_key}
@@ -8,7 +8,7 @@ use Rattle.sdf_values.specs.declared.value.DictType.{DictType}
 use Rattle.sdf_values.specs.declared.value.Value.{Value, fold-Value}
 use Rattle.sdf_values.specs.declared.value.Value.TheVariants as value
 use Rattle.sdf_values.specs.declared.value.Value.TheOpen.{Value-F, DictItem-F}
-use Rattle.composition.specs.Texts.{Text, same_text}
+use Rattle.composition.specs.Texts.{Text}
 
 -- a value, and its entries where it is a dictionary
 pub record Opened : Type 0 where
@@ -53,29 +53,21 @@ pub record ItemMerging : Type 0 where
 abbrev pub kept_item : ItemMerging → DictItem
 kept_item i = record { key = i.key; ty = i.ty; value = i.value.itself }
 
-abbrev pub find_item : Text → List DictItem → Option Value
-find_item key [] = None
-find_item key (i ∷ is) = elim (same_text key i.key) [ true ↦ Some i.value | false ↦ find_item key is ]
-
--- an entry over those of a weaker dictionary: the stronger keeps its type
-abbrev pub item_over : List DictItem → ItemMerging → DictItem
-item_over weaker i =
-    elim (find_item i.key weaker) [ None ↦ kept_item i | Some v ↦ record { key = i.key; ty = i.ty; value = i.value.over v } ]
-
-abbrev pub is_among : Text → List ItemMerging → Bool
-is_among key [] = false
-is_among key (i ∷ is) = elim (same_text key i.key) [ true ↦ true | false ↦ is_among key is ]
-
 -- entries by key
-abbrev pub by_key : List DictItem → List (Text × DictItem)
-by_key is = map (λ i. (i.key, i)) is
+abbrev pub with_item : List (Text × DictItem) → DictItem → List (Text × DictItem)
+with_item so_far i = with_key text_cmp i.key i so_far
 
-abbrev pub with_weaker_item : List ItemMerging → List (Text × DictItem) → DictItem → List (Text × DictItem)
-with_weaker_item stronger so_far i = elim (is_among i.key stronger) [ true ↦ so_far | false ↦ with_key text_cmp i.key i so_far ]
+-- an entry over the weaker one of its key, if there is one; the stronger keeps its type
+abbrev pub over_entry : ItemMerging → Option DictItem → DictItem
+over_entry i None = kept_item i
+over_entry i (Some weaker) = record { key = i.key; ty = i.ty; value = i.value.over weaker.value }
+
+abbrev pub with_stronger : List (Text × DictItem) → ItemMerging → List (Text × DictItem)
+with_stronger so_far i = with_key text_cmp i.key (over_entry i (at_key text_cmp i.key so_far)) so_far
 
 -- the entries of a dictionary over those of a weaker one, in byte order of keys
 abbrev pub items_over : List ItemMerging → List DictItem → List DictItem
-items_over is weaker = map (λ e. e.1) (fold (with_weaker_item is) (by_key (map (item_over weaker) is)) weaker)
+items_over is weaker = map (λ e. e.1) (fold with_stronger (fold with_item [] weaker) is)
 
 abbrev pub dict_over : List ItemMerging → Value → Value
 dict_over is v = elim (entries_of v) [ Some weaker ↦ value.Dict (items_over is weaker) | None ↦ value.Dict (map kept_item is) ]
@@ -102,6 +94,9 @@ merging_item item = record { key = item.key; ty = item.ty; value = item.value }
 
 abbrev pub merging_of : Value → Merging
 merging_of = fold-Value Merging ItemMerging merging_step merging_item
+
+abbrev pub item_merging_of : DictItem → ItemMerging
+item_merging_of i = record { key = i.key; ty = i.ty; value = merging_of i.value }
 
 -- a value over a weaker one of the same key
 abbrev pub merged : Value → Value → Value

@@ -1,8 +1,7 @@
 -- A world of layers, as composition sees it: by look-ups alone.
 pub use Rattle.prim_view.specs.declared.stack_name.StackName.{StackName}
 pub use Rattle.prim_view.specs.declared.stack_name.StackName.TheVariants.{Root, Asset}
-use Rattle.std.specs.Prelude.{◌==◌, ℤ, pos, negsuc, int_le, Bool, true, false, List, [], ◌∷◌, Option, Some, None}
-use Rattle.sdf_paths.specs.declared.element.Element.TheVariants.{Prim}
+use Rattle.std.specs.Prelude.{◌==◌, nat_le, length, ℤ, pos, negsuc, int_le, Bool, true, false, List, [], ◌∷◌, Option, Some, None}
 use Rattle.spec_properties.specs.Entries.{MetaEntries}
 use Rattle.spec_parts.specs.declared.items.Refusal.{Refusal}
 use Rattle.spec_parts.specs.declared.items.SubLayer.{SubLayer}
@@ -78,10 +77,14 @@ rule_or_loaded None = true
 abbrev pub is_loaded : World → Path → Bool
 is_loaded w p = rule_or_loaded (first_of (λ j. w.rule (up p j)) (levels_of p))
 
--- the prim that a default prim's text names: an absolute path, or the name of a root prim
+-- the path that a text is read as; no path has more than 4,096 bytes
+abbrev pub path_within : Text → Option Path
+path_within text = elim (nat_le (length text) 4096) [ true ↦ read_path text | false ↦ None ]
+
+-- what a default prim's text names: an absolute path, or a root prim by its name
 abbrev pub is_absolute : Text → Bool
 is_absolute [] = false
 is_absolute (c ∷ t) = c == 47
 
 abbrev pub default_target : Text → Option Path
-default_target text = elim (is_absolute text) [ true ↦ read_path text | false ↦ Some (Prim text ∷ []) ]
+default_target text = elim (is_absolute text) [ true ↦ path_within text | false ↦ path_within (47 ∷ text) ]

@@ -1,0 +1,54 @@
+-- Names and lists of strings of a prim, as they are folded.
+use Rattle.std.specs.Prelude.{List, [], ◌∷◌, Option, Some, None}
+use Rattle.list_ops.specs.ListEdits.{firsts}
+use Rattle.list_ops.specs.declared.op.ListOp.{ListOp}
+use Rattle.spec_parts.specs.declared.spec.BodyPart.{BodyPart}
+use Rattle.spec_properties.specs.Properties.{property_names}
+use Rattle.spec_properties.specs.Entries.{MetaEntries}
+use Rattle.spec_parts.specs.declared.items.Specifier.{Specifier}
+use Rattle.composition.specs.Arcs.{strongest_folded}
+use Rattle.composition.specs.Fields.{naming_edit, children_naming, all_children, all_properties, specifier_of, type_of, strings_of, meta_of}
+use Rattle.composition.specs.Opinions.{Said}
+use Rattle.composition.specs.Texts.{Text, same_text}
+
+-- what a body says of names of children, and of properties, as edits
+abbrev pub children_edit : BodyPart → ListOp Text
+children_edit b = naming_edit (children_naming b.children b.child_order)
+
+abbrev pub properties_edit : BodyPart → ListOp Text
+properties_edit b = naming_edit (record { names = property_names b.properties; order = b.property_order })
+
+-- what edits, given from the strongest to the weakest, make of the empty list
+unfoldable pub folded_texts : List (ListOp Text) → List Text
+folded_texts edits = strongest_folded same_text edits
+
+-- each text once
+unfoldable pub texts_once : List Text → List Text
+texts_once texts = firsts same_text texts
+
+-- what edits make, where there is an opinion
+abbrev pub if_any : List (ListOp Text) → Option (List Text)
+if_any [] = None
+if_any (op ∷ ops) = Some (folded_texts (op ∷ ops))
+
+-- the definitions of composition by name, so that they do not unfold in goals
+unfoldable pub children_on : List Said → List Text
+children_on said = all_children said
+
+unfoldable pub properties_on : List Said → List Text
+properties_on said = all_properties said
+
+unfoldable pub specifier_on : List Said → Specifier
+specifier_on said = specifier_of said
+
+unfoldable pub type_on : List Said → Option Text
+type_on said = type_of said
+
+unfoldable pub schemas_on : List Said → Option (List Text)
+schemas_on said = strings_of (λ s. s.spec.body.api_schemas) said
+
+unfoldable pub clips_on : List Said → Option (List Text)
+clips_on said = strings_of (λ s. s.spec.body.clip_sets) said
+
+unfoldable pub meta_on : List Said → MetaEntries
+meta_on said = meta_of said

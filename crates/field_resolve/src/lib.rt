@@ -1,0 +1,12 @@
+//! Names and fields of a prim: its children and properties in order, specifier, type, metadata and lists of strings.
+#![tactic(auto)]
+
+mod fields;
+mod merging;
+mod names;
+mod strings;
+
+pub use fields::{PrimFields, fields_of, meta_of, prim_fields};
+pub use merging::merge_into;
+pub use names::{child_names, child_names_of, property_names, property_names_of};
+pub use strings::folded_texts;

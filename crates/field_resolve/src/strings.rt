@@ -1,0 +1,104 @@
+//! Lists of strings as their opinions make them.
+ghost use Rattle.std.specs.Prelude.{◌≡◌, ◌++◌, [], ◌∷◌, map, filter, IfOk, OnOk};
+ghost use Rattle.composition.specs.Opinions.{has_edits, is_opinion};
+ghost use Rattle.field_resolve.specs.Folding.{folded_texts, texts_once, if_any, schemas_on, clips_on};
+
+use list_ops::{ListOp, fold_ordered};
+use plain_data::{Items, Text, copy};
+use prim_opinions::SaidAt;
+use std::alloc::{AllocError, Global};
+
+/// What edits, given from the strongest to the weakest, make of the empty list.
+pub fn folded_texts(alloc: Global, edits: Vec<ListOp<Text>>) -> Result<Items<Text>, AllocError>
+    ensures { IfOk result (λ list. list ≡ folded_texts edits.items) }
+{
+    let mut edits = edits;
+    edits.reverse();
+    Ok(Items::from_vec(fold_ordered(alloc, &edits)?))
+}
+
+/// Each text once.
+pub fn texts_once(alloc: Global, texts: Items<Text>) -> Result<Items<Text>, AllocError>
+    ensures { IfOk result (λ once. once ≡ texts_once texts) }
+{
+    let mut op = ListOp::new(alloc);
+    op.explicit = Some(texts);
+    let mut once = Vec::new(alloc);
+    op.apply_ordered(&mut once)?;
+    Ok(Items::from_vec(once))
+}
+
+/// Whether there is some edit.
+fn has_edits(op: &ListOp<Text>) -> bool
+    ensures { result ≡ has_edits op.now }
+{
+    !(op.deleted.is_empty()
+        && op.added.is_empty()
+        && op.prepended.is_empty()
+        && op.appended.is_empty()
+        && op.ordered.is_empty())
+}
+
+/// Whether it is an opinion on the list: an explicit list, also an empty one, or some edit.
+fn is_opinion(op: &ListOp<Text>) -> bool
+    ensures { result ≡ is_opinion op.now }
+{
+    match &op.explicit {
+        Some(_) => true,
+        None => has_edits(op),
+    }
+}
+
+/// The opinions on the applied schemas.
+fn schema_opinions(alloc: Global, said: &[SaidAt]) -> Result<Vec<ListOp<Text>>, AllocError>
+    ensures { IfOk result (λ ops. ops.items ≡ filter is_opinion (map (λ s. s.spec.body.api_schemas) said.now)) }
+{
+    let mut opinions = Vec::new(alloc);
+    for opinion in said {
+        let op = &opinion.spec().body.api_schemas;
+        if is_opinion(op) {
+            opinions.push(copy(op)?)?;
+        }
+    }
+    Ok(opinions)
+}
+
+/// The opinions on the sets of value clips.
+fn clip_opinions(alloc: Global, said: &[SaidAt]) -> Result<Vec<ListOp<Text>>, AllocError>
+    ensures { IfOk result (λ ops. ops.items ≡ filter is_opinion (map (λ s. s.spec.body.clip_sets) said.now)) }
+{
+    let mut opinions = Vec::new(alloc);
+    for opinion in said {
+        let op = &opinion.spec().body.clip_sets;
+        if is_opinion(op) {
+            opinions.push(copy(op)?)?;
+        }
+    }
+    Ok(opinions)
+}
+
+/// What opinions make together; none where there is no opinion.
+fn if_any(alloc: Global, opinions: Vec<ListOp<Text>>) -> Result<Option<Items<Text>>, AllocError>
+    ensures { IfOk result (λ list. list ≡ if_any opinions.items) }
+{
+    if opinions.is_empty() {
+        return Ok(None);
+    }
+    Ok(Some(folded_texts(alloc, opinions)?))
+}
+
+/// The applied schemas; none where there is no opinion on them.
+pub fn applied_schemas(alloc: Global, said: &[SaidAt]) -> Result<Option<Items<Text>>, AllocError>
+    ensures { IfOk result (λ list. list ≡ schemas_on said.now) }
+{
+    let opinions = schema_opinions(alloc, said)?;
+    if_any(alloc, opinions)
+}
+
+/// The sets of value clips; none where there is no opinion on them.
+pub fn clip_sets(alloc: Global, said: &[SaidAt]) -> Result<Option<Items<Text>>, AllocError>
+    ensures { IfOk result (λ list. list ≡ clips_on said.now) }
+{
+    let opinions = clip_opinions(alloc, said)?;
+    if_any(alloc, opinions)
+}

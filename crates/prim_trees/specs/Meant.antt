@@ -1,0 +1,26 @@
+-- Which tree of composition's definitions a tree stands for.
+use Rattle.std.specs.Prelude.{Bool, true, false, List, [], ◌∷◌}
+use Rattle.prim_nodes.specs.declared.arcs.Branch.{Branch}
+use Rattle.composition.specs.Trees as defined
+use Rattle.composition.specs.Trees.{Trees, node, none, cut, child}
+use Rattle.prim_trees.specs.declared.tree.Tree.{Tree, fold-Tree}
+use Rattle.prim_trees.specs.declared.tree.Child.{Child}
+use Rattle.prim_trees.specs.declared.tree.Tree.TheOpen.{Tree-F, Child-F}
+
+-- an arc with what it leads to
+abbrev pub Led : Type 0
+Led = Branch × defined.Tree
+
+abbrev pub all_of : List Led → Bool → Trees
+all_of [] false = none
+all_of [] true = cut
+all_of (c ∷ cs) is_cut = child c.0 c.1 (all_of cs is_cut)
+
+abbrev pub tree_step : Tree-F defined.Tree Led → defined.Tree
+tree_step t = node t.node t.here (all_of t.own t.own_cut) (all_of t.lifted t.lifted_cut)
+
+abbrev pub child_step : Child-F defined.Tree Led → Led
+child_step c = (c.branch, c.tree)
+
+abbrev pub meant : Tree → defined.Tree
+meant = fold-Tree defined.Tree Led tree_step child_step
