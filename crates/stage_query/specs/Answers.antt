@@ -1,5 +1,6 @@
 -- What questions on a stage answer.
-use Rattle.std.specs.Prelude.{ℕ, ℤ, true, false, List, [], ◌∷◌, Option, Some, None, Bor}
+use Rattle.std.specs.Prelude.{ℕ, ℤ, true, false, List, [], ◌∷◌, Option, Some, None}
+use denote.Ref.{Bor}
 use Rattle.composition.specs.Values.{value_at}
 use Rattle.prim_view.specs.Looks.{property_of}
 use Rattle.prim_view.specs.declared.view.PrimView.{PrimView}

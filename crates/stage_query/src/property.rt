@@ -37,7 +37,7 @@ fn at_time<'v>(default: &'v Option<Value>, samples: &'v Samples, t: TimeCode) ->
 
 /// The value that decides; a block stands for no value.
 fn decided(value: Option<&Value>) -> Answer<&Value>
-    ensures { answer_copied result ≡ decided (option_copied value) }
+    ensures { answer_copied result ≡ decided (option_copied value.entry) }
 {
     match value {
         None => Answer::NoValue,
@@ -76,7 +76,9 @@ pub fn value_of(property: &PropertyView, t: TimeCode) -> Answer<&Value>
 {
     match property {
         PropertyView::Attr {
-            default, samples, ..
+            default,
+            samples,
+            ..
         } => decided(at_time(default, samples, t)),
         PropertyView::Rel { .. } => Answer::NoProperty,
     }
