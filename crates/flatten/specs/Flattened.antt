@@ -11,6 +11,7 @@ use Rattle.sdf_values.specs.declared.value.Value.TheOpen.{Value-F}
 use Rattle.sdf_specs.specs.Layers.{LayerTable, SpecEntries, with_spec}
 use Rattle.spec_parts.specs.Blank.{blank_head, blank_arcs}
 use Rattle.spec_parts.specs.declared.spec.Head.{Head}
+use Rattle.spec_parts.specs.declared.spec.BodyPart.{BodyPart}
 use Rattle.spec_parts.specs.declared.spec.Spec.{Spec}
 use Rattle.spec_properties.specs.Entries.{MetaEntries}
 use Rattle.spec_properties.specs.Properties.{with_property}
@@ -40,23 +41,24 @@ abbrev pub with_properties : List PropertyView → List Property → List Proper
 with_properties [] properties = properties
 with_properties (p ∷ ps) properties = with_properties ps (with_property (flat_property p) properties)
 
--- a prim as it is on the stage: it has no arcs, no variant sets and no orders
-unfoldable pub flat_spec : PrimView → Spec
-flat_spec prim = record {
-  arcs = blank_arcs;
-  body = record {
-    specifier = prim.specifier;
-    type_name = prim.type_name;
-    meta = prim.meta;
-    api_schemas = explicit_list prim.api_schemas;
-    clip_sets = explicit_list prim.clip_sets;
-    children = prim.children;
-    child_order = [];
-    properties = with_properties prim.properties [];
-    property_order = [];
-    variant_names = [];
-  };
+-- what a prim gathers on the stage: it has no variant sets and no orders
+unfoldable pub flat_body : PrimView → BodyPart
+flat_body prim = record {
+  specifier = prim.specifier;
+  type_name = prim.type_name;
+  meta = prim.meta;
+  api_schemas = explicit_list prim.api_schemas;
+  clip_sets = explicit_list prim.clip_sets;
+  children = prim.children;
+  child_order = [];
+  properties = with_properties prim.properties [];
+  property_order = [];
+  variant_names = [];
 }
+
+-- a prim as it is on the stage: it has no arcs
+unfoldable pub flat_spec : PrimView → Spec
+flat_spec prim = record { arcs = blank_arcs; body = flat_body prim }
 
 -- ---- the head
 
@@ -104,6 +106,11 @@ head_of (Some root) = flat_head root
 unfoldable pub with_prim : List Element → PrimView → SpecEntries → SpecEntries
 with_prim [] prim specs = specs
 with_prim (e ∷ path) prim specs = with_spec (e ∷ path) (flat_spec prim) specs
+
+-- an item of a stage in a table of specs, if it is there
+unfoldable pub with_item : Option (List Element × PrimView) → SpecEntries → SpecEntries
+with_item None specs = specs
+with_item (Some item) specs = with_prim item.0 item.1 specs
 
 abbrev pub with_prims : Stage → SpecEntries → SpecEntries
 with_prims [] specs = specs

@@ -1,10 +1,11 @@
 // A stage as a layer, and its text.
-ghost use Rattle.std.specs.Prelude.{◌≡◌, IfOk, OnOk, []};
+ghost use Rattle.std.specs.Prelude.{◌≡◌, IfOk, OnOk, [], slice_get};
 ghost use Rattle.std.specs.Option.{option_copied};
 ghost use Rattle.sdf_paths.specs.Order.{path_cmp};
+ghost use Rattle.sdf_specs.specs.Layers.{with_spec};
 ghost use Rattle.stage_publish.specs.Editions.{item_at};
 ghost use Rattle.usda_writer.specs.Canonical.{canonical};
-ghost use Rattle.flatten.specs.Flattened.{with_prim, with_prims, flat_layer};
+ghost use Rattle.flatten.specs.Flattened.{with_prim, with_item, with_prims, flat_layer};
 
 use crate::head::head_of;
 use crate::prim::flat_spec;
@@ -24,6 +25,14 @@ fn root_of<'v>(alloc: Global, view: &'v View<'_, Path, PrimView>) -> Option<&'v 
     view.find(&root)
 }
 
+/// Puts a value at a path, in place of one that is there.
+fn put<V: Drop>(values: &mut OrderedTable<Path, V>, path: &Path, value: V) -> Result<(), AllocError>
+    ensures { OnOk result (values.new ≡ with_spec path.now value values.old) }
+{
+    values.insert(copy(path)?, value)?;
+    Ok(())
+}
+
 /// Puts a prim into a table of specs; `/` has no spec.
 fn put_prim(
     alloc: Global,
@@ -37,24 +46,36 @@ fn put_prim(
         return Ok(());
     }
     let spec = flat_spec(alloc, prim)?;
-    specs.insert(copy(path)?, spec)?;
-    Ok(())
+    put(specs, path, spec)
 }
 
-/// A spec for each path but `/`.
-fn specs_of(
+/// Puts the prim at an index of a stage into a table of specs, if there is one.
+fn put_nth(
     alloc: Global,
+    specs: &mut OrderedTable<Path, Spec>,
     view: &View<'_, Path, PrimView>,
-) -> Result<OrderedTable<Path, Spec>, AllocError>
-    ensures { IfOk result (λ specs. specs ≡ with_prims view.now.items []) }
+    i: usize,
+) -> Result<(), AllocError>
+    ensures { OnOk result (specs.new ≡ with_item (slice_get view.now.items i) specs.old) }
 {
-    let mut specs = OrderedTable::new(alloc);
-    for i in 0..view.len() {
-        if let Some((path, prim)) = view.nth(i) {
-            put_prim(alloc, &mut specs, path, prim)?;
-        }
+    match view.nth(i) {
+        None => Ok(()),
+        Some((path, prim)) => put_prim(alloc, specs, path, prim),
     }
-    Ok(specs)
+}
+
+/// Puts each prim of a stage into a table of specs, in the order of the stage.
+fn put_prims(
+    alloc: Global,
+    specs: &mut OrderedTable<Path, Spec>,
+    view: &View<'_, Path, PrimView>,
+) -> Result<(), AllocError>
+    ensures { OnOk result (specs.new ≡ with_prims view.now.items specs.old) }
+{
+    for i in 0..view.len() {
+        put_nth(alloc, specs, view, i)?;
+    }
+    Ok(())
 }
 
 /// The stage as one layer: the metadata of `/` as its head, and a spec for each other path with what the stage has there.
@@ -62,12 +83,12 @@ fn specs_of(
 /// # Errors
 ///
 /// Memory ran out.
-#[tactic(auto, unfolding(crate::specs::Flattened::flat_layer))]
 pub fn flatten_layer(alloc: Global, view: &View<'_, Path, PrimView>) -> Result<Layer, AllocError>
     ensures { IfOk result (λ layer. layer ≡ flat_layer view.now.items) }
 {
+    let mut specs = OrderedTable::new(alloc);
+    put_prims(alloc, &mut specs, view)?;
     let head = head_of(alloc, root_of(alloc, view))?;
-    let specs = specs_of(alloc, view)?;
     Ok(Layer::from_parts(alloc, head, specs))
 }
 

@@ -44,11 +44,7 @@ fn default_in(alloc: Global, meta: &Meta) -> Result<Option<Text>, AllocError>
 
 /// Metadata without the default prim.
 #[tactic(auto, unfolding(crate::specs::Flattened::beside_default))]
-fn beside_default(
-    alloc: Global,
-    name: &Option<Text>,
-    meta: &Meta,
-) -> Result<Meta, AllocError>
+fn beside_default(alloc: Global, name: &Option<Text>, meta: &Meta) -> Result<Meta, AllocError>
     ensures { IfOk result (λ rest. rest ≡ beside_default name.now meta.now) }
 {
     let mut rest = copy(meta)?;

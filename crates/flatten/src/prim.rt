@@ -1,6 +1,6 @@
 // A composed prim as a spec.
 ghost use Rattle.std.specs.Prelude.{◌≡◌, IfOk, OnOk, []};
-ghost use Rattle.flatten.specs.Flattened.{explicit_list, flat_property, with_properties, flat_spec};
+ghost use Rattle.flatten.specs.Flattened.{explicit_list, flat_property, with_properties, flat_body, flat_spec};
 
 use list_ops::ListOp;
 use plain_data::{ExactClone, Items, copy};
@@ -74,24 +74,35 @@ fn flat_properties(alloc: Global, properties: &[PropertyView]) -> Result<Propert
     Ok(flat)
 }
 
+/// What a prim gathers, as a layer has it.
+fn flat_body(alloc: Global, prim: &PrimView) -> Result<BodyPart, AllocError>
+    ensures { IfOk result (λ body. body ≡ flat_body prim.now) }
+{
+    let type_name = copy(&prim.type_name)?;
+    let meta = copy(&prim.meta)?;
+    let api_schemas = explicit_list(alloc, &prim.api_schemas)?;
+    let clip_sets = explicit_list(alloc, &prim.clip_sets)?;
+    let children = copy(&prim.children)?;
+    let properties = flat_properties(alloc, prim.properties.as_slice())?;
+    Ok(BodyPart {
+        specifier: prim.specifier,
+        type_name,
+        meta,
+        api_schemas,
+        clip_sets,
+        children,
+        child_order: Items::new(alloc),
+        properties,
+        property_order: Items::new(alloc),
+        variant_names: Items::new(alloc),
+    })
+}
+
 /// A prim as a layer has it.
-#[tactic(auto, unfolding(crate::specs::Flattened::flat_spec))]
 pub fn flat_spec(alloc: Global, prim: &PrimView) -> Result<Spec, AllocError>
     ensures { IfOk result (λ spec. spec ≡ flat_spec prim.now) }
 {
-    Ok(Spec {
-        arcs: ArcPart::blank(alloc),
-        body: BodyPart {
-            specifier: prim.specifier,
-            type_name: copy(&prim.type_name)?,
-            meta: copy(&prim.meta)?,
-            api_schemas: explicit_list(alloc, &prim.api_schemas)?,
-            clip_sets: explicit_list(alloc, &prim.clip_sets)?,
-            children: copy(&prim.children)?,
-            child_order: Items::new(alloc),
-            properties: flat_properties(alloc, prim.properties.as_slice())?,
-            property_order: Items::new(alloc),
-            variant_names: Items::new(alloc),
-        },
-    })
+    let body = flat_body(alloc, prim)?;
+    let arcs = ArcPart::blank(alloc);
+    Ok(Spec { arcs, body })
 }
