@@ -1,4 +1,4 @@
-use Rattle.std.proofs.Common.{◌∙◌, ap, []}
+use Rattle.std.proofs.Common.{◌∙◌, ap}
 use Rattle.sdf_specs.specs.Layers.{SpecEntries}
 use Rattle.flatten.specs.Flattened.{head_of, with_prims}
 use Rattle.flatten.proofs.Flattening.{layer_is}
