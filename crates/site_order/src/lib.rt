@@ -1,0 +1,11 @@
+//! What is told of the finished tree of a prim: its nodes from strong to weak, its sites, the variants that they choose, and the
+//! faults of its arcs.
+#![tactic(auto)]
+
+mod order;
+mod ranks;
+mod sizes;
+
+pub use order::{listing, strong_of, weak_of};
+pub use ranks::Ranked;
+pub use sizes::{has_spec_in, is_overgrown, is_overgrown_on_the_way, size};
