@@ -14,7 +14,7 @@ use Rattle.prim_trees.specs.Unfolded.{meant_is}
 use Rattle.site_order.specs.Sizes.{child_size, child_has_spec, child_rests, is_frame_overgrown}
 
 -- the second where the first does not hold
-either : (a b : Bool) → (elim a as (λ _. Bool) [ true ↦ true | false ↦ b ]) ≡ (a || b)
+pub either : (a b : Bool) → (elim a as (λ _. Bool) [ true ↦ true | false ↦ b ]) ≡ (a || b)
 either true b = refl
 either false b = refl
 

@@ -88,3 +88,19 @@ part_in_both k c part above parent (x ∷ own) lifted =
         → (elim b as (λ _. Rows) [ true ↦ there | false ↦ all ]) ≡ (elim b as (λ _. Rows) [ true ↦ there | false ↦ rest ]) ++ (elim (b || found) as (λ _. Rows) [ true ↦ [] | false ↦ later ])
     by_class true there rest all later found h = sym (append-nil there)
     by_class false there rest all later found h = h
+
+module _ (k : ArcKind) (c : Class) (part : Part) (above : ℕ) (t : Tree) where
+  abbrev own_part : Rows
+  own_part = part_of k c (parts_of part above t (out-Tree t).own)
+
+  abbrev lifted_part : Rows
+  lifted_part = part_of k c (parts_of part above t (out-Tree t).lifted)
+
+  abbrev after_own : Bool → Rows
+  after_own found = own_part ++ (elim found as (λ _. Rows) [ true ↦ [] | false ↦ lifted_part ])
+
+  pub part_of_own : list_any (leads_to k c) (out-Tree t).own ≡ true → part_of k c (all_parts part above t) ≡ own_part
+  part_of_own h = part_in_both k c part above t (out-Tree t).own (out-Tree t).lifted ∙ ap after_own h ∙ append-nil own_part
+
+  pub part_of_lifted : list_any (leads_to k c) (out-Tree t).own ≡ false → part_of k c (all_parts part above t) ≡ own_part ++ lifted_part
+  part_of_lifted h = part_in_both k c part above t (out-Tree t).own (out-Tree t).lifted ∙ ap after_own h

@@ -24,6 +24,7 @@ pub enum Part {
 }
 
 /// The nodes of the tree from strong to weak.
+#[tactic(auto, unfolding(crate::specs::Entries::tree_part))]
 pub fn listing<'t>(alloc: Global, tree: &'t Tree) -> Result<Vec<&'t Tree>, AllocError>
     ensures { IfOk result (λ nodes. map (λ t. meant t.now) nodes.items ≡ listing limits (meant tree.now)) }
 {
@@ -33,17 +34,18 @@ pub fn listing<'t>(alloc: Global, tree: &'t Tree) -> Result<Vec<&'t Tree>, Alloc
 }
 
 /// The trees of entries.
-pub fn trees_of<'t>(alloc: Global, entries: &[Ranked<'t>]) -> Result<Vec<&'t Tree>, AllocError>
-    ensures { IfOk result (λ nodes. map (λ t. meant t.now) nodes.items ≡ map (λ e. e.0) (entries entries.now)) }
+pub fn trees_of<'t>(alloc: Global, ranked: &[Ranked<'t>]) -> Result<Vec<&'t Tree>, AllocError>
+    ensures { IfOk result (λ nodes. map (λ t. meant t.now) nodes.items ≡ map (λ e. e.0) (entries ranked.now)) }
 {
     let mut trees = Vec::new(alloc);
-    for entry in entries {
+    for entry in ranked {
         trees.push(entry.tree)?;
     }
     Ok(trees)
 }
 
 /// The nodes of the strong part of the tree, each with its rank.
+#[tactic(auto, unfolding(crate::specs::Entries::tree_part))]
 pub fn strong_of<'t>(alloc: Global, tree: &'t Tree) -> Result<Vec<Ranked<'t>>, AllocError>
     ensures { IfOk result (λ part. entries part.items ≡ strong_of limits (meant tree.now)) }
 {
@@ -53,6 +55,7 @@ pub fn strong_of<'t>(alloc: Global, tree: &'t Tree) -> Result<Vec<Ranked<'t>>, A
 }
 
 /// The nodes of the weak part of the tree, each with its rank.
+#[tactic(auto, unfolding(crate::specs::Entries::tree_part))]
 pub fn weak_of<'t>(alloc: Global, tree: &'t Tree) -> Result<Vec<Ranked<'t>>, AllocError>
     ensures { IfOk result (λ part. entries part.items ≡ weak_of limits (meant tree.now)) }
 {
@@ -167,7 +170,8 @@ fn push_class<'t>(
 ) -> Result<(), AllocError>
     ensures { OnOk result (entries out.new.items ≡ entries out.old.items ++ part_of kind class.now (all_parts part above tree.now)) }
 {
-    if push_first(out, part, above, tree.own.as_slice(), tree, kind, class)? {
+    let found = push_first(out, part, above, tree.own.as_slice(), tree, kind, class)?;
+    if found {
         return Ok(());
     }
     let _found = push_first(out, part, above, tree.lifted.as_slice(), tree, kind, class)?;
