@@ -1,4 +1,6 @@
+pub mod Choosing
 pub mod Counting
 pub mod Naming
 pub mod Parts
+pub mod Placing
 pub mod Ranking

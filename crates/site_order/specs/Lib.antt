@@ -1,3 +1,5 @@
 pub mod Entries
+pub mod Places
 pub mod Ranks
+pub mod Said
 pub mod Sizes

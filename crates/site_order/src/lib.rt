@@ -2,10 +2,14 @@
 //! faults of its arcs.
 #![tactic(auto)]
 
+mod deciding;
+mod keeping;
 mod order;
 mod ranks;
 mod sizes;
 
+pub use deciding::decided;
+pub use keeping::{places, sites};
 pub use order::{listing, strong_of, weak_of};
 pub use ranks::Ranked;
 pub use sizes::{has_spec_in, is_overgrown, is_overgrown_on_the_way, size};
