@@ -4,3 +4,4 @@ pub mod Naming
 pub mod Parts
 pub mod Placing
 pub mod Ranking
+pub mod Telling

@@ -1,4 +1,5 @@
 pub mod Entries
+pub mod Groups
 pub mod Places
 pub mod Ranks
 pub mod Said

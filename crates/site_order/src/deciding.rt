@@ -1,11 +1,11 @@
 // What a round of variant choices decides, from the tree that was made with the choices so far.
-ghost use Rattle.std.specs.Prelude.{◌≡◌, ◌++◌, [], IfOk, OnOk, map, flat_map};
+ghost use Rattle.std.specs.Prelude.{◌≡◌, ◌++◌, [], IfOk, OnOk, map, flat_map, not};
 ghost use Rattle.std.specs.List.{list_any, filter_map};
 ghost use Rattle.std.specs.Option.{option_copied};
 ghost use Rattle.composition.specs.Texts.{same_text, find_at, first_of};
 ghost use Rattle.composition.specs.Paths.{limits};
 ghost use Rattle.composition.specs.Compose.{sets_met, first_selection, decided};
-ghost use Rattle.list_ops.specs.ListEdits.{firsts, without};
+ghost use Rattle.list_ops.specs.ListEdits.{contains, firsts, without};
 ghost use Rattle.prim_trees.specs.Meant.{meant};
 ghost use Rattle.site_order.specs.Places.{trees_shown};
 ghost use Rattle.site_order.specs.Said.{sets_of, selected_at};
@@ -29,10 +29,22 @@ pub fn decided(alloc: Global, tree: &Tree, choices: &Choices) -> Result<Choices,
     if is_overgrown(tree) {
         return Ok(Items::new(alloc));
     }
-    let met = sets_met(alloc, tree)?;
-    let open = without_choices(alloc, met.as_slice(), choices.as_slice())?;
+    let sets = undecided_sets(alloc, tree, choices)?;
     let kept = places(alloc, tree)?;
-    selections(alloc, kept.as_slice(), open.as_slice())
+    let more = selections(alloc, kept.as_slice(), sets.as_slice())?;
+    Ok(more)
+}
+
+/// The variant sets that are met in the tree and have no choice.
+fn undecided_sets(
+    alloc: Global,
+    tree: &Tree,
+    choices: &Choices,
+) -> Result<Items<Text>, AllocError>
+    ensures { IfOk result (λ sets. sets ≡ without same_text (sets_met limits (meant tree.now)) (map (λ c. c.0) choices.now)) }
+{
+    let met = sets_met(alloc, tree)?;
+    without_choices(alloc, met.as_slice(), choices.as_slice())
 }
 
 /// The variant sets that the nodes of the tree have, each once, in the order of the nodes.
@@ -90,15 +102,21 @@ fn without_choices(
     sets: &[Text],
     choices: &[(Text, Text)],
 ) -> Result<Items<Text>, AllocError>
-    ensures { IfOk result (λ open. open ≡ without same_text sets.now (map (λ c. c.0) choices.now)) }
+    ensures { IfOk result (λ left. left ≡ without same_text sets.now (map (λ c. c.0) choices.now)) }
 {
-    let mut open = Items::new(alloc);
+    let mut left = Items::new(alloc);
     for set in sets {
-        if !is_chosen(choices, set) {
-            open.push(copy(set)?)?;
+        if is_undecided(choices, set) {
+            left.push(copy(set)?)?;
         }
     }
-    Ok(open)
+    Ok(left)
+}
+
+fn is_undecided(choices: &[(Text, Text)], set: &Text) -> bool
+    ensures { result ≡ not (contains same_text (map (λ c. c.0) choices.now) set.now) }
+{
+    !is_chosen(choices, set)
 }
 
 fn is_chosen(choices: &[(Text, Text)], set: &Text) -> bool

@@ -3,12 +3,14 @@
 #![tactic(auto)]
 
 mod deciding;
+mod faults;
 mod keeping;
 mod order;
 mod ranks;
 mod sizes;
 
 pub use deciding::decided;
+pub use faults::arc_faults;
 pub use keeping::{places, sites};
 pub use order::{listing, strong_of, weak_of};
 pub use ranks::Ranked;
