@@ -1,5 +1,5 @@
 -- Texts that compare as one, and what nodes say of variants.
-use Rattle.std.proofs.Common.{◌≡◌, ◌∙◌, sym, ap, refl, ℕ, Bool, true, false, ◌==◌, ◌&&◌, List, [], ◌∷◌}
+use Rattle.std.proofs.Common.{◌≡◌, ap, refl, Bool, true, false, ◌==◌, ◌&&◌, List, [], ◌∷◌}
 use Rattle.std.specs.Cmp.Lexicographic.{pointwise}
 use Rattle.plain_data.specs.contracts.text.TextPartialEq.TheImpl.{ghosts as text_eq}
 use Rattle.composition.specs.Texts.{Text, same_text, find_at}

@@ -1,11 +1,11 @@
 -- What is counted and looked for in a tree, child by child.
-use Rattle.std.proofs.Common.{◌≡◌, ◌∙◌, sym, ap, refl, arith, ℕ, suc, ◌+◌, Bool, true, false, ◌||◌, List, [], ◌∷◌, ◌++◌, append_assoc}
+use Rattle.std.proofs.Common.{◌≡◌, ◌∙◌, sym, ap, refl, suc, ◌+◌, Bool, true, false, ◌||◌, List, [], ◌∷◌}
 use Rattle.std.specs.Prelude.{sum_by}
 use Rattle.std.specs.List.{list_any}
 use Rattle.std.proofs.lemmas.List.Sums.{sum_by-cons}
 use Rattle.std.proofs.lemmas.List.Folds.{list_any-append}
 use Rattle.composition.specs.Nodes.{Node}
-use Rattle.composition.specs.Trees.{Trees, size, size_among, is_overgrown, is_overgrown_among, has_spec_in, has_spec_among, nodes_of, nodes_among}
+use Rattle.composition.specs.Trees.{size, size_among, is_overgrown, is_overgrown_among, has_spec_in, has_spec_among, nodes_of, nodes_among}
 use Rattle.composition.specs.Compose.{rests_on_overgrown}
 use Rattle.prim_trees.specs.declared.tree.Tree.{Tree, out-Tree}
 use Rattle.prim_trees.specs.declared.tree.Child.{Child, out-Child}

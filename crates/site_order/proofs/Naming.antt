@@ -1,5 +1,5 @@
 -- Names and texts that compare as one are one.
-use Rattle.std.proofs.Common.{◌≡◌, ◌∙◌, sym, ap, refl, ℕ, Bool, true, false, ◌==◌, List, [], ◌∷◌}
+use Rattle.std.proofs.Common.{◌≡◌, ◌∙◌, ap, refl, Bool, true, false, ◌==◌, [], ◌∷◌}
 use Rattle.std.proofs.lemmas.Bool.{eq-eqb, eqb-true}
 use Rattle.composition.specs.Texts.{Text, same_text}
 use Rattle.composition.specs.World.{StackName, Root, Asset, same_stack}

@@ -1,8 +1,8 @@
 -- The two parts of a tree, by what stands under its children.
-use Rattle.std.proofs.Common.{◌≡◌, ◌∙◌, sym, ap, refl, subst, ℕ, Bool, true, false, ◌||◌, List, [], ◌∷◌, ◌++◌, map, append_assoc, append-nil}
+use Rattle.std.proofs.Common.{◌≡◌, ◌∙◌, sym, ap, refl, subst, ℕ, Bool, true, false, ◌||◌, List, [], ◌∷◌, ◌++◌, append-nil}
 use Rattle.std.specs.List.{list_any}
 use Rattle.path_maps.specs.declared.kind.ArcKind.{ArcKind}
-use Rattle.path_maps.specs.declared.kind.ArcKind.TheVariants.{Inherits, Variant, Reference, Payload, Specializes}
+use Rattle.path_maps.specs.declared.kind.ArcKind.TheVariants.{Inherits, Specializes}
 use Rattle.composition.specs.Paths.{limits}
 use Rattle.composition.specs.Arcs.{same_kind}
 use Rattle.composition.specs.Trees as defined
@@ -10,7 +10,7 @@ use Rattle.composition.specs.Trees.{Trees, node, Class, is_class_of, classes, no
 use Rattle.composition.specs.Strength as order
 use Rattle.composition.specs.Strength.{Parts, above_child, rank_of, strong, strong_parts, weak, weak_parts, part_of, by_classes, by_kind, by_strength}
 use Rattle.prim_trees.specs.declared.tree.Tree.{Tree, out-Tree}
-use Rattle.prim_trees.specs.declared.tree.Child.{Child, out-Child}
+use Rattle.prim_trees.specs.declared.tree.Child.{Child}
 use Rattle.prim_trees.specs.Meant.{meant, trees_of, led}
 use Rattle.prim_trees.specs.Unfolded.{meant_is}
 use Rattle.site_order.specs.declared.order.Part.{Part}

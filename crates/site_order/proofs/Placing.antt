@@ -1,11 +1,8 @@
 -- Places, and the sites of trees.
-use Rattle.std.proofs.Common.{◌≡◌, ◌∙◌, sym, ap, refl, ℕ, ◌+◌, Bool, true, false, ◌||◌, not, List, [], ◌∷◌, ◌++◌, map, take, drop, length, append_assoc}
+use Rattle.std.proofs.Common.{◌≡◌, ◌∙◌, sym, ap, refl, Bool, true, false, ◌||◌, List, [], ◌∷◌, ◌++◌}
 use Rattle.std.specs.List.{list_any}
 use Rattle.std.proofs.lemmas.List.Folds.{list_any-append}
-use Rattle.prim_nodes.specs.declared.node.Node.{Node}
-use Rattle.prim_nodes.specs.declared.here.Here.{Here}
 use Rattle.composition.specs.Paths.{limits}
-use Rattle.composition.specs.Trees as defined
 use Rattle.composition.specs.Trees.{node, none}
 use Rattle.composition.specs.Faults.{site_of}
 use Rattle.composition.specs.Strength.{Ranked, same_place, same_site, best_places}

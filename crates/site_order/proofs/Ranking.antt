@@ -1,12 +1,12 @@
 -- Ranks, child by child.
-use Rattle.std.proofs.Common.{◌≡◌, ◌∙◌, sym, ap, refl, ℕ, ◌+◌, Bool, true, false, ◌||◌, List, [], ◌∷◌}
+use Rattle.std.proofs.Common.{◌≡◌, ◌∙◌, ap, refl, ℕ, ◌+◌, Bool, true, false, ◌||◌, List, [], ◌∷◌}
 use Rattle.std.specs.List.{list_any}
 use Rattle.prim_nodes.specs.declared.node.Node.{Node}
 use Rattle.prim_nodes.specs.declared.arcs.Branch.{Branch}
 use Rattle.composition.specs.Texts.{both}
 use Rattle.composition.specs.Trees as defined
 use Rattle.composition.specs.Trees.{any_child, node_of}
-use Rattle.composition.specs.Strength.{is_class_child, has_class_child, is_shared, leads_on, rank_of, one_if, is_lifted_inherits}
+use Rattle.composition.specs.Strength.{is_class_child, has_class_child, leads_on, rank_of, one_if, is_lifted_inherits}
 use Rattle.prim_trees.specs.declared.tree.Tree.{Tree, out-Tree}
 use Rattle.prim_trees.specs.declared.tree.Child.{Child, out-Child}
 use Rattle.prim_trees.specs.Meant.{meant, trees_of, led}

@@ -2,10 +2,8 @@
 use Rattle.std.specs.Prelude.{ℕ, Bool, true, false, List, [], ◌++◌, map}
 use Rattle.path_maps.specs.declared.kind.ArcKind.{ArcKind}
 use Rattle.path_maps.specs.declared.kind.ArcKind.TheVariants.{Specializes}
-use Rattle.prim_nodes.specs.declared.arcs.Branch.{Branch}
 use Rattle.composition.specs.Paths.{limits}
 use Rattle.composition.specs.Arcs.{same_kind}
-use Rattle.composition.specs.Trees as defined
 use Rattle.composition.specs.Trees.{Class, is_class_of}
 use Rattle.composition.specs.Strength as order
 use Rattle.composition.specs.Strength.{Parts, above_child, strong, weak}

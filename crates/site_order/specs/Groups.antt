@@ -1,5 +1,5 @@
 -- Which items a group of faults tells of.
-use Rattle.std.specs.Prelude.{Bool, true, false, not, List, map}
+use Rattle.std.specs.Prelude.{Bool, not, List, map}
 use Rattle.std.specs.Borrow.{Bor}
 use Rattle.prim_nodes.specs.declared.here.Tried.{Tried}
 use Rattle.composition.specs.Texts.{both}

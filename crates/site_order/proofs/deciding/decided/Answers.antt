@@ -1,4 +1,4 @@
-use Rattle.std.proofs.Common.{◌≡◌, ◌∙◌, sym}
+use Rattle.std.proofs.Common.{◌∙◌, sym}
 use Rattle.prim_trees.specs.Meant.{meant}
 use Rattle.site_order.proofs.Choosing.{decided_is}
 use Rattle.site_order.proofs.deciding.decided.Goals as goal

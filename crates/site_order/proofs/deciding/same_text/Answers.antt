@@ -1,4 +1,4 @@
-use Rattle.std.proofs.Common.{◌≡◌, ap, sym, ◌∙◌}
+use Rattle.std.proofs.Common.{ap, sym, ◌∙◌}
 use Rattle.composition.specs.Texts.{same_text}
 use Rattle.class_arcs.proofs.Sameness.{one_answer}
 use Rattle.site_order.proofs.Naming.{text_same, text_itself}

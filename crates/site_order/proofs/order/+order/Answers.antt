@@ -1,4 +1,4 @@
-use Rattle.std.proofs.Common.{◌≡◌, ◌∙◌, sym, ap, ◌++◌, append_assoc, true, false}
+use Rattle.std.proofs.Common.{◌∙◌, sym, ap, append_assoc}
 use Rattle.std.specs.List.{list_any}
 use Rattle.site_order.specs.Entries.{leads_to}
 use Rattle.site_order.proofs.Parts.{strong_is, weak_is, part_of_own, part_of_lifted}
