@@ -69,7 +69,7 @@ pub weak_is : (above rank : ℕ) (t : Tree)
 unfolding tree_part
 weak_is above rank t =
     let P : defined.Tree → Type 0 =
-        λ x. weak limits above rank x ≡ by_classes Specializes (classes limits Specializes x) (all_parts Weak above t) ++ by_strength (classes limits Inherits x) (all_parts Weak above t) in
+    λ x. weak limits above rank x ≡ by_classes Specializes (classes limits Specializes x) (all_parts Weak above t) ++ by_strength (classes limits Inherits x) (all_parts Weak above t) in
     let n : defined.Tree = node (out-Tree t).node (out-Tree t).here (siblings above t) (trees_of (out-Tree t).lifted (out-Tree t).lifted_cut) in
     subst P (sym (meant_is t)) (λ i.
     let parts = weak_listed above t (out-Tree t).own (out-Tree t).own_cut i ++ weak_listed above t (out-Tree t).lifted (out-Tree t).lifted_cut i in

@@ -36,11 +36,7 @@ pub fn decided(alloc: Global, tree: &Tree, choices: &Choices) -> Result<Choices,
 }
 
 /// The variant sets that are met in the tree and have no choice.
-fn undecided_sets(
-    alloc: Global,
-    tree: &Tree,
-    choices: &Choices,
-) -> Result<Items<Text>, AllocError>
+fn undecided_sets(alloc: Global, tree: &Tree, choices: &Choices) -> Result<Items<Text>, AllocError>
     ensures { IfOk result (λ sets. sets ≡ without same_text (sets_met limits (meant tree.now)) (map (λ c. c.0) choices.now)) }
 {
     let met = sets_met(alloc, tree)?;
@@ -137,11 +133,7 @@ fn same_text(a: &Text, b: &Text) -> bool
 }
 
 /// The first selection of each set, where there is one.
-fn selections(
-    alloc: Global,
-    sites: &[&Tree],
-    sets: &[Text],
-) -> Result<Choices, AllocError>
+fn selections(alloc: Global, sites: &[&Tree], sets: &[Text]) -> Result<Choices, AllocError>
     ensures { IfOk result (λ more. more ≡ filter_map (first_selection limits (trees_shown sites.now)) sets.now) }
 {
     let mut more = Items::new(alloc);

@@ -112,11 +112,7 @@ fn push_weak<'t>(
     Ok(())
 }
 
-fn push_node<'t>(
-    out: &mut Vec<Ranked<'t>>,
-    rank: usize,
-    tree: &'t Tree,
-) -> Result<(), AllocError>
+fn push_node<'t>(out: &mut Vec<Ranked<'t>>, rank: usize, tree: &'t Tree) -> Result<(), AllocError>
     ensures { OnOk result (entries out.new.items ≡ entries out.old.items ++ (meant tree.now, rank) ∷ []) }
 {
     out.push(Ranked { tree, rank })?;

@@ -11,5 +11,5 @@ pub returns : goal.returns
 returns c =
     let own = trees_of (out-Tree c.args.tree.now).own (out-Tree c.args.tree.now).own_cut in
     let arcs : items c.as_slice-2.result.now ≡ filter (λ a. same_kind c.args.kind a.kind) (out-Tree c.args.tree.now).here.arcs =
-        ap (λ (xs : List (Bor Tried)). items xs) c.as_slice-2.ensures.value ∙ c.in_ok-arcs.ensures ∙ ap (λ (xs : List Tried). filter (λ a. same_kind c.args.kind a.kind) xs) c.as_slice.ensures in
+    ap (λ (xs : List (Bor Tried)). items xs) c.as_slice-2.ensures.value ∙ c.in_ok-arcs.ensures ∙ ap (λ (xs : List Tried). filter (λ a. same_kind c.args.kind a.kind) xs) c.as_slice.ensures in
     c.in_ok-push_faults.ensures ∙ ap (λ (xs : List Tried). c.args.out.now ++ kind_faults (out-Tree c.args.tree.now).node own c.args.kind xs) arcs
