@@ -1,5 +1,5 @@
 -- What a layer's default prim names is read as it is defined.
-use Rattle.std.proofs.Common.{◌≡◌, refl, Option, Some, None}
+use Rattle.std.proofs.Common.{◌≡◌, refl}
 use Rattle.composition.specs.Texts.{Text}
 use Rattle.composition.specs.World.{World, Heading, headed, no_layer, refused}
 use Rattle.arc_expand.specs.Outcomes.{path_of, target_of, IsDefaultPrim, HasTarget, HasTargets}
@@ -9,7 +9,7 @@ unfolding path_of target_of
 is_default text = refl
 
 has_target : (h : Heading) → HasTarget h
-has_target (headed h) = elim h.default_prim as (λ o. HasTarget (headed (record h { default_prim = o }))) [ Some text ↦ is_default text | None ↦ tt ]
+has_target (headed h) = λ text is. is_default text
 has_target no_layer = tt
 has_target (refused r) = tt
 
