@@ -2,66 +2,23 @@
 pub use Rattle.prim_view.specs.declared.fault.ArcFault.{ArcFault}
 pub use Rattle.prim_view.specs.declared.fault.PrimFault.{PrimFault as Fault}
 pub use Rattle.prim_view.specs.declared.fault.PrimFault.TheVariants.{Sublayer as sublayer, Arc as arc, TimeOutside as time_outside, TargetOutside as target_outside, ChildTooLong as child_too_long, Overgrown as overgrown}
-use Rattle.prim_view.specs.Printing.{refusal_name}
+use Rattle.prim_view.specs.Printing.{fault_text}
 use Rattle.std.specs.Prelude.{ℕ, ◌==◌, Bool, true, false, not, ◌||◌, List, [], ◌∷◌, ◌++◌, map, flat_map, filter, zip, codes, Option, Some, None}
 use Rattle.path_maps.specs.declared.kind.ArcKind.{ArcKind}
 use Rattle.path_maps.specs.declared.kind.ArcKind.TheVariants.{Inherits, Reference, Payload, Specializes}
 use Rattle.composition.specs.Texts.{Text, same_text, both}
-use Rattle.composition.specs.Paths.{Path, same_path, Limits}
-use Rattle.spec_parts.specs.declared.items.Refusal.{Refusal}
-use Rattle.sdf_values.specs.declared.refusal.RefusalKind.{RefusalKind}
-use Rattle.sdf_values.specs.declared.refusal.RefusalKind.TheVariants.{TooLong, Crate, Package, NotUtf8, BadHeader, Syntax, NumberTooLong, UnknownType, ValueShape, TimeRange, OffsetRange, DuplicateSpec, Relocates, Spline, ReferenceData, TooDeep}
+use Rattle.composition.specs.Paths.{Path, Limits}
 use Rattle.composition.specs.World.{World, is_loaded}
-use Rattle.composition.specs.Stacks.{SublayerFault, SublayerReason, sublayer_cycle, sublayer_missing, sublayer_broken, sublayer_offset}
-use Rattle.composition.specs.Arcs.{same_kind, Item, same_item, Outcome, leads, gives_no_arc, is_empty, Reason, missing_layer, broken_layer, no_default_prim, bad_target, offset_range, arc_cycle, too_deep, path_too_long, unresolved_prim}
+use Rattle.composition.specs.Arcs.{same_kind, Outcome, leads, gives_no_arc, is_empty, Reason, path_too_long, unresolved_prim}
 use Rattle.composition.specs.Nodes.{Node, here, Choices, frame_at, Tried, author}
 use Rattle.composition.specs.Trees.{Tree, node, Trees, none, cut, child, has_spec_in, node_of}
 use Rattle.composition.specs.Strength.{listing, sites}
-use Rattle.composition.specs.Values.{TimeFault}
-use Rattle.composition.specs.Targets.{TargetFault}
 use Rattle.composition.specs.Opinions.{Site, is_by_class}
 use Rattle.composition.specs.Compose.{stage_tree, is_overgrown_on_the_way}
 
-abbrev pub sublayer_place : SublayerReason → ℕ
-sublayer_place sublayer_cycle = 1
-sublayer_place sublayer_missing = 2
-sublayer_place sublayer_broken = 3
-sublayer_place sublayer_offset = 4
-
-abbrev pub reason_place : Reason → ℕ
-reason_place missing_layer = 1
-reason_place (broken_layer r) = 2
-reason_place no_default_prim = 3
-reason_place bad_target = 4
-reason_place offset_range = 5
-reason_place arc_cycle = 6
-reason_place too_deep = 7
-reason_place path_too_long = 8
-reason_place unresolved_prim = 9
-
-abbrev pub same_refusal : Refusal → Refusal → Bool
-same_refusal a b = both (same_text (refusal_name a.kind) (refusal_name b.kind)) (both (a.line == b.line) (a.column == b.column))
-
-abbrev pub same_reason : Reason → Reason → Bool
-same_reason (broken_layer a) (broken_layer b) = same_refusal a b
-same_reason a b = reason_place a == reason_place b
-
-abbrev pub same_sublayer_fault : SublayerFault → SublayerFault → Bool
-same_sublayer_fault a b = both (sublayer_place a.reason == sublayer_place b.reason) (both (same_text a.layer b.layer) (same_text a.asset b.asset))
-
-abbrev pub same_arc_fault : ArcFault → ArcFault → Bool
-same_arc_fault a b =
-    both (same_reason a.reason b.reason) (both (same_text a.layer b.layer) (both (same_path a.site b.site)
-    (both (same_kind a.kind b.kind) (same_item a.item b.item))))
-
+-- faults of one text are one
 abbrev pub same_fault : Fault → Fault → Bool
-same_fault (sublayer a) (sublayer b) = same_sublayer_fault a b
-same_fault (arc a) (arc b) = same_arc_fault a b
-same_fault (time_outside a) (time_outside b) = both (same_text a.layer b.layer) (same_path a.property b.property)
-same_fault (target_outside a) (target_outside b) = both (same_text a.layer b.layer) (both (same_path a.property b.property) (same_path a.target b.target))
-same_fault (child_too_long a) (child_too_long b) = same_text a b
-same_fault overgrown overgrown = true
-same_fault _ _ = false
+same_fault a b = same_text (fault_text a) (fault_text b)
 
 abbrev pub is_level_0 : Tried → Bool
 is_level_0 a = a.level == 0
@@ -71,7 +28,8 @@ gives_arc (leads a) = true
 gives_arc (gives_no_arc r) = false
 
 abbrev pub is_path_too_long : Reason → Bool
-is_path_too_long r = reason_place r == 8
+is_path_too_long path_too_long = true
+is_path_too_long _ = false
 
 abbrev pub is_followed : Option Reason → Bool
 is_followed None = true

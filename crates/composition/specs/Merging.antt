@@ -1,106 +1,54 @@
 -- How metadata merges: dictionaries key by key, the stronger first, nested ones too; of all else the strongest is kept.
-use Rattle.std.specs.Prelude.{List, [], map, fold, Option, Some, None}
+use Rattle.std.specs.Prelude.{ℕ, zero, suc, List, [], map, fold, Option, Some, None}
 use Rattle.sdf_paths.specs.Order.{text_cmp}
 use Rattle.spec_properties.specs.Entries.{MetaEntries}
 use Rattle.spec_tables.specs.Tables.{at_key, with_key}
-use Rattle.sdf_values.specs.declared.value.DictItem.{DictItem}
-use Rattle.sdf_values.specs.declared.value.DictType.{DictType}
-use Rattle.sdf_values.specs.declared.value.Value.{Value, fold-Value}
+use Rattle.sdf_values.specs.declared.value.DictItem.{DictItem, out-DictItem}
+
+use Rattle.sdf_values.specs.declared.value.Value.{Value, out-Value}
 use Rattle.sdf_values.specs.declared.value.Value.TheVariants as value
-use Rattle.sdf_values.specs.declared.value.Value.TheOpen.{Value-F, DictItem-F}
+use Rattle.sdf_values.specs.declared.value.Value.TheOpen.{Value-F}
 use Rattle.composition.specs.Texts.{Text}
 
--- a value, and its entries where it is a dictionary
-pub record Opened : Type 0 where
-  pub itself : Value
-  pub entries : Option (List DictItem)
-
-abbrev pub closed : Value → Opened
-closed v = record { itself = v; entries = None }
-
-abbrev pub opened_step : Value-F Opened DictItem → Opened
-opened_step (Value-F.Bool b) = closed (value.Bool b)
-opened_step (Value-F.Whole n) = closed (value.Whole n)
-opened_step (Value-F.Number x) = closed (value.Number x)
-opened_step (Value-F.Time t) = closed (value.Time t)
-opened_step (Value-F.Text t) = closed (value.Text t)
-opened_step (Value-F.Asset t) = closed (value.Asset t)
-opened_step (Value-F.PathText t) = closed (value.PathText t)
-opened_step (Value-F.Word t) = closed (value.Word t)
-opened_step (Value-F.Tuple vs) = closed (value.Tuple (map (λ v. v.itself) vs))
-opened_step (Value-F.Array vs) = closed (value.Array (map (λ v. v.itself) vs))
-opened_step (Value-F.Dict is) = record { itself = value.Dict is; entries = Some is }
-opened_step Value-F.Block = closed value.Block
-
-abbrev pub opened_item : DictItem-F Opened DictItem → DictItem
-opened_item item = record { key = item.key; ty = item.ty; value = item.value.itself }
-
 -- the entries of a dictionary; none where the value is no dictionary
+abbrev pub entries_in : Value-F Value DictItem → Option (List DictItem)
+entries_in (Value-F.Dict is) = Some is
+entries_in _ = None
+
 abbrev pub entries_of : Value → Option (List DictItem)
-entries_of v = (fold-Value Opened DictItem opened_step opened_item v).entries
-
--- a value, and what it makes of a weaker one
-pub record Merging : Type 0 where
-  pub itself : Value
-  pub over : Value → Value
-
--- an entry of a dictionary, likewise
-pub record ItemMerging : Type 0 where
-  pub key : Text
-  pub ty : DictType
-  pub value : Merging
-
-abbrev pub kept_item : ItemMerging → DictItem
-kept_item i = record { key = i.key; ty = i.ty; value = i.value.itself }
+entries_of v = entries_in (out-Value v)
 
 -- entries by key
 abbrev pub with_item : List (Text × DictItem) → DictItem → List (Text × DictItem)
-with_item so_far i = with_key text_cmp i.key i so_far
+with_item so_far i = with_key text_cmp (out-DictItem i).key i so_far
 
--- an entry over the weaker one of its key, if there is one; the stronger keeps its type
-abbrev pub over_entry : ItemMerging → Option DictItem → DictItem
-over_entry i None = kept_item i
-over_entry i (Some weaker) = record { key = i.key; ty = i.ty; value = i.value.over weaker.value }
+-- what a value makes of a weaker one is given
+module _ (over : Value → Value → Value) where
+  -- an entry over the weaker one of its key, if there is one; the stronger keeps its type
+  abbrev pub over_entry : DictItem → Option DictItem → DictItem
+  over_entry i None = i
+  over_entry i (Some weaker) =
+      record { key = (out-DictItem i).key; ty = (out-DictItem i).ty; value = over (out-DictItem i).value (out-DictItem weaker).value }
 
-abbrev pub with_stronger : List (Text × DictItem) → ItemMerging → List (Text × DictItem)
-with_stronger so_far i = with_key text_cmp i.key (over_entry i (at_key text_cmp i.key so_far)) so_far
+  abbrev pub with_stronger : List (Text × DictItem) → DictItem → List (Text × DictItem)
+  with_stronger so_far i = with_key text_cmp (out-DictItem i).key (over_entry i (at_key text_cmp (out-DictItem i).key so_far)) so_far
 
--- the entries of a dictionary over those of a weaker one, in byte order of keys
-abbrev pub items_over : List ItemMerging → List DictItem → List DictItem
-items_over is weaker = map (λ e. e.1) (fold with_stronger (fold with_item [] weaker) is)
+  -- the entries of a dictionary over those of a weaker one, in byte order of keys
+  abbrev pub items_over : List DictItem → List DictItem → List DictItem
+  items_over is weaker = map (λ e. e.1) (fold with_stronger (fold with_item [] weaker) is)
 
-abbrev pub dict_over : List ItemMerging → Value → Value
-dict_over is v = elim (entries_of v) [ Some weaker ↦ value.Dict (items_over is weaker) | None ↦ value.Dict (map kept_item is) ]
+  abbrev pub dict_over : Value → Option (List DictItem) → Option (List DictItem) → Value
+  dict_over v (Some is) (Some weaker) = value.Dict (items_over is weaker)
+  dict_over v _ _ = v
 
-abbrev pub alone : Value → Merging
-alone v = record { itself = v; over = λ weaker. v }
+-- a value over a weaker one, so many dictionaries deep
+unfoldable pub merged_within : ℕ → Value → Value → Value
+merged_within zero v weaker = v
+merged_within (suc levels) v weaker = dict_over (merged_within levels) v (entries_of v) (entries_of weaker)
 
-abbrev pub merging_step : Value-F Merging ItemMerging → Merging
-merging_step (Value-F.Bool b) = alone (value.Bool b)
-merging_step (Value-F.Whole n) = alone (value.Whole n)
-merging_step (Value-F.Number x) = alone (value.Number x)
-merging_step (Value-F.Time t) = alone (value.Time t)
-merging_step (Value-F.Text t) = alone (value.Text t)
-merging_step (Value-F.Asset t) = alone (value.Asset t)
-merging_step (Value-F.PathText t) = alone (value.PathText t)
-merging_step (Value-F.Word t) = alone (value.Word t)
-merging_step (Value-F.Tuple ms) = alone (value.Tuple (map (λ m. m.itself) ms))
-merging_step (Value-F.Array ms) = alone (value.Array (map (λ m. m.itself) ms))
-merging_step (Value-F.Dict is) = record { itself = value.Dict (map kept_item is); over = dict_over is }
-merging_step Value-F.Block = alone value.Block
-
-abbrev pub merging_item : DictItem-F Merging ItemMerging → ItemMerging
-merging_item item = record { key = item.key; ty = item.ty; value = item.value }
-
-abbrev pub merging_of : Value → Merging
-merging_of = fold-Value Merging ItemMerging merging_step merging_item
-
-abbrev pub item_merging_of : DictItem → ItemMerging
-item_merging_of i = record { key = i.key; ty = i.ty; value = merging_of i.value }
-
--- a value over a weaker one of the same key
+-- a value over a weaker one of the same key; values nest at most 64 deep
 abbrev pub merged : Value → Value → Value
-merged v weaker = (merging_of v).over weaker
+merged v weaker = merged_within 64 v weaker
 
 abbrev pub with_weaker : MetaEntries → Text × Value → MetaEntries
 with_weaker so_far e =

@@ -70,6 +70,7 @@ fn defining_by_class(said: &[SaidAt]) -> Option<Specifier>
 }
 
 /// The strongest `def` or `class` among the sites to which no class arc leads, else among the others, else `over`.
+#[tactic(auto, unfolding(crate::specs::Folding::specifier_on))]
 pub fn specifier_of(said: &[SaidAt]) -> Specifier
     ensures { result ≡ specifier_on said.now }
 {
@@ -83,6 +84,7 @@ pub fn specifier_of(said: &[SaidAt]) -> Specifier
 }
 
 /// The strongest type that is given.
+#[tactic(auto, unfolding(crate::specs::Folding::type_on))]
 pub fn type_of<'w>(said: &[SaidAt<'w, '_>]) -> Option<&'w Text>
     ensures { option_copied result ≡ type_on said.now }
 {
@@ -95,6 +97,7 @@ pub fn type_of<'w>(said: &[SaidAt<'w, '_>]) -> Option<&'w Text>
 }
 
 /// The metadata of all opinions as one.
+#[tactic(auto, unfolding(crate::specs::Folding::meta_on))]
 pub fn meta_of(alloc: Global, said: &[SaidAt]) -> Result<Meta, AllocError>
     ensures { IfOk result (λ meta. meta ≡ meta_on said.now) }
 {

@@ -1,7 +1,7 @@
 //! The names of children and properties, from the weakest to the strongest opinion.
 ghost use Rattle.std.specs.Prelude.{◌≡◌, ◌++◌, [], ◌∷◌, map, filter, IfOk, OnOk};
 ghost use Rattle.std.specs.List.{list_all};
-ghost use Rattle.composition.specs.Fields.{naming_edit};
+ghost use Rattle.composition.specs.Fields.{naming_edit, children_naming};
 ghost use Rattle.composition.specs.Names.{is_letter, is_letter_or_digit, is_ascii_identifier, is_name};
 ghost use Rattle.layer_set.specs.LookUps.{look_ups};
 ghost use Rattle.prim_opinions.specs.Gathering.{said_on};
@@ -15,7 +15,7 @@ use plain_data::{Items, Text, copy};
 use prim_opinions::{SaidAt, opinions_on};
 use prim_view::Site;
 use spec_parts::BodyPart;
-use spec_properties::Properties;
+use spec_properties::Property;
 use std::alloc::{AllocError, Global};
 use usd_names::is_identifier;
 
@@ -72,11 +72,11 @@ fn prim_names(alloc: Global, names: &[Text]) -> Result<Items<Text>, AllocError>
 }
 
 /// The names of properties.
-fn names_among(alloc: Global, properties: &Properties) -> Result<Items<Text>, AllocError>
+fn names_among(alloc: Global, properties: &[Property]) -> Result<Items<Text>, AllocError>
     ensures { IfOk result (λ names. names ≡ property_names properties.now) }
 {
     let mut names = Items::new(alloc);
-    for property in properties.as_slice() {
+    for property in properties {
         names.push(copy(property.name())?)?;
     }
     Ok(names)
@@ -100,19 +100,30 @@ fn naming_edit(
     })
 }
 
+/// Names of children with their reorder, as an edit; what is no name of a prim is passed over.
+pub fn child_naming(
+    alloc: Global,
+    names: &[Text],
+    order: &Items<Text>,
+) -> Result<ListOp<Text>, AllocError>
+    ensures { IfOk result (λ op. op ≡ naming_edit (children_naming names.now order.now)) }
+{
+    let names = prim_names(alloc, names)?;
+    naming_edit(alloc, names, order)
+}
+
 /// What a body says of names of children, as an edit.
 fn children_edit(alloc: Global, body: &BodyPart) -> Result<ListOp<Text>, AllocError>
     ensures { IfOk result (λ op. op ≡ children_edit body.now) }
 {
-    let names = prim_names(alloc, body.children.as_slice())?;
-    naming_edit(alloc, names, &body.child_order)
+    child_naming(alloc, body.children.as_slice(), &body.child_order)
 }
 
 /// What a body says of names of properties, as an edit.
 fn properties_edit(alloc: Global, body: &BodyPart) -> Result<ListOp<Text>, AllocError>
     ensures { IfOk result (λ op. op ≡ properties_edit body.now) }
 {
-    let names = names_among(alloc, &body.properties)?;
+    let names = names_among(alloc, body.properties.as_slice())?;
     naming_edit(alloc, names, &body.property_order)
 }
 

@@ -1,25 +1,34 @@
 //! Lists of strings as their opinions make them.
-ghost use Rattle.std.specs.Prelude.{◌≡◌, ◌++◌, [], ◌∷◌, map, filter, IfOk, OnOk};
+ghost use Rattle.std.specs.Prelude.{◌≡◌, ◌++◌, [], ◌∷◌, map, filter, reverse, IfOk, OnOk};
+ghost use Rattle.std.specs.Str.{bytes_eq};
+ghost use Rattle.list_ops.specs.ListEdits.{folded, firsts};
 ghost use Rattle.composition.specs.Opinions.{has_edits, is_opinion};
-ghost use Rattle.field_resolve.specs.Folding.{folded_texts, texts_once, if_any, schemas_on, clips_on};
+ghost use Rattle.field_resolve.specs.Folding.{folded_texts, texts_once, has_items, has_any, if_any, schemas_on, clips_on};
 
 use list_ops::{ListOp, fold_ordered};
 use plain_data::{Items, Text, copy};
 use prim_opinions::SaidAt;
 use std::alloc::{AllocError, Global};
 
+/// What opinions make of the empty list, the strongest given first.
+fn strongest_folded(alloc: Global, edits: Vec<ListOp<Text>>) -> Result<Items<Text>, AllocError>
+    ensures { IfOk result (λ list. list ≡ folded bytes_eq (reverse edits.items)) }
+{
+    let mut edits = edits;
+    edits.reverse();
+    Ok(Items::from_vec(fold_ordered(alloc, edits.as_slice())?))
+}
+
 /// What edits, given from the strongest to the weakest, make of the empty list.
 pub fn folded_texts(alloc: Global, edits: Vec<ListOp<Text>>) -> Result<Items<Text>, AllocError>
     ensures { IfOk result (λ list. list ≡ folded_texts edits.items) }
 {
-    let mut edits = edits;
-    edits.reverse();
-    Ok(Items::from_vec(fold_ordered(alloc, &edits)?))
+    strongest_folded(alloc, edits)
 }
 
-/// Each text once.
-pub fn texts_once(alloc: Global, texts: Items<Text>) -> Result<Items<Text>, AllocError>
-    ensures { IfOk result (λ once. once ≡ texts_once texts) }
+/// The first of each text.
+fn firsts(alloc: Global, texts: Items<Text>) -> Result<Items<Text>, AllocError>
+    ensures { IfOk result (λ once. once ≡ firsts bytes_eq texts) }
 {
     let mut op = ListOp::new(alloc);
     op.explicit = Some(texts);
@@ -28,15 +37,39 @@ pub fn texts_once(alloc: Global, texts: Items<Text>) -> Result<Items<Text>, Allo
     Ok(Items::from_vec(once))
 }
 
+/// Each text once.
+pub fn texts_once(alloc: Global, texts: Items<Text>) -> Result<Items<Text>, AllocError>
+    ensures { IfOk result (λ once. once ≡ texts_once texts) }
+{
+    firsts(alloc, texts)
+}
+
+/// Whether there is an item.
+fn has_items(items: &[Text]) -> bool
+    ensures { result ≡ has_items items.now }
+{
+    match items.first() {
+        Some(_) => true,
+        None => false,
+    }
+}
+
+/// Whether one of the lists of edits has an item.
+fn has_any(op: &ListOp<Text>) -> bool
+    ensures { result ≡ has_any op.now }
+{
+    has_items(op.deleted.as_slice())
+        || has_items(op.added.as_slice())
+        || has_items(op.prepended.as_slice())
+        || has_items(op.appended.as_slice())
+        || has_items(op.ordered.as_slice())
+}
+
 /// Whether there is some edit.
 fn has_edits(op: &ListOp<Text>) -> bool
     ensures { result ≡ has_edits op.now }
 {
-    !(op.deleted.is_empty()
-        && op.added.is_empty()
-        && op.prepended.is_empty()
-        && op.appended.is_empty()
-        && op.ordered.is_empty())
+    has_any(op)
 }
 
 /// Whether it is an opinion on the list: an explicit list, also an empty one, or some edit.

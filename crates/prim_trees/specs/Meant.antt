@@ -1,11 +1,11 @@
 -- Which tree of composition's definitions a tree stands for.
-use Rattle.std.specs.Prelude.{Bool, true, false, List, [], ◌∷◌}
+use Rattle.std.specs.Prelude.{Bool, true, false, List, [], ◌∷◌, map}
 use Rattle.prim_nodes.specs.declared.arcs.Branch.{Branch}
 use Rattle.composition.specs.Trees as defined
 use Rattle.composition.specs.Trees.{Trees, node, none, cut, child}
 use Rattle.prim_trees.specs.declared.tree.Tree.{Tree, fold-Tree}
-use Rattle.prim_trees.specs.declared.tree.Child.{Child}
-use Rattle.prim_trees.specs.declared.tree.Tree.TheOpen.{Tree-F, Child-F}
+use Rattle.prim_trees.specs.declared.tree.Child.{Child, out-Child}
+use Rattle.prim_trees.specs.declared.tree.Child.TheOpen.{Tree-F, Child-F}
 
 -- an arc with what it leads to
 abbrev pub Led : Type 0
@@ -16,11 +16,18 @@ all_of [] false = none
 all_of [] true = cut
 all_of (c ∷ cs) is_cut = child c.0 c.1 (all_of cs is_cut)
 
-abbrev pub tree_step : Tree-F defined.Tree Led → defined.Tree
+abbrev pub tree_step : Tree-F Led defined.Tree → defined.Tree
 tree_step t = node t.node t.here (all_of t.own t.own_cut) (all_of t.lifted t.lifted_cut)
 
-abbrev pub child_step : Child-F defined.Tree Led → Led
+abbrev pub child_step : Child-F Led defined.Tree → Led
 child_step c = (c.branch, c.tree)
 
 abbrev pub meant : Tree → defined.Tree
-meant = fold-Tree defined.Tree Led tree_step child_step
+meant = fold-Tree Led defined.Tree child_step tree_step
+
+abbrev pub led : Child → Led
+led c = ((out-Child c).branch, meant (out-Child c).tree)
+
+-- the children of a node, and whether there was no room for further ones
+abbrev pub trees_of : List Child → Bool → Trees
+trees_of cs is_cut = all_of (map led cs) is_cut

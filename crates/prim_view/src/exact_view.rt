@@ -3,8 +3,7 @@ ghost use Rattle.std.specs.Prelude.{◌≡◌, ◌↔◌, IsTrue};
 
 use crate::site::Site;
 use crate::view::{PrimView, PropertyView};
-use plain_data::{ExactClone, ExactEq, copy, same};
-use variant_select::Choices;
+use plain_data::{ExactClone, ExactEq, Text, copy, same};
 use std::alloc::AllocError;
 
 impl Clone for Site {
@@ -264,15 +263,21 @@ fn same_view(a: &PrimView, b: &PrimView) -> bool
         && same(&a.clip_sets, &b.clip_sets)
         && same(&a.properties, &b.properties)
         && same(&a.children, &b.children)
-        && same_choices(&a.choices, &b.choices)
+        && same_choices(a.choices.as_slice(), b.choices.as_slice())
         && same(&a.sites, &b.sites)
         && same(&a.faults, &b.faults)
         && a.since == b.since
 }
 
 /// Whether the same variants are chosen, in the same order.
-fn same_choices(a: &Choices, b: &Choices) -> bool
+fn same_choices(a: &[(Text, Text)], b: &[(Text, Text)]) -> bool
     ensures { IsTrue result ↔ (a.now ≡ b.now) }
 {
-    a == b
+    match (a.split_first(), b.split_first()) {
+        (None, None) => true,
+        (Some((x, xs)), Some((y, ys))) => {
+            same(&x.0, &y.0) && same(&x.1, &y.1) && same_choices(xs, ys)
+        }
+        _ => false,
+    }
 }

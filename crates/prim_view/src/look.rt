@@ -18,16 +18,23 @@ impl PropertyView {
     }
 }
 
+/// The first property of this name.
+fn property_named<'v>(properties: &'v [PropertyView], name: &str) -> Option<&'v PropertyView>
+    ensures { option_copied result ≡ property_of name.now properties.now }
+{
+    for property in properties {
+        if property.name().as_str() == name {
+            return Some(property);
+        }
+    }
+    None
+}
+
 impl PrimView {
     /// The property of this name.
     pub fn property(&self, name: &str) -> Option<&PropertyView>
         ensures { option_copied result ≡ property_of name.now self.now.properties }
     {
-        for property in self.properties.as_slice() {
-            if property.name().as_str() == name {
-                return Some(property);
-            }
-        }
-        None
+        property_named(self.properties.as_slice(), name)
     }
 }

@@ -1,0 +1,11 @@
+pub mod Asking
+pub mod Authoring
+pub mod DefaultPrims
+pub mod Given
+pub mod Kept
+pub mod NoTargets
+pub mod Noting
+pub mod Offsets
+pub mod Outcomes
+pub mod StackLaws
+pub mod Targets

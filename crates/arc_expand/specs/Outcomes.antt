@@ -1,0 +1,61 @@
+-- What becomes of an item.
+use Rattle.std.specs.Prelude.{◌≡◌, nat_le, Bool, true, false, not, List, ◌∷◌, length, Option, Some, None}
+use Rattle.std.specs.List.{list_any}
+use Rattle.std.specs.Option.{ForSome}
+use Rattle.sdf_values.specs.Scales.{Offset, composed}
+use Rattle.composition.specs.Texts.{Text}
+use Rattle.composition.specs.Paths.{Path, limits, read_path}
+use Rattle.composition.specs.World.{World, LayerHead, Heading, headed, no_layer, refused, StackName, first_layer, in_range, stack_of, is_absolute, default_target}
+use Rattle.composition.specs.Arcs.{Source, own, named, unanchored, Item, Outcome, gives_no_arc, missing_layer, broken_layer, bad_target, outcome_at}
+
+-- the path that a text is read as; no path has a longer text
+unfoldable pub path_of : Text → Option Path
+path_of text = elim (nat_le (length text) 4096) [ true ↦ read_path text | false ↦ None ]
+
+-- the path that a default prim's text names, from the root down or from `/`
+unfoldable pub target_of : Text → Option Path
+target_of text = elim (is_absolute text) [ true ↦ path_of text | false ↦ path_of (47 ∷ text) ]
+
+abbrev pub default_of : Option Text → Option Path
+default_of (Some text) = target_of text
+default_of None = None
+
+-- the path, or else what the layer's default prim names
+abbrev pub target_in : Option Path → LayerHead → Option Path
+target_in (Some path) h = Some path
+target_in None h = default_of h.default_prim
+
+unfoldable pub outcome_to : World → StackName → Offset → Option Path → Outcome
+outcome_to w s o target = outcome_at limits w s o target
+
+-- the item's layer holds a layer, nothing, or one that was refused
+abbrev pub outcome_within : World → StackName → Item → Heading → Outcome
+outcome_within w s i no_layer = gives_no_arc missing_layer
+outcome_within w s i (refused r) = gives_no_arc (broken_layer r)
+outcome_within w s i (headed h) = outcome_to w s i.offset (target_in i.path h)
+
+abbrev pub outcome_by : World → StackName → Item → Source → Outcome
+outcome_by w s i own = outcome_within w s i (w.heading (first_layer w s))
+outcome_by w s i (named name) = outcome_within w (stack_of w name) i (w.heading name)
+outcome_by w s i (unanchored asset) = gives_no_arc bad_target
+
+unfoldable pub outcome_of : World → StackName → Item → Outcome
+outcome_of w s i = outcome_by w s i i.source
+
+-- the offset with one of the layers of a stack leaves the range
+abbrev pub leaves_with : List (Text × Offset) → Offset → Bool
+leaves_with layers o = list_any (λ e. not (in_range (composed e.1 o))) layers
+
+-- ---- worlds whose default prims name paths
+
+abbrev pub IsDefaultPrim : Text → Type 0
+IsDefaultPrim text = default_target text ≡ target_of text
+
+abbrev pub HasTarget : Heading → Type 0
+HasTarget (headed h) = ForSome h.default_prim IsDefaultPrim
+HasTarget no_layer = Unit {0}
+HasTarget (refused r) = Unit {0}
+
+-- what a layer has as its default prim is the name of a root prim, or the text of a path
+pub record HasTargets (w : World) : Type 0 where
+  pub each : (name : Text) → HasTarget (w.heading name)

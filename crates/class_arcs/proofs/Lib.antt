@@ -1,0 +1,4 @@
+pub mod Above
+pub mod Fitting
+pub mod Listing
+pub mod Sameness

@@ -1,0 +1,12 @@
+//! Class lists: which classes a node of a prim has, its own and those that what it leads to hands up.
+#![tactic(auto)]
+
+mod class;
+mod lift;
+mod lists;
+#[cfg(test)]
+mod tests;
+
+pub use class::{Class, is_class_of, same_kind, same_path};
+pub use lift::path_above;
+pub use lists::{class_list, class_list_from};

@@ -1,0 +1,4 @@
+pub mod Edits
+pub mod Folded
+pub mod Overlaid
+pub mod Texts

@@ -1,0 +1,7 @@
+use Rattle.std.proofs.Common.{◌≡◌, drop}
+use Rattle.std.specs.List.{list_all}
+use Rattle.composition.specs.Names.{is_letter_or_digit}
+use Rattle.field_resolve.proofs.names.are_letters_or_digits.Given as goal
+
+abbrev pub invariant-loop-byte : goal.invariant-loop-byte
+invariant-loop-byte l = list_all is_letter_or_digit (drop l.byte-index l.bytes) ≡ list_all is_letter_or_digit l.bytes

@@ -1,0 +1,6 @@
+use Rattle.std.proofs.Common.{◌≡◌, map, filter, take}
+use Rattle.composition.specs.Opinions.{is_opinion}
+use Rattle.field_resolve.proofs.strings.clip_opinions.Given as goal
+
+abbrev pub invariant-loop-opinion : goal.invariant-loop-opinion
+invariant-loop-opinion l = l.opinions.items ≡ filter is_opinion (map (λ s. s.spec.body.clip_sets) (take l.opinion-index l.said))

@@ -1,0 +1,13 @@
+pub mod Apart
+pub mod Closing
+pub mod Fetching
+pub mod Known
+pub mod Layers
+pub mod Levels
+pub mod Loop
+pub mod Meeting
+pub mod Noting
+pub mod Reading
+pub mod Readings
+pub mod Turning
+pub mod Turns

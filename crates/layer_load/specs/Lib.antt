@@ -1,0 +1,7 @@
+pub mod Answers
+pub mod Assets
+pub mod Closure
+pub mod Drafts
+pub mod Files
+pub mod Laws
+pub mod Opening

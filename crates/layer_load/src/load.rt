@@ -1,0 +1,75 @@
+// A world from its files.
+ghost use Rattle.std.specs.Prelude.{◌≡◌, ◌≤◌, Err};
+ghost use Rattle.io_edges.specs.Causes.{Rose};
+ghost use Rattle.layer_load.specs.Opening.{most_names};
+ghost use Rattle.layer_load.specs.Answers.{Opens};
+
+use crate::fault::LoadFault;
+use crate::opening::{begin, finished, finished_within, name_at, take_turn};
+use asset_names::AssetId;
+use io_edges::LayerFiles;
+use layer_set::World;
+use std::alloc::Global;
+
+/// The most names of layers that have their turn when a world is opened.
+pub const MAX_NAMES: usize = 4096;
+
+/// A world that was opened.
+#[derive(Drop)]
+pub struct Loaded {
+    /// What stands at each name that was met.
+    pub world: World,
+    /// How many bytes were fetched.
+    pub bytes: u64,
+}
+
+// Opens a world in which so many names may have their turn.
+fn load_within<F: LayerFiles>(
+    alloc: Global,
+    files: &mut F,
+    root: AssetId,
+    session: Option<AssetId>,
+    most: usize,
+) -> Result<Loaded, LoadFault>
+    ensures opens { Opens (F.files files.old) most root session result }
+    ensures same { F.files files.new ≡ F.files files.old }
+    ensures later { F.faults files.old ≤ F.faults files.new }
+    ensures cause { result ≡ Err LoadFault.ReadFault → Rose (F.faults files.old) (F.faults files.new) }
+{
+    let mut draft = begin(alloc, root, session)?;
+    for place in 0..most {
+        let name = match name_at(&draft, place)? {
+            Some(name) => name,
+            None => return Ok(finished(draft)),
+        };
+        match take_turn(alloc, files, &mut draft, &name) {
+            Ok(()) => {}
+            Err(fault) => return Err(fault),
+        }
+    }
+    finished_within(draft, most)
+}
+
+/// The world of a root and a session layer: what stands at these two names, and then, layer by layer, at the names of what the layers
+/// name, each once, without load rules; and how many bytes were fetched.
+///
+/// # Errors
+///
+/// `ReadFault` where a file could not be read. `RootRefused` where the root or the session layer is not there or is refused.
+/// `WorldTooLarge` where more than `MAX_NAMES` names have a turn, or more bytes are fetched in all than `MAX_FETCHED`. `NoMemory` where
+/// memory ran out. What is met first is answered.
+pub fn load_world<F: LayerFiles>(
+    alloc: Global,
+    files: &mut F,
+    root: AssetId,
+    session: Option<AssetId>,
+) -> Result<Loaded, LoadFault>
+    // What is answered is what is defined by the files, which are those that are told.
+    ensures opens { Opens (F.files files.old) most_names root session result }
+    ensures same { F.files files.new ≡ F.files files.old }
+    ensures later { F.faults files.old ≤ F.faults files.new }
+    // A fault is told only where one happened.
+    ensures cause { result ≡ Err LoadFault.ReadFault → Rose (F.faults files.old) (F.faults files.new) }
+{
+    load_within(alloc, files, root, session, MAX_NAMES)
+}

@@ -1,0 +1,7 @@
+pub mod Choosing
+pub mod Counting
+pub mod Naming
+pub mod Parts
+pub mod Placing
+pub mod Ranking
+pub mod Telling

@@ -1,0 +1,6 @@
+pub mod Entries
+pub mod Groups
+pub mod Places
+pub mod Ranks
+pub mod Said
+pub mod Sizes

@@ -1,0 +1,167 @@
+// The sites of a tree: which of several places of one site is kept.
+ghost use Rattle.std.specs.Prelude.{◌≡◌, ◌++◌, [], ◌∷◌, IfOk, OnOk, map, filter, nat_le, nat_lt, not};
+ghost use Rattle.std.specs.List.{list_any};
+ghost use Rattle.composition.specs.Paths.{limits};
+ghost use Rattle.composition.specs.Faults.{site_of};
+ghost use Rattle.composition.specs.Opinions.{is_by_class, is_class_map};
+ghost use Rattle.composition.specs.Strength.{sites, best_places, same_place, not_among};
+ghost use Rattle.prim_trees.specs.Meant.{meant};
+ghost use Rattle.site_order.specs.Entries.{entry, entries};
+ghost use Rattle.site_order.specs.Places.{trees_shown, beats, beats_later};
+
+use crate::order::{strong_of, weak_of};
+use crate::ranks::{Ranked, same_site};
+use class_arcs::same_kind;
+use path_maps::{ArcKind, ArcMap};
+use plain_data::{Items, copy};
+use prim_trees::Tree;
+use prim_view::Site;
+use std::alloc::{AllocError, Global};
+
+/// The sites of a tree that is not overgrown, from strong to weak.
+///
+/// A site that is reached twice keeps one place: one of the strong part beats those of the weak part, of several in one part one of
+/// least rank is kept, and of those the first. The time grows with the square of the number of nodes.
+pub fn sites(alloc: Global, tree: &Tree) -> Result<Items<Site>, AllocError>
+    ensures { IfOk result (λ told. told ≡ map site_of (sites limits (meant tree.now))) }
+{
+    let kept = places(alloc, tree)?;
+    let mut told = Items::new(alloc);
+    for node in kept.as_slice() {
+        told.push(site_of(node)?)?;
+    }
+    Ok(told)
+}
+
+/// The nodes at the places that the sites of the tree keep.
+pub fn places<'t>(alloc: Global, tree: &'t Tree) -> Result<Vec<&'t Tree>, AllocError>
+    ensures { IfOk result (λ kept. trees_shown kept.items ≡ sites limits (meant tree.now)) }
+{
+    let strong = strong_of(alloc, tree)?;
+    let weak = weak_of(alloc, tree)?;
+    let weaker = not_among(alloc, strong.as_slice(), weak.as_slice())?;
+    let mut kept = Vec::new(alloc);
+    push_best(&mut kept, strong.as_slice())?;
+    push_best(&mut kept, weaker.as_slice())?;
+    Ok(kept)
+}
+
+/// Appends the nodes at the places that are kept of a part.
+#[tactic(auto, using(crate::proofs::Placing::kept_is))]
+fn push_best<'t>(out: &mut Vec<&'t Tree>, part: &[Ranked<'t>]) -> Result<(), AllocError>
+    ensures { OnOk result (trees_shown out.new.items ≡ trees_shown out.old.items ++ map (λ e. e.0) (best_places limits [] (entries part.now))) }
+{
+    for (i, place) in part.iter().enumerate() {
+        if !is_beaten_before(&part[..i], place) && !is_beaten_later(&part[i + 1..], place) {
+            out.push(place.tree)?;
+        }
+    }
+    Ok(())
+}
+
+/// Whether an earlier place of the same site is of no greater rank.
+fn is_beaten_before(earlier: &[Ranked], place: &Ranked) -> bool
+    ensures { result ≡ list_any (beats (entry place.now)) (entries earlier.now) }
+{
+    for other in earlier {
+        if other.rank <= place.rank && same_place(other.tree, place.tree) {
+            return true;
+        }
+    }
+    false
+}
+
+/// Whether a later place of the same site is of lesser rank.
+fn is_beaten_later(later: &[Ranked], place: &Ranked) -> bool
+    ensures { result ≡ list_any (beats_later (entry place.now)) (entries later.now) }
+{
+    for other in later {
+        if other.rank < place.rank && same_place(other.tree, place.tree) {
+            return true;
+        }
+    }
+    false
+}
+
+/// The weak places of sites that have no strong one.
+fn not_among<'t>(
+    alloc: Global,
+    strong: &[Ranked],
+    weak: &[Ranked<'t>],
+) -> Result<Vec<Ranked<'t>>, AllocError>
+    ensures { IfOk result (λ left. entries left.items ≡ filter (not_among limits (entries strong.now)) (entries weak.now)) }
+{
+    let mut left = Vec::new(alloc);
+    for place in weak {
+        if is_alone(strong, place) {
+            push_place(&mut left, place)?;
+        }
+    }
+    Ok(left)
+}
+
+fn push_place<'t>(out: &mut Vec<Ranked<'t>>, place: &Ranked<'t>) -> Result<(), AllocError>
+    ensures { OnOk result (entries out.new.items ≡ entries out.old.items ++ entry place.now ∷ []) }
+{
+    out.push(*place)?;
+    Ok(())
+}
+
+/// Whether no place is of the same site.
+fn is_alone(places: &[Ranked], place: &Ranked) -> bool
+    ensures { result ≡ not_among limits (entries places.now) (entry place.now) }
+{
+    !has_place(places, place)
+}
+
+fn has_place(places: &[Ranked], place: &Ranked) -> bool
+    ensures { result ≡ list_any (λ e. same_place e.0 (entry place.now).0) (entries places.now) }
+{
+    for other in places {
+        if same_place(other.tree, place.tree) {
+            return true;
+        }
+    }
+    false
+}
+
+/// Whether the nodes of the two trees are one site.
+#[tactic(auto, using(crate::proofs::Placing::same_place_is))]
+fn same_place(a: &Tree, b: &Tree) -> bool
+    ensures { result ≡ same_place (meant a.now) (meant b.now) }
+{
+    same_site(&a.node, &b.node)
+}
+
+/// The site of a tree's node.
+#[tactic(auto, using(crate::proofs::Placing::site_is))]
+fn site_of(tree: &Tree) -> Result<Site, AllocError>
+    ensures { IfOk result (λ site. site ≡ site_of (meant tree.now)) }
+{
+    Ok(Site {
+        stack: copy(&tree.node.stack)?,
+        path: copy(&tree.node.path)?,
+        maps: copy(&tree.node.maps)?,
+        offset: tree.node.offset,
+        by_class: is_by_class(tree.node.maps.as_slice()),
+        has_spec: tree.node.path.is_root() || tree.here.has_spec,
+    })
+}
+
+/// Whether one of the arcs is to a class.
+fn is_by_class(maps: &[ArcMap]) -> bool
+    ensures { result ≡ is_by_class maps.now }
+{
+    for map in maps {
+        if is_class_map(map) {
+            return true;
+        }
+    }
+    false
+}
+
+fn is_class_map(map: &ArcMap) -> bool
+    ensures { result ≡ is_class_map map.now }
+{
+    same_kind(ArcKind::Inherits, map.kind) || same_kind(ArcKind::Specializes, map.kind)
+}

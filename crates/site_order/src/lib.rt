@@ -1,0 +1,19 @@
+//! What is told of the finished tree of a prim: its nodes from strong to weak, its sites, the variants that they choose, and the
+//! faults of its arcs.
+#![tactic(auto)]
+
+mod deciding;
+mod faults;
+mod keeping;
+mod order;
+mod ranks;
+mod sizes;
+#[cfg(test)]
+mod tests;
+
+pub use deciding::decided;
+pub use faults::arc_faults;
+pub use keeping::{places, sites};
+pub use order::{listing, strong_of, weak_of};
+pub use ranks::Ranked;
+pub use sizes::{has_spec_in, is_overgrown, is_overgrown_on_the_way, size};

@@ -1,0 +1,11 @@
+//! Published versions of a stage, and views that look into one.
+#![tactic(auto)]
+
+mod edition;
+mod places;
+#[cfg(test)]
+mod tests;
+mod view;
+
+pub use edition::Edition;
+pub use view::View;

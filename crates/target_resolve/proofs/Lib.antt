@@ -1,0 +1,5 @@
+pub mod Fitting
+pub mod Folded
+pub mod Gathered
+pub mod Moved
+pub mod Opinions

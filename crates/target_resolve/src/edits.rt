@@ -1,0 +1,153 @@
+// The edits of an opinion on the stage.
+ghost use Rattle.std.specs.Prelude.{◌≡◌, ◌++◌, filter, IfOk, OnOk};
+ghost use Rattle.composition.specs.Arcs.{is_empty};
+ghost use Rattle.composition.specs.Opinions.{has_edits, is_opinion};
+ghost use Rattle.composition.specs.Texts.{both};
+ghost use Rattle.target_resolve.specs.Translating.{is_lost, op_on_stage, folded_paths, if_any, tried};
+
+use crate::translate::{Moved, translated_paths};
+use list_ops::{ListOp, fold_ordered};
+use path_maps::ArcMap;
+use plain_data::{Items, copy};
+use sdf_paths::Path;
+use std::alloc::{AllocError, Global};
+
+/// Edits with what has a translation, and the items that have none, deletes aside.
+#[derive(Drop)]
+pub struct Edited {
+    pub op: ListOp<Path>,
+    pub lost: Items<Path>,
+}
+
+/// Whether `before` holds, and a list is empty.
+fn and_empty(before: bool, items: &Items<Path>) -> bool
+    ensures { result ≡ both before (is_empty items.now) }
+{
+    before && items.len() == 0
+}
+
+/// Whether there is some edit.
+fn has_edits(op: &ListOp<Path>) -> bool
+    ensures { result ≡ has_edits op.now }
+{
+    let deleted = and_empty(true, &op.deleted);
+    let added = and_empty(deleted, &op.added);
+    let prepended = and_empty(added, &op.prepended);
+    let appended = and_empty(prepended, &op.appended);
+    let none = and_empty(appended, &op.ordered);
+    !none
+}
+
+/// Whether it is an opinion on the list: an explicit list, also an empty one, or some edit.
+pub fn is_opinion(op: &ListOp<Path>) -> bool
+    ensures { result ≡ is_opinion op.now }
+{
+    match &op.explicit {
+        Some(_) => true,
+        None => has_edits(op),
+    }
+}
+
+/// Appends the items of another list.
+fn append(out: &mut Items<Path>, more: Items<Path>) -> Result<(), AllocError>
+    ensures { OnOk result (out.new ≡ out.old ++ more) }
+{
+    for item in more.as_slice() {
+        out.push(copy(item)?)?;
+    }
+    Ok(())
+}
+
+/// The edits that are not explicit, on the stage.
+fn edits_on_stage(alloc: Global, maps: &[ArcMap], op: &ListOp<Path>) -> Result<Edited, AllocError>
+    ensures edits { IfOk result (λ e. e.op ≡ record (op_on_stage maps.now op.now) { explicit = None }) }
+    ensures lost { IfOk result (λ e. e.lost ≡ filter (is_lost maps.now) (op.now.added ++ op.now.prepended ++ op.now.appended ++ op.now.ordered)) }
+{
+    let deleted = translated_paths(alloc, maps, op.deleted.as_slice())?;
+    let added = translated_paths(alloc, maps, op.added.as_slice())?;
+    let prepended = translated_paths(alloc, maps, op.prepended.as_slice())?;
+    let appended = translated_paths(alloc, maps, op.appended.as_slice())?;
+    let ordered = translated_paths(alloc, maps, op.ordered.as_slice())?;
+    let mut lost = added.lost;
+    append(&mut lost, prepended.lost)?;
+    append(&mut lost, appended.lost)?;
+    append(&mut lost, ordered.lost)?;
+    let op = ListOp {
+        explicit: None,
+        deleted: deleted.kept,
+        added: added.kept,
+        prepended: prepended.kept,
+        appended: appended.kept,
+        ordered: ordered.kept,
+    };
+    Ok(Edited { op, lost })
+}
+
+/// The edits with an explicit list.
+fn with_explicit(edits: Edited, items: Moved) -> Edited
+    ensures edits { result.op ≡ record edits.op { explicit = Some items.kept } }
+    ensures lost { result.lost ≡ items.lost }
+{
+    let Edited { op, lost: _ } = edits;
+    let ListOp {
+        explicit: _,
+        deleted,
+        added,
+        prepended,
+        appended,
+        ordered,
+    } = op;
+    let op = ListOp {
+        explicit: Some(items.kept),
+        deleted,
+        added,
+        prepended,
+        appended,
+        ordered,
+    };
+    Edited {
+        op,
+        lost: items.lost,
+    }
+}
+
+/// The edits of an opinion on the stage.
+pub fn translated_edits(
+    alloc: Global,
+    maps: &[ArcMap],
+    op: &ListOp<Path>,
+) -> Result<Edited, AllocError>
+    ensures edits { IfOk result (λ e. e.op ≡ op_on_stage maps.now op.now) }
+    ensures lost { IfOk result (λ e. e.lost ≡ filter (is_lost maps.now) (tried op.now)) }
+{
+    let edits = edits_on_stage(alloc, maps, op)?;
+    match &op.explicit {
+        None => Ok(edits),
+        Some(items) => {
+            let items = translated_paths(alloc, maps, items.as_slice())?;
+            Ok(with_explicit(edits, items))
+        }
+    }
+}
+
+/// What opinions, given from the strongest to the weakest, make together; none where there is no opinion.
+pub fn if_any(
+    alloc: Global,
+    opinions: Items<ListOp<Path>>,
+) -> Result<Option<Items<Path>>, AllocError>
+    ensures { IfOk result (λ list. list ≡ if_any opinions) }
+{
+    if opinions.is_empty() {
+        return Ok(None);
+    }
+    Ok(Some(folded(alloc, opinions)?))
+}
+
+/// What opinions, given from the strongest to the weakest, make of the empty list.
+fn folded(alloc: Global, opinions: Items<ListOp<Path>>) -> Result<Items<Path>, AllocError>
+    ensures { IfOk result (λ list. list ≡ folded_paths opinions) }
+{
+    let mut opinions = opinions.into_vec();
+    opinions.reverse();
+    Ok(Items::from_vec(fold_ordered(alloc, &opinions)?))
+}

@@ -1,0 +1,116 @@
+ghost use Rattle.std.specs.Prelude.{◌≡◌, ◌++◌, IfOk, OnOk};
+ghost use Rattle.layer_set.specs.LookUps.{look_ups};
+ghost use Rattle.prim_opinions.specs.Counting.{counted};
+ghost use Rattle.prim_opinions.specs.Gathering.{said_on};
+ghost use Rattle.value_resolve.specs.Resolving.{fault_if, default_by, samples_by, faults_by};
+
+use crate::decision::Decision;
+use crate::on_stage::given;
+use layer_set::World;
+use plain_data::{Items, Text, copy};
+use prim_opinions::{PropertyAt, SaidAt, opinions_on, property_path, specs_of};
+use prim_view::{PrimFault, Site, TimeFault};
+use sdf_values::Value;
+use spec_properties::Samples;
+use std::alloc::{AllocError, Global};
+
+/// The values of an attribute on the stage.
+#[derive(Debug, Drop)]
+pub struct AttrValue {
+    /// The default that decides; a block is one.
+    pub default: Option<Value>,
+    /// The samples that decide, in the times of the stage.
+    pub samples: Samples,
+    /// `TimeOutside`, for each opinion of which something leaves the range of times.
+    pub faults: Items<PrimFault>,
+}
+
+/// Appends the fault of an opinion, if something of it is left out.
+fn push_fault(
+    alloc: Global,
+    faults: &mut Items<PrimFault>,
+    name: &Text,
+    said: &SaidAt<'_, '_>,
+    left_out: bool,
+) -> Result<(), AllocError>
+    ensures { OnOk result (faults.new ≡ faults.old ++ fault_if name.now said.now left_out) }
+{
+    if left_out {
+        let property = property_path(alloc, &said.site().path, name)?;
+        faults.push(PrimFault::TimeOutside(TimeFault {
+            layer: copy(said.layer())?,
+            property,
+        }))?;
+    }
+    Ok(())
+}
+
+/// The values of an attribute of this name by the specs that count. Specs that are relationships give nothing.
+///
+/// # Errors
+///
+/// Memory ran out, or a fault names a property whose path would be none.
+pub fn resolve_attr_by(
+    alloc: Global,
+    name: &Text,
+    specs: &[PropertyAt<'_, '_, '_>],
+) -> Result<AttrValue, AllocError>
+    ensures default { IfOk result (λ value. value.default ≡ default_by specs.now) }
+    ensures samples { IfOk result (λ value. value.samples ≡ samples_by specs.now) }
+    ensures faults { IfOk result (λ value. value.faults ≡ faults_by name.now specs.now) }
+{
+    let mut decision = Decision::open(alloc);
+    let mut faults = Items::new(alloc);
+    for opinion in specs {
+        let given = given(alloc, opinion)?;
+        push_fault(alloc, &mut faults, name, opinion.said(), given.left_out)?;
+        decision = decision.and_then(given);
+    }
+    let Decision {
+        default,
+        samples,
+        waits: _,
+    } = decision;
+    Ok(AttrValue {
+        default,
+        samples,
+        faults,
+    })
+}
+
+/// The values of an attribute by the opinions on its prim.
+///
+/// # Errors
+///
+/// Memory ran out, or a fault names a property whose path would be none.
+pub fn resolve_attr_of(
+    alloc: Global,
+    said: &[SaidAt<'_, '_>],
+    name: &Text,
+) -> Result<AttrValue, AllocError>
+    ensures default { IfOk result (λ value. value.default ≡ default_by (counted name.now said.now)) }
+    ensures samples { IfOk result (λ value. value.samples ≡ samples_by (counted name.now said.now)) }
+    ensures faults { IfOk result (λ value. value.faults ≡ faults_by name.now (counted name.now said.now)) }
+{
+    let specs = specs_of(alloc, name, said)?;
+    resolve_attr_by(alloc, name, specs.as_slice())
+}
+
+/// The values of an attribute of a prim with these sites, from strong to weak.
+///
+/// # Errors
+///
+/// Memory ran out, or a fault names a property whose path would be none.
+pub fn resolve_attr(
+    alloc: Global,
+    world: &World,
+    sites: &[Site],
+    name: &Text,
+) -> Result<AttrValue, AllocError>
+    ensures default { IfOk result (λ value. value.default ≡ default_by (counted name.now (said_on (look_ups world.now) sites.now))) }
+    ensures samples { IfOk result (λ value. value.samples ≡ samples_by (counted name.now (said_on (look_ups world.now) sites.now))) }
+    ensures faults { IfOk result (λ value. value.faults ≡ faults_by name.now (counted name.now (said_on (look_ups world.now) sites.now))) }
+{
+    let said = opinions_on(alloc, world, sites)?;
+    resolve_attr_of(alloc, said.as_slice(), name)
+}

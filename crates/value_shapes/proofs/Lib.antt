@@ -1,0 +1,16 @@
+pub mod Bools
+pub mod Values
+pub mod Numbers
+pub mod Elements
+pub mod Taken
+pub mod Kept
+pub mod Whole
+pub mod Answered
+pub mod Inside
+pub mod Apart
+pub mod Forms
+pub mod Found
+pub mod Completes
+pub mod Only
+pub mod TypedLevels
+pub mod TypedReading
