@@ -46,7 +46,7 @@ outcome_of w s i = outcome_by w s i i.source
 abbrev pub leaves_with : List (Text × Offset) → Offset → Bool
 leaves_with layers o = list_any (λ e. not (in_range (composed e.1 o))) layers
 
--- ---- worlds whose default prims name paths
+-- ---- default prims that are read as they are defined
 
 abbrev pub IsDefaultPrim : Text → Type 0
 IsDefaultPrim text = default_target text ≡ target_of text

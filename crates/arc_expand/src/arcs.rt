@@ -3,7 +3,6 @@ ghost use Rattle.std.specs.List.{filter_map};
 ghost use Rattle.layer_set.specs.LookUps.{look_ups};
 ghost use Rattle.arc_expand.specs.Arcs.{arc_of, fault_of, reads};
 ghost use Rattle.arc_expand.specs.Authoring.{IsStackOf, authored};
-ghost use Rattle.arc_expand.specs.Outcomes.{HasTargets};
 
 use crate::authored::authored_at;
 use crate::reads::reads;
@@ -118,9 +117,9 @@ pub fn arcs_at(
     kind: ArcKind,
 ) -> Result<ArcsHere, AllocError>
     requires { IsStackOf (look_ups world.now) stack.now }
-    ensures items { HasTargets (look_ups world.now) → IfOk result (λ here. here.items ≡ filter_map arc_of (authored (look_ups world.now) stack.now.name at.now kind)) }
-    ensures faults { HasTargets (look_ups world.now) → IfOk result (λ here. here.faults ≡ filter_map (fault_of at.now kind) (authored (look_ups world.now) stack.now.name at.now kind)) }
-    ensures reads { HasTargets (look_ups world.now) → IfOk result (λ here. here.reads ≡ reads (look_ups world.now) stack.now.layers at.now kind (authored (look_ups world.now) stack.now.name at.now kind)) }
+    ensures items { IfOk result (λ here. here.items ≡ filter_map arc_of (authored (look_ups world.now) stack.now.name at.now kind)) }
+    ensures faults { IfOk result (λ here. here.faults ≡ filter_map (fault_of at.now kind) (authored (look_ups world.now) stack.now.name at.now kind)) }
+    ensures reads { IfOk result (λ here. here.reads ≡ reads (look_ups world.now) stack.now.layers at.now kind (authored (look_ups world.now) stack.now.name at.now kind)) }
 {
     let all = authored_at(alloc, world, stack, at, kind)?;
     Ok(ArcsHere {

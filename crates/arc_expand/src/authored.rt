@@ -5,7 +5,6 @@ ghost use Rattle.composition.specs.Arcs.{selections_of};
 ghost use Rattle.std.specs.Option.{is_some};
 ghost use Rattle.std.specs.BTreeMap.{get};
 ghost use Rattle.arc_expand.specs.ItemOrder.{item_cmp};
-ghost use Rattle.arc_expand.specs.Outcomes.{HasTargets};
 ghost use Rattle.arc_expand.specs.Authoring.{IsStackOf, authored_by, authored, variant_sets, selections, has_spec};
 
 use crate::authors::authors;
@@ -80,7 +79,7 @@ pub fn authored_at(
     kind: ArcKind,
 ) -> Result<Items<Authored>, AllocError>
     requires { IsStackOf (look_ups world.now) stack.now }
-    ensures { HasTargets (look_ups world.now) → IfOk result (λ all. all ≡ authored (look_ups world.now) stack.now.name at.now kind) }
+    ensures { IfOk result (λ all. all ≡ authored (look_ups world.now) stack.now.name at.now kind) }
 {
     let opinions = opinions(alloc, world, stack, at)?;
     let edits = edits(alloc, kind, opinions.as_slice())?;

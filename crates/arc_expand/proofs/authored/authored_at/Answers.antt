@@ -11,6 +11,7 @@ use Rattle.arc_expand.specs.Authors.{author_in}
 use Rattle.arc_expand.specs.ItemOrder.{item_cmp}
 use Rattle.arc_expand.specs.Authoring.{authored_by, edits, folded_items}
 use Rattle.arc_expand.proofs.Authoring.{opinions_are, authors_there, authored_is}
+use Rattle.arc_expand.proofs.DefaultPrims.{all_have_targets}
 use Rattle.arc_expand.proofs.authored.authored_at.Goals as goal
 
 pub authored_items-requires-clause-authors : goal.authored_items-requires-clause-authors
@@ -21,7 +22,8 @@ authored_items-requires-clause-authors c =
     (authors_there c.as_slice-3.result.now (get item_cmp c.in_ok-authors.authors) c.in_ok-authors.ensures)
 
 pub returns : goal.returns
-returns c has =
+returns c =
+    let has = all_have_targets (look_ups c.args.world.now) in
     let own : c.as_slice-3.result.now ≡ edits c.args.kind c.in_ok-opinions.opinions =
     c.as_slice-3.ensures ∙ (c.in_ok-edits.ensures ∙ ap (λ (os : List Opinion). edits c.args.kind os) c.as_slice.ensures) in
     let items : c.as_slice-4.result.now ≡ folded_items (edits c.args.kind c.in_ok-opinions.opinions) =
