@@ -1,0 +1,10 @@
+pub mod Answering
+pub mod Choosing
+pub mod Cutting
+pub mod Depths
+pub mod Following
+pub mod Fronts
+pub mod Grown
+pub mod Names
+pub mod Saying
+pub mod Steps

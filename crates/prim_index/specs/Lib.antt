@@ -1,0 +1,8 @@
+pub mod Answer
+pub mod Branches
+pub mod Children
+pub mod Depths
+pub mod Following
+pub mod Reading
+pub mod Grown
+pub mod Loading

@@ -1,0 +1,95 @@
+-- What the layers say at a node, by names that stay closed in goals.
+use Rattle.std.specs.Prelude.{ℕ, Bool, true, false, List, [], ◌∷◌, ◌++◌, map, flat_map, Option, Some, None}
+use Rattle.std.specs.List.{filter_map}
+use Rattle.path_maps.specs.declared.kind.ArcKind.{ArcKind}
+use Rattle.path_maps.specs.declared.kind.ArcKind.TheVariants.{Inherits, Reference, Payload, Specializes}
+use Rattle.sdf_paths.specs.declared.element.Element.TheVariants.{Selection}
+use Rattle.prim_view.specs.declared.fault.PrimFault.{PrimFault}
+use Rattle.prim_view.specs.declared.fault.PrimFault.TheVariants.{Sublayer}
+use Rattle.composition.specs.Texts.{Text, same_text, find_at, both}
+use Rattle.composition.specs.Paths.{Path, Limits, limits, fits, levels_of}
+use Rattle.composition.specs.Names.{is_name, is_variant_name}
+use Rattle.composition.specs.World.{World}
+use Rattle.composition.specs.Stacks.{SublayerFault}
+use Rattle.composition.specs.Arcs.{Authored, Outcome}
+use Rattle.composition.specs.Nodes.{Node, Here, Tried, Chosen, Choices, here, tried_item, Frame, frame_at, author, child_path, sublayers_of}
+use Rattle.arc_expand.specs.Authoring.{authored, variant_sets, selections, has_spec}
+
+-- what the layers say at a node
+unfoldable pub said : Limits → World → Node → Here
+said l w n = here l w n
+
+-- ---- items of arcs
+
+-- the faults of the sublayers of the stack to which an arc leads
+unfoldable pub sublayers_said : World → Outcome → List SublayerFault
+sublayers_said w o = sublayers_of limits w o
+
+abbrev pub sublayer_fault : PrimFault → Option SublayerFault
+sublayer_fault (Sublayer f) = Some f
+sublayer_fault _ = None
+
+abbrev pub sublayer_faults : List PrimFault → List SublayerFault
+sublayer_faults faults = filter_map sublayer_fault faults
+
+-- what becomes of an item
+unfoldable pub tried_of : World → Node → ArcKind → ℕ → Authored → Tried
+tried_of w n k j a = tried_item limits w k n j a
+
+-- payload items are looked at only where the level is loaded
+abbrev pub looked_at : ArcKind → Frame → Bool
+looked_at Payload f = f.loaded
+looked_at _ f = true
+
+-- the items of a kind at a level of a node
+unfoldable pub tried_level : World → Node → ArcKind → ℕ → List Tried
+tried_level w n k j =
+    elim (looked_at k (frame_at n j)) [
+      | true ↦ map (tried_of w n k j) (authored w n.stack (author n j) k)
+      | false ↦ []
+    ]
+
+-- the items of a kind, level by level
+unfoldable pub tried_kind : World → Node → ArcKind → List Tried
+tried_kind w n k = flat_map (tried_level w n k) (levels_of n.path)
+
+-- ---- variants
+
+-- a variant, where the path to which it leads is within the limits
+abbrev pub chosen_if_fits : Node → ℕ → Path → Option Chosen
+chosen_if_fits n j target = elim (fits limits (child_path n j target)) [ true ↦ Some (record { level = j; target = target }) | false ↦ None ]
+
+-- the variant of a set, where there may be one of that name and its path is within the limits
+unfoldable pub variant_at : Node → ℕ → Text → Text → Option Chosen
+variant_at n j set v =
+    let target = author n j ++ Selection set v ∷ [] in
+    elim (both (is_name set) (both (is_variant_name v) (fits limits (child_path n j target)))) [
+      | true ↦ Some (record { level = j; target = target })
+      | false ↦ None
+    ]
+
+abbrev pub chosen_for : Node → ℕ → Text → Option Text → Option Chosen
+chosen_for n j set None = None
+chosen_for n j set (Some v) = variant_at n j set v
+
+-- the variants that choices decide for sets
+unfoldable pub chosen_of : Node → ℕ → Choices → List Text → List Chosen
+chosen_of n j choices sets = filter_map (λ set. chosen_for n j set (find_at same_text set choices)) sets
+
+-- the variants that a level of a node decides
+unfoldable pub chosen_level : World → Node → ℕ → List Chosen
+chosen_level w n j = chosen_of n j (frame_at n j).choices (variant_sets w n.stack (author n j))
+
+unfoldable pub chosen_all : World → Node → List Chosen
+chosen_all w n = flat_map (chosen_level w n) (levels_of n.path)
+
+-- ---- all of it
+
+abbrev pub parts : World → Node → Here
+parts w n = record {
+  arcs = tried_kind w n Inherits ++ (tried_kind w n Reference ++ (tried_kind w n Payload ++ tried_kind w n Specializes));
+  variants = chosen_all w n;
+  sets = variant_sets w n.stack n.path;
+  selections = selections w n.stack n.path;
+  has_spec = has_spec w n.stack n.path;
+}

@@ -1,0 +1,220 @@
+ghost use Rattle.std.specs.Prelude.{◌≡◌, [], true, false, IfOk};
+ghost use Rattle.composition.specs.Nodes.{bare_node, frame_at};
+ghost use Rattle.composition.specs.World.{identity};
+ghost use Rattle.composition.specs.Trees.{node_of};
+ghost use Rattle.composition.specs.Paths.{limits};
+ghost use Rattle.layer_set.specs.LookUps.{look_ups};
+ghost use Rattle.layer_set.specs.Rules.{IsStagePrim};
+ghost use Rattle.prim_trees.specs.Meant.{meant};
+ghost use Rattle.prim_index.specs.Answer.{index_at, indexed_of, stage_node_at, nothing_there, sites_in, choices_in, faults_in, is_none};
+
+use crate::grow::{MAX_DEPTH, MAX_NODES, Payloads, frames_at, path_length, tree_at};
+use layer_set::World;
+use plain_data::{Items, copy};
+use prim_nodes::{Frame, Node};
+use prim_trees::Tree;
+use prim_view::{Choices, PrimFault, Site, StackName};
+use sdf_paths::Path;
+use sdf_values::LayerOffset;
+use site_order::{arc_faults, is_overgrown_on_the_way, sites};
+use std::alloc::{AllocError, Global};
+use std::marker::Model;
+
+/// What composition makes of a prim of the stage before it looks at values.
+///
+/// Contracts see it as the index of composition's definitions, or as none where a listing was overgrown.
+#[derive(Debug, Drop)]
+pub struct PrimIndex {
+    sites: Items<Site>,
+    choices: Choices,
+    faults: Items<PrimFault>,
+    is_overgrown: bool,
+}
+
+impl Model for PrimIndex {
+    ghost use Rattle.std.specs.Prelude.{◌≡◌, [], ◌∷◌, true, false, Option, Some, None};
+    ghost use Rattle.composition.specs.Faults.{Index, Fault, overgrown};
+    ghost use Rattle.prim_index.specs.Answer.{viewed, IsAnswer};
+
+    ghost Value = { Option Index };
+
+    ghost view = { λ i. viewed i.is_overgrown i.choices i.sites i.faults };
+
+    ghost invariant = { λ i. IsAnswer i.is_overgrown i.choices i.sites i.faults };
+}
+
+impl PrimIndex {
+    /// The sites of the prim, from strong to weak.
+    pub fn sites(&self) -> &[Site]
+        ensures { result.now ≡ sites_in self.now }
+    {
+        self.sites.as_slice()
+    }
+
+    /// The variants that are chosen for the prim.
+    pub fn choices(&self) -> &Choices
+        ensures { result.now ≡ choices_in self.now }
+    {
+        &self.choices
+    }
+
+    /// The faults of the prim's arcs; of an overgrown prim that one alone.
+    pub fn faults(&self) -> &[PrimFault]
+        ensures { result.now ≡ faults_in self.now }
+    {
+        self.faults.as_slice()
+    }
+
+    /// Whether a listing of more than 4,096 nodes was met on the way. Such a prim has no site and no choice.
+    pub fn is_overgrown(&self) -> bool
+        ensures { result ≡ is_none self.now }
+    {
+        self.is_overgrown
+    }
+}
+
+/// The index of what is no prim of the stage.
+fn nothing_there(alloc: Global) -> PrimIndex
+    ensures { result ≡ Some nothing_there }
+{
+    PrimIndex {
+        sites: Items::new(alloc),
+        choices: Items::new(alloc),
+        faults: Items::new(alloc),
+        is_overgrown: false,
+    }
+}
+
+/// The index of an overgrown prim.
+fn overgrown(alloc: Global) -> Result<PrimIndex, AllocError>
+    ensures { IfOk result (λ i. i ≡ None) }
+{
+    let mut faults = Items::new(alloc);
+    faults.push(PrimFault::Overgrown)?;
+    Ok(PrimIndex {
+        sites: Items::new(alloc),
+        choices: Items::new(alloc),
+        faults,
+        is_overgrown: true,
+    })
+}
+
+/// The variants that are chosen at a node.
+fn choices_of(alloc: Global, node: &Node) -> Result<Choices, AllocError>
+    ensures { IfOk result (λ choices. choices ≡ (frame_at node.now 0).choices) }
+{
+    match node.frames.get(0) {
+        Some(frame) => copy(&frame.choices),
+        None => Ok(Items::new(alloc)),
+    }
+}
+
+/// The variants that are chosen at the root of a tree.
+#[tactic(auto, using(prim_trees::specs::Unfolded::node_is))]
+fn choices_at(alloc: Global, tree: &Tree) -> Result<Choices, AllocError>
+    ensures { IfOk result (λ choices. choices ≡ (frame_at (node_of (meant tree.now)) 0).choices) }
+{
+    let choices = choices_of(alloc, &tree.node)?;
+    Ok(choices)
+}
+
+/// An index that is not overgrown.
+fn told(choices: Choices, sites: Items<Site>, faults: Items<PrimFault>) -> PrimIndex
+    ensures { result ≡ Some (record { choices = choices; sites = sites; faults = faults }) }
+{
+    PrimIndex {
+        sites,
+        choices,
+        faults,
+        is_overgrown: false,
+    }
+}
+
+/// The index of the prim whose tree this is.
+fn index_of(alloc: Global, tree: &Tree) -> Result<PrimIndex, AllocError>
+    ensures { IfOk result (λ i. i ≡ indexed_of limits (meant tree.now)) }
+{
+    let over = is_overgrown_on_the_way(tree);
+    if over {
+        return overgrown(alloc);
+    }
+    let found = sites(alloc, tree)?;
+    let choices = choices_at(alloc, tree)?;
+    let faults = arc_faults(alloc, tree)?;
+    Ok(told(choices, found, faults))
+}
+
+/// The node of the stage at a path, before anything is chosen.
+fn bare_stage_node(alloc: Global, place: &Path) -> Result<Node, AllocError>
+    ensures { IfOk result (λ node. node ≡ bare_node StackName.Root place.now [] 64 identity) }
+{
+    Ok(Node {
+        stack: StackName::Root,
+        path: copy(place)?,
+        frames: Items::new(alloc),
+        chain: Items::new(alloc),
+        depth: MAX_DEPTH,
+        offset: LayerOffset {
+            offset: 0,
+            scale: 1,
+        },
+        maps: Items::new(alloc),
+    })
+}
+
+/// The node with these frames.
+fn with_frames(node: Node, frames: Items<Frame>) -> Node
+    ensures { result ≡ record node { frames = frames } }
+{
+    let mut node = node;
+    node.frames = frames;
+    node
+}
+
+/// The node of a prim of the stage, with the frames of the prim and of those above it.
+fn stage_node(alloc: Global, world: &World, place: &Path) -> Result<Node, AllocError>
+    ensures { IfOk result (λ node. node ≡ stage_node_at limits (look_ups world.now) place.now) }
+{
+    let begun = bare_stage_node(alloc, place)?;
+    let count = path_length(&begun);
+    let frames = frames_at(alloc, world, MAX_DEPTH, Payloads::Ruled, &begun, count)?;
+    let node = with_frames(begun, frames);
+    Ok(node)
+}
+
+/// The index of a prim of the stage.
+fn index_of_prim(alloc: Global, world: &World, place: &Path) -> Result<PrimIndex, AllocError>
+    ensures { IfOk result (λ i. i ≡ index_at limits (look_ups world.now) place.now) }
+{
+    let node = stage_node(alloc, world, place)?;
+    let tree = tree_at(alloc, world, MAX_DEPTH, MAX_NODES, MAX_NODES, node)?;
+    index_of(alloc, &tree)
+}
+
+/// Whether a prim of the stage may have this path.
+fn is_stage_prim(place: &Path) -> bool
+    ensures yes { result ≡ true → IsStagePrim place.now }
+    ensures no { result ≡ false → ¬ (IsStagePrim place.now) }
+{
+    if place.is_root() || place.is_property() {
+        return false;
+    }
+    place.is_plain()
+}
+
+/// The index of a prim, as composition is defined. The path of no prim of the stage (`/`, that of a property, one with variant
+/// selections) has no site, choice or fault.
+///
+/// # Errors
+///
+/// Memory ran out.
+pub fn index(alloc: Global, world: &World, place: &Path) -> Result<PrimIndex, AllocError>
+    ensures prim { IsStagePrim place.now → IfOk result (λ i. i ≡ index_at limits (look_ups world.now) place.now) }
+    ensures other { ¬ (IsStagePrim place.now) → IfOk result (λ i. i ≡ Some nothing_there) }
+{
+    let prim = is_stage_prim(place);
+    if prim {
+        return index_of_prim(alloc, world, place);
+    }
+    Ok(nothing_there(alloc))
+}

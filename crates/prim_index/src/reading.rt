@@ -1,0 +1,331 @@
+// What the layers of a node's stack say at it.
+ghost use Rattle.std.specs.Prelude.{◌≡◌, ◌++◌, IfOk, OnOk, map};
+ghost use Rattle.std.specs.Option.{option_copied};
+ghost use Rattle.composition.specs.Texts.{same_text, find_at};
+ghost use Rattle.composition.specs.Paths.{limits};
+ghost use Rattle.composition.specs.Nodes.{fault_of, frame_at};
+ghost use Rattle.layer_set.specs.LookUps.{look_ups};
+ghost use Rattle.arc_expand.specs.Authoring.{IsStackOf};
+ghost use Rattle.prim_index.specs.Reading.{said, sublayers_said, sublayer_faults, looked_at, tried_of, tried_level, tried_kind, chosen_if_fits, variant_at, chosen_of, chosen_level, chosen_all, parts};
+
+use crate::follow::{child_path, refusal};
+use crate::levels::levels;
+use arc_expand::{authored_at, has_spec_at, selections_at, variant_sets_at};
+use class_arcs::path_above;
+use layer_set::World;
+use layer_stack::{LayerStack, stack};
+use path_maps::ArcKind;
+use plain_data::{Items, Text, copy, same};
+use prim_nodes::{Authored, Chosen, Frame, Here, Node, Outcome, Tried};
+use prim_view::{ArcReason, PrimFault, SublayerFault};
+use sdf_paths::{Path, PathFault};
+use std::alloc::{AllocError, Global};
+
+/// The faults of sublayers among these.
+fn sublayer_faults(alloc: Global, faults: &[PrimFault]) -> Result<Items<SublayerFault>, AllocError>
+    ensures { IfOk result (λ all. all ≡ sublayer_faults faults.now) }
+{
+    let mut all = Items::new(alloc);
+    for fault in faults {
+        if let PrimFault::Sublayer(fault) = fault {
+            all.push(copy(fault)?)?;
+        }
+    }
+    Ok(all)
+}
+
+/// The faults of the stack to which an arc leads.
+#[tactic(auto, using(crate::proofs::Saying::sublayers_lead, crate::proofs::Saying::sublayers_none))]
+fn sublayers(
+    alloc: Global,
+    world: &World,
+    outcome: &Outcome,
+) -> Result<Items<SublayerFault>, AllocError>
+    ensures { IfOk result (λ all. all ≡ sublayers_said (look_ups world.now) outcome.now) }
+{
+    match outcome {
+        Outcome::Leads(lead) => {
+            let there = stack(alloc, world, &lead.stack)?;
+            sublayer_faults(alloc, there.faults.as_slice())
+        }
+        Outcome::GivesNoArc(_) => Ok(Items::new(alloc)),
+    }
+}
+
+/// Why an item of a level has no child.
+fn fault(node: &Node, level: usize, outcome: &Outcome) -> Result<Option<ArcReason>, AllocError>
+    ensures { IfOk result (λ reason. reason ≡ fault_of limits node.now level outcome.now) }
+{
+    match outcome {
+        Outcome::Leads(lead) => refusal(node, level, lead),
+        Outcome::GivesNoArc(reason) => Ok(Some(*reason)),
+    }
+}
+
+/// What becomes of an item of a level.
+fn tried_item(
+    alloc: Global,
+    world: &World,
+    node: &Node,
+    kind: ArcKind,
+    level: usize,
+    item: &Authored,
+) -> Result<Tried, AllocError>
+    ensures { IfOk result (λ tried. tried ≡ tried_of (look_ups world.now) node.now kind level item.now) }
+{
+    Ok(Tried {
+        kind,
+        level,
+        authored: copy(item)?,
+        fault: fault(node, level, &item.outcome)?,
+        sublayers: sublayers(alloc, world, &item.outcome)?,
+    })
+}
+
+/// Whether payloads are followed at a level; also where the node has no frame for it.
+fn is_loaded(node: &Node, level: usize) -> bool
+    ensures { result ≡ (frame_at node.now level).loaded }
+{
+    match node.frames.get(level) {
+        Some(frame) => frame.loaded,
+        None => true,
+    }
+}
+
+/// Whether the items of a kind are looked at.
+fn is_looked_at(kind: ArcKind, node: &Node, level: usize) -> bool
+    ensures { result ≡ looked_at kind (frame_at node.now level) }
+{
+    match kind {
+        ArcKind::Payload => is_loaded(node, level),
+        _ => true,
+    }
+}
+
+/// Appends what becomes of the items of a kind at a level. The stack is the node's.
+#[tactic(auto, using(crate::proofs::Saying::tried_unseen, crate::proofs::Saying::tried_seen))]
+fn push_level(
+    out: &mut Items<Tried>,
+    world: &World,
+    stack: &LayerStack,
+    node: &Node,
+    kind: ArcKind,
+    level: usize,
+) -> Result<(), AllocError>
+    requires stack { IsStackOf (look_ups world.now) stack.now }
+    requires name { stack.now.name ≡ node.now.stack }
+    ensures { OnOk result (out.new ≡ out.old ++ tried_level (look_ups world.now) node.now kind level) }
+{
+    if !is_looked_at(kind, node, level) {
+        return Ok(());
+    }
+    let author = path_above(&node.path, level)?;
+    let items = authored_at(out.allocator(), world, stack, &author, kind)?;
+    push_items(out, world, node, kind, level, items.as_slice())
+}
+
+/// Appends what becomes of items.
+fn push_items(
+    out: &mut Items<Tried>,
+    world: &World,
+    node: &Node,
+    kind: ArcKind,
+    level: usize,
+    items: &[Authored],
+) -> Result<(), AllocError>
+    ensures { OnOk result (out.new ≡ out.old ++ map (tried_of (look_ups world.now) node.now kind level) items.now) }
+{
+    for item in items {
+        out.push(tried_item(out.allocator(), world, node, kind, level, item)?)?;
+    }
+    Ok(())
+}
+
+/// Appends what becomes of the items of a kind, level by level.
+#[tactic(auto, using(crate::proofs::Saying::level_more), unfolding(crate::specs::Reading::tried_kind))]
+fn push_kind(
+    out: &mut Items<Tried>,
+    world: &World,
+    stack: &LayerStack,
+    node: &Node,
+    kind: ArcKind,
+) -> Result<(), AllocError>
+    requires stack { IsStackOf (look_ups world.now) stack.now }
+    requires name { stack.now.name ≡ node.now.stack }
+    ensures { OnOk result (out.new ≡ out.old ++ tried_kind (look_ups world.now) node.now kind) }
+{
+    for level in 0..levels(node.path.elements()) {
+        push_level(out, world, stack, node, kind, level)?;
+    }
+    Ok(())
+}
+
+fn same_text(a: &Text, b: &Text) -> bool
+    ensures { result ≡ same_text a.now b.now }
+{
+    same(a, b)
+}
+
+/// The variant that is chosen for a set.
+fn choice<'a>(choices: &'a [(Text, Text)], set: &Text) -> Option<&'a Text>
+    ensures { option_copied result ≡ find_at same_text set.now choices.now }
+{
+    for (decided, variant) in choices {
+        if same_text(set, decided) {
+            return Some(variant);
+        }
+    }
+    None
+}
+
+/// A chosen variant, where the path to which it leads is within the limits.
+fn if_fitting(node: &Node, level: usize, target: Path) -> Result<Option<Chosen>, AllocError>
+    ensures { IfOk result (λ chosen. chosen ≡ chosen_if_fits node.now level target) }
+{
+    let there = child_path(node, level, &target)?;
+    if there.is_some() {
+        return Ok(Some(Chosen { level, target }));
+    }
+    Ok(None)
+}
+
+/// The variant that a level decides for a set, where there may be one of that name and its path is within the limits.
+fn variant(
+    node: &Node,
+    level: usize,
+    set: &Text,
+    variant: &Text,
+) -> Result<Option<Chosen>, AllocError>
+    ensures { IfOk result (λ chosen. chosen ≡ variant_at node.now level set.now variant.now) }
+{
+    let author = path_above(&node.path, level)?;
+    if author.is_root() || author.is_property() {
+        return Err(AllocError);
+    }
+    let _author = author.elements();
+    match author.select(set.as_str(), variant.as_str()) {
+        Ok(target) => {
+            let _target = target.elements();
+            let chosen = if_fitting(node, level, target)?;
+            Ok(chosen)
+        }
+        Err(PathFault::Bad { at: _ }) => Ok(None),
+        Err(PathFault::NoMemory) => Err(AllocError),
+    }
+}
+
+/// Appends the variants that a level decides. The stack is the node's.
+#[tactic(auto, using(crate::proofs::Saying::chosen_unseen, crate::proofs::Saying::chosen_seen, crate::proofs::Saying::frame_some, crate::proofs::Saying::frame_none))]
+fn push_chosen(
+    out: &mut Items<Chosen>,
+    world: &World,
+    stack: &LayerStack,
+    node: &Node,
+    level: usize,
+) -> Result<(), AllocError>
+    requires stack { IsStackOf (look_ups world.now) stack.now }
+    requires name { stack.now.name ≡ node.now.stack }
+    ensures { OnOk result (out.new ≡ out.old ++ chosen_level (look_ups world.now) node.now level) }
+{
+    match node.frames.get(level) {
+        Some(frame) => {
+            let author = path_above(&node.path, level)?;
+            let sets = variant_sets_at(out.allocator(), world, stack, &author)?;
+            push_variants(out, node, level, frame, sets.as_slice())
+        }
+        None => Ok(()),
+    }
+}
+
+/// Appends the variants that a frame decides for sets.
+#[tactic(auto, unfolding(crate::specs::Reading::chosen_of))]
+fn push_variants(
+    out: &mut Items<Chosen>,
+    node: &Node,
+    level: usize,
+    frame: &Frame,
+    sets: &[Text],
+) -> Result<(), AllocError>
+    ensures { OnOk result (out.new ≡ out.old ++ chosen_of node.now level frame.now.choices sets.now) }
+{
+    for set in sets {
+        if let Some(name) = choice(frame.choices.as_slice(), set) {
+            if let Some(chosen) = variant(node, level, set, name)? {
+                out.push(chosen)?;
+            }
+        }
+    }
+    Ok(())
+}
+
+/// The variants that the levels decide.
+#[tactic(auto, using(crate::proofs::Saying::level_more), unfolding(crate::specs::Reading::chosen_all))]
+fn variants(
+    alloc: Global,
+    world: &World,
+    stack: &LayerStack,
+    node: &Node,
+) -> Result<Items<Chosen>, AllocError>
+    requires stack { IsStackOf (look_ups world.now) stack.now }
+    requires name { stack.now.name ≡ node.now.stack }
+    ensures { IfOk result (λ all. all ≡ chosen_all (look_ups world.now) node.now) }
+{
+    let mut all = Items::new(alloc);
+    for level in 0..levels(node.path.elements()) {
+        push_chosen(&mut all, world, stack, node, level)?;
+    }
+    Ok(all)
+}
+
+/// The items of all kinds.
+fn arcs(
+    alloc: Global,
+    world: &World,
+    stack: &LayerStack,
+    node: &Node,
+) -> Result<Items<Tried>, AllocError>
+    requires stack { IsStackOf (look_ups world.now) stack.now }
+    requires name { stack.now.name ≡ node.now.stack }
+    ensures { IfOk result (λ all. all ≡ (parts (look_ups world.now) node.now).arcs) }
+{
+    let mut all = Items::new(alloc);
+    push_kind(&mut all, world, stack, node, ArcKind::Inherits)?;
+    push_kind(&mut all, world, stack, node, ArcKind::Reference)?;
+    push_kind(&mut all, world, stack, node, ArcKind::Payload)?;
+    push_kind(&mut all, world, stack, node, ArcKind::Specializes)?;
+    Ok(all)
+}
+
+/// The stack of a node, by the name that the node has for it.
+fn stack_of(alloc: Global, world: &World, node: &Node) -> Result<LayerStack, AllocError>
+    ensures stack { IfOk result (λ s. IsStackOf (look_ups world.now) s) }
+    ensures name { IfOk result (λ s. s.name ≡ node.now.stack) }
+{
+    let LayerStack {
+        name: _,
+        layers,
+        faults,
+        asked,
+    } = stack(alloc, world, &node.stack)?;
+    Ok(LayerStack {
+        name: copy(&node.stack)?,
+        layers,
+        faults,
+        asked,
+    })
+}
+
+/// What the layers of a node's stack say at it.
+#[tactic(auto, using(crate::proofs::Saying::said_is))]
+pub fn here_at(alloc: Global, world: &World, node: &Node) -> Result<Here, AllocError>
+    ensures { IfOk result (λ here. here ≡ said limits (look_ups world.now) node.now) }
+{
+    let stack = stack_of(alloc, world, node)?;
+    Ok(Here {
+        arcs: arcs(alloc, world, &stack, node)?,
+        variants: variants(alloc, world, &stack, node)?,
+        sets: variant_sets_at(alloc, world, &stack, &node.path)?,
+        selections: selections_at(alloc, world, &stack, &node.path)?,
+        has_spec: has_spec_at(alloc, world, &stack, &node.path)?,
+    })
+}
