@@ -1,0 +1,12 @@
+pub mod Outcomes
+pub mod Answers
+pub mod Places
+pub mod Typing
+pub mod Offsets
+pub mod Prims
+pub mod Properties
+pub mod Metadata
+pub mod Fields
+pub mod Edits
+pub mod Noting
+pub mod Changes
