@@ -1,8 +1,9 @@
 -- What is found in entries in which others were put, exchanged or taken away.
 use Rattle.std.proofs.Common.{◌≡◌, ◌≢◌, ◌∙◌, sym, ap, refl, subst, Bool, cond, true, false, List, [], ◌∷◌, filter, Option, Some, None}
 use Rattle.std.specs.BTreeMap.{insert_entry, is_at}
-use Rattle.std.specs.Map.{lookup, set_value}
-use Rattle.std.specs.Ordering.{match_ordering, is_eq}
+use Rattle.std.specs.Cmp.{IsTotalOrder}
+use Rattle.std.specs.Map.{lookup, remove_entry, set_value}
+use Rattle.std.specs.Ordering.{match_ordering, ordering_reverse, is_eq}
 use Rattle.std.specs.declared.cmp.Ordering.{Ordering}
 use Rattle.std.specs.declared.cmp.Ordering.TheVariants.{Less, Equal, Greater}
 
@@ -10,7 +11,15 @@ pub by_test : {A : Type 0} → (b : Bool) → (b ≡ true → A) → (b ≡ fals
 by_test true on off = on refl
 by_test false on off = off refl
 
-module _ {K V : Type 0} (R : K → K → Ordering) (tie : (x y : K) → R x y ≡ Equal → x ≡ y) where
+pub total_same : {K : Type 0} (R : K → K → Ordering) → IsTotalOrder R → (x : K) → R x x ≡ Equal
+total_same R total x = by (R x x) refl
+  where
+    by : (o : Ordering) → R x x ≡ o → R x x ≡ Equal
+    by Less h = let f : Less ≡ Greater = sym h ∙ total.antisymm x x ∙ ap ordering_reverse h in absurd cc
+    by Equal h = h
+    by Greater h = let f : Greater ≡ Less = sym h ∙ total.antisymm x x ∙ ap ordering_reverse h in absurd cc
+
+module _ {K : Type 0} (R : K → K → Ordering) (tie : (x y : K) → R x y ≡ Equal → x ≡ y) where
   -- a key is not found in the place of another
   pub not_at : (q k : K) → q ≢ k → is_at (R q) k ≡ false
   not_at q k apart = by (R q k) refl
@@ -28,17 +37,18 @@ module _ {K V : Type 0} (R : K → K → Ordering) (tie : (x y : K) → R x y �
       by Equal at = tie k e at
       by Greater at = let f : is_at (R k) e ≡ false = ap is_eq at in absurd cc
 
+module _ {K V : Type 0} (R : K → K → Ordering) (tie : (x y : K) → R x y ≡ Equal → x ≡ y) where
   pub other_put : (q k : K) (v : V) (es : List (K × V)) → is_at (R q) k ≡ false → lookup (is_at (R q)) (insert_entry R es k v) ≡ lookup (is_at (R q)) es
-  other_put q k v [] no = ap (λ (b : Bool). cond b (Some v) None) no
-  other_put q k v (e ∷ es) no = by (other_put q k v es no) (R k e.0) refl
+  other_put q k v [] gone = ap (λ (b : Bool). cond b (Some v) None) gone
+  other_put q k v (e ∷ es) gone = by (other_put q k v es gone) (R k e.0) refl
     where
       made : Ordering → Option V
       made o = lookup (is_at (R q)) (match_ordering o ((k, v) ∷ e ∷ es) ((e.0, v) ∷ es) (e ∷ insert_entry R es k v))
 
       by : (lookup (is_at (R q)) (insert_entry R es k v) ≡ lookup (is_at (R q)) es) → (o : Ordering) → R k e.0 ≡ o → lookup (is_at (R q)) (insert_entry R (e ∷ es) k v) ≡ lookup (is_at (R q)) (e ∷ es)
-      by rest Less h = ap made h ∙ ap (λ (b : Bool). cond b (Some v) (lookup (is_at (R q)) (e ∷ es))) no
+      by rest Less h = ap made h ∙ ap (λ (b : Bool). cond b (Some v) (lookup (is_at (R q)) (e ∷ es))) gone
       by rest Equal h =
-          let here : is_at (R q) e.0 ≡ false = subst (λ (x : K). is_at (R q) x ≡ false) (tie k e.0 h) no in
+          let here : is_at (R q) e.0 ≡ false = subst (λ (x : K). is_at (R q) x ≡ false) (tie k e.0 h) gone in
           ap made h ∙ ap (λ (b : Bool). cond b (Some v) (lookup (is_at (R q)) es)) here ∙ sym (ap (λ (b : Bool). cond b (Some e.1) (lookup (is_at (R q)) es)) here)
       by rest Greater h = ap made h ∙ ap (cond (is_at (R q) e.0) (Some e.1)) rest
 
@@ -55,16 +65,27 @@ module _ {K V : Type 0} (R : K → K → Ordering) (tie : (x y : K) → R x y �
       by rest Greater h = ap made h ∙ ap (λ (o : Ordering). cond (is_eq o) (Some e.1) (lookup (is_at (R k)) (insert_entry R es k v))) h ∙ rest
 
   pub other_exchanged : (q k : K) (v : V) (es : List (K × V)) → is_at (R q) k ≡ false → lookup (is_at (R q)) (set_value (is_at (R k)) es v) ≡ lookup (is_at (R q)) es
-  other_exchanged q k v [] no = refl
-  other_exchanged q k v (e ∷ es) no =
+  other_exchanged q k v [] gone = refl
+  other_exchanged q k v (e ∷ es) gone =
       by_test (is_at (R k) e.0)
       (λ on.
-      let here : is_at (R q) e.0 ≡ false = subst (λ (x : K). is_at (R q) x ≡ false) (is_key k e.0 on) no in
+      let here : is_at (R q) e.0 ≡ false = subst (λ (x : K). is_at (R q) x ≡ false) (is_key R tie k e.0 on) gone in
       ap (λ (b : Bool). lookup (is_at (R q)) (cond b ((e.0, v) ∷ es) (e ∷ set_value (is_at (R k)) es v))) on
       ∙ ap (λ (b : Bool). cond b (Some v) (lookup (is_at (R q)) es)) here ∙ sym (ap (λ (b : Bool). cond b (Some e.1) (lookup (is_at (R q)) es)) here))
       (λ off.
       ap (λ (b : Bool). lookup (is_at (R q)) (cond b ((e.0, v) ∷ es) (e ∷ set_value (is_at (R k)) es v))) off
-      ∙ ap (cond (is_at (R q) e.0) (Some e.1)) (other_exchanged q k v es no))
+      ∙ ap (cond (is_at (R q) e.0) (Some e.1)) (other_exchanged q k v es gone))
+
+  pub other_removed : (q k : K) (es : List (K × V)) → is_at (R q) k ≡ false → lookup (is_at (R q)) (remove_entry (is_at (R k)) es) ≡ lookup (is_at (R q)) es
+  other_removed q k [] gone = refl
+  other_removed q k (e ∷ es) gone =
+      by_test (is_at (R k) e.0)
+      (λ on.
+      let here : is_at (R q) e.0 ≡ false = subst (λ (x : K). is_at (R q) x ≡ false) (is_key R tie k e.0 on) gone in
+      ap (λ (b : Bool). lookup (is_at (R q)) (cond b es (e ∷ remove_entry (is_at (R k)) es))) on ∙ sym (ap (λ (b : Bool). cond b (Some e.1) (lookup (is_at (R q)) es)) here))
+      (λ off.
+      ap (λ (b : Bool). lookup (is_at (R q)) (cond b es (e ∷ remove_entry (is_at (R k)) es))) off
+      ∙ ap (cond (is_at (R q) e.0) (Some e.1)) (other_removed q k es gone))
 
 module _ {K V : Type 0} (test : K → Bool) where
   -- the second exchange counts
@@ -79,6 +100,17 @@ module _ {K V : Type 0} (test : K → Bool) where
       ∙ ap (λ (b : Bool). cond b ((e.0, w) ∷ set_value test es v) (e ∷ set_value test (set_value test es v) w)) off
       ∙ ap (λ (xs : List (K × V)). e ∷ xs) (exchanged_twice v w es)
       ∙ sym (ap (λ (b : Bool). cond b ((e.0, w) ∷ es) (e ∷ set_value test es w)) off))
+
+  -- what is put in the place of something is found there
+  pub same_exchanged : (v w : V) (es : List (K × V)) → lookup test es ≡ Some v → lookup test (set_value test es w) ≡ Some w
+  same_exchanged v w [] h = absurd cc
+  same_exchanged v w (e ∷ es) h =
+      by_test (test e.0)
+      (λ on. ap (λ (b : Bool). lookup test (cond b ((e.0, w) ∷ es) (e ∷ set_value test es w))) on ∙ ap (λ (b : Bool). cond b (Some w) (lookup test es)) on)
+      (λ off.
+      let rest : lookup test es ≡ Some v = sym (ap (λ (b : Bool). cond b (Some e.1) (lookup test es)) off) ∙ h in
+      ap (λ (b : Bool). lookup test (cond b ((e.0, w) ∷ es) (e ∷ set_value test es w))) off
+      ∙ ap (λ (b : Bool). cond b (Some e.1) (lookup test (set_value test es w))) off ∙ same_exchanged v w es rest)
 
   -- nothing is exchanged where nothing is found
   pub none_exchanged : (v : V) (es : List (K × V)) → lookup test es ≡ None → set_value test es v ≡ es

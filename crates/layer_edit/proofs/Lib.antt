@@ -1,2 +1,4 @@
 pub mod Found
-pub mod Frames
+pub mod Anchored
+pub mod AllOf
+pub mod Judging

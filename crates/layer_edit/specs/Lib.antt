@@ -1,5 +1,4 @@
 pub mod Outcomes
-pub mod Answers
 pub mod Places
 pub mod Typing
 pub mod Offsets
@@ -7,6 +6,3 @@ pub mod Prims
 pub mod Properties
 pub mod Metadata
 pub mod Fields
-pub mod Edits
-pub mod Noting
-pub mod Changes

@@ -48,10 +48,10 @@ abbrev pub sublayer_of : WrittenSubLayer → Option SubLayer
 sublayer_of w = sublayer_with w (offset_of w.offset)
 
 -- the items, with offsets in range
-unfoldable pub items_of : List WrittenReference → Option (List RefItem)
+abbrev pub items_of : List WrittenReference → Option (List RefItem)
 items_of items = all_of item_of items
 
-unfoldable pub sublayers_of : List WrittenSubLayer → Option (List SubLayer)
+abbrev pub sublayers_of : List WrittenSubLayer → Option (List SubLayer)
 sublayers_of sublayers = all_of sublayer_of sublayers
 
 -- ---- targets that no arc has

@@ -1,5 +1,6 @@
 -- Adding and removing prims, variants and properties.
-use Rattle.std.specs.Prelude.{ℕ, Bool, true, false, not, if◌then◌else◌, List, [], ◌∷◌, ◌++◌, filter, Option, Some, None, Ok}
+use Rattle.std.specs.Prelude.{ℕ, Bool, true, false, not, if◌then◌else◌, List, [], ◌∷◌, ◌++◌, map, filter, Option, Some, None, Ok}
+use Rattle.std.specs.List.{list_any, flat_map}
 use Rattle.sdf_paths.specs.Paths.{is_empty}
 use Rattle.sdf_paths.specs.declared.element.Element.{Element}
 use Rattle.sdf_paths.specs.declared.element.Element.TheVariants.{Prim, Property as Named, Selection}
@@ -22,27 +23,43 @@ with_name name names = names ++ name ∷ []
 abbrev pub without_name : List ℕ → List (List ℕ) → List (List ℕ)
 without_name name names = filter (λ n. not (same_name name n)) names
 
--- a variant becomes the last of its set, and a new set the last of all
-abbrev pub with_variant : List ℕ → List ℕ → List VariantSet → List VariantSet
-with_variant set variant [] = record { set = set; variants = variant ∷ [] } ∷ []
-with_variant set variant (v ∷ vs) = if same_name set v.set then record v { variants = with_name variant v.variants } ∷ vs else v ∷ with_variant set variant vs
+abbrev pub is_of : List ℕ → VariantSet → Bool
+is_of set v = same_name set v.set
 
--- a set stays while it has variants
-abbrev pub if_any : VariantSet → List (List ℕ) → List VariantSet → List VariantSet
-if_any v [] vs = vs
-if_any v (n ∷ ns) vs = record v { variants = n ∷ ns } ∷ vs
+-- a variant becomes the last of its set, and a set that is not there the last of all
+abbrev pub grown : List ℕ → List ℕ → VariantSet → VariantSet
+grown set variant v = if is_of set v then record v { variants = with_name variant v.variants } else v
+
+abbrev pub new_set : List ℕ → List ℕ → VariantSet
+new_set set variant = record { set = set; variants = variant ∷ [] }
+
+abbrev pub with_variant : List ℕ → List ℕ → List VariantSet → List VariantSet
+with_variant set variant sets = if list_any (is_of set) sets then map (grown set variant) sets else sets ++ new_set set variant ∷ []
+
+-- the last variant takes its set along
+abbrev pub if_any : VariantSet → List (List ℕ) → List VariantSet
+if_any v [] = []
+if_any v (n ∷ ns) = record v { variants = n ∷ ns } ∷ []
+
+abbrev pub shrunk : List ℕ → List ℕ → VariantSet → List VariantSet
+shrunk set variant v = if is_of set v then if_any v (without_name variant v.variants) else v ∷ []
 
 abbrev pub without_variant : List ℕ → List ℕ → List VariantSet → List VariantSet
-without_variant set variant [] = []
-without_variant set variant (v ∷ vs) = if same_name set v.set then if_any v (without_name variant v.variants) vs else v ∷ without_variant set variant vs
+without_variant set variant sets = flat_map (shrunk set variant) sets
+
+abbrev pub with_children : (List (List ℕ) → List (List ℕ)) → Spec → Spec
+with_children change s = record s { body = record s.body { children = change s.body.children } }
+
+abbrev pub with_sets : (List VariantSet → List VariantSet) → Spec → Spec
+with_sets change s = record s { body = record s.body { variant_names = change s.body.variant_names } }
 
 -- the layer with the names of an owner's children changed; those of `/` stand in the head
 abbrev pub renamed : List Element → (List (List ℕ) → List (List ℕ)) → LayerTable → LayerTable
 renamed [] change layer = record layer { head = record layer.head { root_names = change layer.head.root_names } }
-renamed (e ∷ owner) change layer = changed_spec (e ∷ owner) (λ s. record s { body = record s.body { children = change s.body.children } }) layer
+renamed (e ∷ owner) change layer = changed_spec (e ∷ owner) (with_children change) layer
 
 abbrev pub with_variants : List Element → (List VariantSet → List VariantSet) → LayerTable → LayerTable
-with_variants owner change layer = changed_spec owner (λ s. record s { body = record s.body { variant_names = change s.body.variant_names } }) layer
+with_variants owner change layer = changed_spec owner (with_sets change) layer
 
 -- the owner names what is added below it, last, and names no more what is removed
 abbrev pub listed : Option Element → List Element → LayerTable → LayerTable

@@ -10,8 +10,8 @@ use Rattle.sdf_values.specs.declared.refusal.RefusalKind.TheVariants.{TimeRange}
 use Rattle.sdf_values.specs.declared.type_name.ElementType.{ElementType}
 use Rattle.sdf_values.specs.declared.type_name.ElementType.TheVariants as element
 use Rattle.sdf_values.specs.declared.type_name.TypeName.{TypeName}
-use Rattle.sdf_values.specs.declared.value.DictItem.{DictItem, fold-DictItem}
-use Rattle.sdf_values.specs.declared.value.Value.{Value, fold-Value}
+use Rattle.sdf_values.specs.declared.value.DictItem.{DictItem, out-DictItem}
+use Rattle.sdf_values.specs.declared.value.Value.{Value, fold-Value, out-Value}
 use Rattle.sdf_values.specs.declared.value.Value.TheVariants as value
 use Rattle.sdf_values.specs.declared.value.Value.TheOpen.{Value-F, DictItem-F}
 use Rattle.usda_values.specs.Scalars.{Taken, by_value, time_of}
@@ -35,9 +35,12 @@ abbrev pub are_members : TypeName → List Value → Bool
 are_members t vs = t.array && list_all (is_member t.element) vs
 
 -- the value has the form of the type, its times in range or not; of an array each member is looked at
+abbrev pub has_form_by : TypeName → Value → Value-F Value DictItem → Bool
+has_form_by t v (Value-F.Array vs) = are_members t vs
+has_form_by t v f = is_but_for_time (take_shape t v)
+
 unfoldable pub has_form : TypeName → Value → Bool
-has_form t (value.Array vs) = are_members t vs
-has_form t v = is_but_for_time (take_shape t v)
+has_form t v = has_form_by t v (out-Value v)
 
 -- the value as one of the type
 unfoldable pub typed : TypeName → Value → Option Value
@@ -79,7 +82,7 @@ abbrev pub kept : Value → Bool → Value
 kept = fold-Value (Bool → Value) DictItem kept_step kept_item
 
 abbrev pub kept_entry : DictItem → DictItem
-kept_entry = fold-DictItem (Bool → Value) DictItem kept_step kept_item
+kept_entry item = kept_item (record { key = (out-DictItem item).key; ty = (out-DictItem item).ty; value = kept (out-DictItem item).value })
 
 abbrev pub as_ruled : KeyRule → Value → Taken
 as_ruled rule.Comment v = take_shape (one element.String) v

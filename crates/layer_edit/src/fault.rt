@@ -68,23 +68,3 @@ impl<T: Drop> From<AllocFailed<T>> for EditRefused {
         EditRefused::NoMemory
     }
 }
-
-/// Why an operation makes nothing.
-#[derive(Clone, Copy, Debug, PartialEq, Eq)]
-pub enum Stop {
-    /// It is refused.
-    Fault(EditFault),
-    /// Memory ran out.
-    NoMemory,
-}
-
-impl From<AllocError> for Stop {
-    ghost use Rattle.std.specs.Prelude.{◌≡◌};
-    ghost use Rattle.layer_edit.specs.declared.fault.Stop.TheVariants.{NoMemory};
-
-    ghost from_gives = { λ _ e. e ≡ NoMemory };
-
-    fn from(_e: AllocError) -> Stop {
-        Stop::NoMemory
-    }
-}

@@ -1,24 +1,15 @@
-//! Edits of worlds: batches of operations, tried one after the other and refused whole, with the keys whose values they change.
+//! Edits of worlds: batches of operations, tried one after the other and refused whole.
 #![tactic(auto)]
 
-mod apply;
 mod batch;
-mod edits;
 mod fault;
-mod fields;
-mod metadata;
-mod notes;
+mod kinds;
 mod offsets;
 mod op;
-mod places;
-mod prims;
-mod properties;
 mod typing;
 mod written;
 
-pub use apply::{Edited, apply};
 pub use batch::Batch;
-pub use edits::MAX_LAYER_NAMES;
 pub use fault::{EditFault, EditRefused};
 pub use op::{FieldList, Op};
 pub use usda_fields::{OrderWord, PathField, ReferenceField, TextField};

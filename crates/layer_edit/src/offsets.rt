@@ -1,11 +1,11 @@
 // Offsets, references and sublayers as they are written.
-ghost use Rattle.std.specs.Prelude.{◌≡◌, IfOk, unsigned_abs};
+ghost use Rattle.std.specs.Prelude.{◌≡◌, IfOk};
 ghost use Rattle.std.specs.List.{list_any};
 ghost use Rattle.composition.specs.Assets.{anchor};
 ghost use Rattle.usda_lists.specs.Offsets.{whole_number};
 ghost use Rattle.layer_edit.specs.Offsets.{in_bounds, offset_of_wholes, offset_of, item_of, items_of, sublayer_of, sublayers_of, is_bad_target, is_bad_path, is_bad_asset, is_bad_item};
 
-use crate::places::is_stage_prim;
+use crate::kinds::is_stage_prim;
 use crate::written::{WrittenOffset, WrittenReference, WrittenSubLayer};
 use asset_names::{AssetFault, AssetId};
 use plain_data::{Items, Text, copy};
@@ -126,12 +126,7 @@ pub fn is_bad_target(path: &Path) -> bool
 pub fn has_bad_target(paths: &[Path]) -> bool
     ensures { result ≡ list_any is_bad_target paths.now }
 {
-    for path in paths {
-        if is_bad_target(path) {
-            return true;
-        }
-    }
-    false
+    paths.iter().any(is_bad_target)
 }
 
 fn is_bad_path(path: &Option<Path>) -> bool
@@ -143,26 +138,32 @@ fn is_bad_path(path: &Option<Path>) -> bool
     }
 }
 
-/// Whether an asset names no layer, from the folder of this one.
-fn is_bad_asset(alloc: Global, layer: &AssetId, asset: &Option<Text>) -> Result<bool, AllocError>
-    ensures { IfOk result (λ bad. bad ≡ is_bad_asset layer.now asset.now) }
+/// The name that an asset has in a layer; nothing where it has none.
+fn anchored(alloc: Global, layer: &AssetId, asset: &str) -> Result<Option<AssetId>, AllocError>
+    ensures { IfOk result (λ name. name ≡ anchor layer.now asset.now) }
 {
-    let Some(asset) = asset else {
-        return Ok(false);
-    };
-    match AssetId::anchor(alloc, layer, asset.as_str()) {
-        Ok(_) => Ok(false),
-        Err(AssetFault::BadAsset { at: _ }) => Ok(true),
+    match AssetId::anchor(alloc, layer, asset) {
+        Ok(name) => Ok(Some(name)),
+        Err(AssetFault::BadAsset { at: _ }) => Ok(None),
         Err(AssetFault::NoMemory) => Err(AllocError),
     }
 }
 
+/// Whether an asset names no layer, from the folder of this one.
+fn is_bad_asset(alloc: Global, layer: &AssetId, asset: &Option<Text>) -> Result<bool, AllocError>
+    ensures { IfOk result (λ bad. bad ≡ is_bad_asset layer.now asset.now) }
+{
+    match asset {
+        Some(asset) => {
+            let name = anchored(alloc, layer, asset.as_str())?;
+            Ok(!name.is_some())
+        }
+        None => Ok(false),
+    }
+}
+
 #[tactic(auto, unfolding(crate::specs::Offsets::is_bad_item))]
-fn is_bad_item(
-    alloc: Global,
-    layer: &AssetId,
-    item: &WrittenReference,
-) -> Result<bool, AllocError>
+fn is_bad_item(alloc: Global, layer: &AssetId, item: &WrittenReference) -> Result<bool, AllocError>
     ensures { IfOk result (λ bad. bad ≡ is_bad_item layer.now item.now) }
 {
     Ok(is_bad_path(&item.path) || is_bad_asset(alloc, layer, &item.asset)?)
