@@ -3,3 +3,4 @@ pub mod Loading
 pub mod Nearest
 pub mod RuleKeys
 pub mod RuleTables
+pub mod Putting

@@ -1,9 +1,9 @@
 -- Worlds as plain data.
 use Rattle.std.specs.Prelude.{ℕ, List, Option, Some, None}
 use Rattle.sdf_paths.specs.declared.element.Element.{Element}
-use Rattle.sdf_specs.specs.Layers.{spec_at}
+use Rattle.sdf_specs.specs.Layers.{LayerTable, spec_at}
 use Rattle.spec_parts.specs.declared.spec.Spec.{Spec}
-use Rattle.layer_set.specs.Named.{at_name}
+use Rattle.layer_set.specs.Named.{at_name, with_name}
 use Rattle.layer_set.specs.Rules.{RuleEntries}
 use Rattle.layer_set.specs.declared.held.Held.{Held}
 use Rattle.layer_set.specs.declared.held.Held.TheVariants.{Present, Absent, Broken}
@@ -29,3 +29,13 @@ abbrev pub spec_of : Held → List Element → Option Spec
 spec_of (Present layer) path = spec_at path layer.specs
 spec_of Absent path = None
 spec_of (Broken refusal) path = None
+
+-- the layer that stands at a name, if one does
+abbrev pub present_layer : Held → Option LayerTable
+present_layer (Present layer) = Some layer
+present_layer Absent = None
+present_layer (Broken refusal) = None
+
+-- with something at a name
+abbrev pub with_held : List ℕ → Held → WorldData → WorldData
+with_held name held w = record w { layers = with_name name held w.layers }

@@ -1,4 +1,6 @@
+use plain_data::{ExactClone, copy};
 use sdf_specs::{Layer, Refusal};
+use std::alloc::AllocError;
 
 /// What stands at a name of a layer.
 #[derive(Debug, Drop)]
@@ -9,4 +11,22 @@ pub enum Held {
     Absent,
     /// A text that is no layer, or a kind of file that is not read.
     Broken(Refusal),
+}
+
+impl Clone for Held {
+    ghost use Rattle.std.specs.Prelude.{◌≡◌};
+
+    ghost is_clone = { λ x y. y ≡ x };
+
+    fn clone(&self) -> Result<Held, AllocError> {
+        match self {
+            Held::Present(layer) => Ok(Held::Present(copy(layer)?)),
+            Held::Absent => Ok(Held::Absent),
+            Held::Broken(refusal) => Ok(Held::Broken(*refusal)),
+        }
+    }
+}
+
+impl ExactClone for Held {
+    ghost copy_is_same = { λ x y h. h };
 }

@@ -1,12 +1,12 @@
 // What stands at names of layers, shared with copies.
-ghost use Rattle.std.specs.Prelude.{◌≡◌, length, slice_get, OnOk, OnErr};
+ghost use Rattle.std.specs.Prelude.{◌≡◌, length, slice_get, is_some, IfOk, OnOk, OnErr};
 ghost use Rattle.std.specs.Map.{keys_of};
 ghost use Rattle.std.specs.Option.{option_copied};
 ghost use Rattle.layer_set.specs.Named.{AreNamed, at_name, with_name};
 
 use crate::shared::Shared;
 use asset_names::AssetId;
-use plain_data::copy;
+use plain_data::ExactClone;
 use spec_tables::OrderedTable;
 use std::alloc::{AllocError, Global};
 
@@ -40,6 +40,28 @@ pub fn count<V>(entries: &OrderedTable<AssetId, Shared<V>>) -> usize
     ensures order { AreNamed entries.now }
 {
     entries.len()
+}
+
+/// Whether something stands at a name.
+pub fn has<V>(entries: &OrderedTable<AssetId, Shared<V>>, name: &AssetId) -> bool
+    ensures { result ≡ is_some (at_name name.now entries.now) }
+{
+    entries.has(name)
+}
+
+/// Takes what stands at a name out, as one's own: it is copied only where something else shares it.
+pub fn take<V: ExactClone + Drop>(
+    entries: &mut OrderedTable<AssetId, Shared<V>>,
+    name: &AssetId,
+) -> Result<Option<V>, AllocError>
+    ensures taken { IfOk result (λ taken. taken ≡ at_name name.now entries.old) }
+    ensures left { (value : V) → with_name name.now value entries.new ≡ with_name name.now value entries.old }
+{
+    let _names = count(entries);
+    match entries.remove(name) {
+        Some(shared) => Ok(Some(shared.into_own()?)),
+        None => Ok(None),
+    }
 }
 
 /// Puts a value at a name. After want of memory the entries are as before.

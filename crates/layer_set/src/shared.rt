@@ -1,6 +1,6 @@
 ghost use Rattle.std.specs.Prelude.{◌≡◌, IfOk};
 
-use plain_data::ExactClone;
+use plain_data::{ExactClone, copy};
 use std::alloc::{AllocError, Global};
 use std::marker::Model;
 use std::sync::Arc;
@@ -38,6 +38,19 @@ impl<T: Drop> Shared<T> {
         Ok(Shared {
             value: Arc::new(alloc, value)?,
         })
+    }
+}
+
+impl<T: ExactClone + Drop> Shared<T> {
+    /// The value as one's own: a copy only where something else shares it.
+    pub fn into_own(self) -> Result<T, AllocError>
+        ensures { IfOk result (λ value. value ≡ self) }
+    {
+        let Shared { value } = self;
+        match Arc::try_unwrap(value) {
+            Ok(value) => Ok(value),
+            Err(shared) => copy(&*shared),
+        }
     }
 }
 

@@ -1,12 +1,13 @@
-ghost use Rattle.std.specs.Prelude.{◌≡◌, ◌≢◌, ◌↔◌, [], Ok, true, false, length, slice_get, IsTrue, OnOk, OnErr, IfOk};
+ghost use Rattle.std.specs.Prelude.{◌≡◌, ◌≢◌, ◌↔◌, [], Ok, None, true, false, length, slice_get, is_some, IsTrue, OnOk, OnErr, IfOk};
 ghost use Rattle.std.specs.Map.{keys_of};
 ghost use Rattle.std.specs.Option.{option_copied};
 ghost use Rattle.sdf_paths.specs.Paths.{is_plain, is_property};
 ghost use Rattle.composition.specs.World.{is_loaded};
-ghost use Rattle.layer_set.specs.Named.{AreNamed, with_name};
+ghost use Rattle.layer_set.specs.Named.{AreNamed, at_name, with_name};
 ghost use Rattle.layer_set.specs.Rules.{AreRules, rule_at, with_rule, is_loaded_by};
-ghost use Rattle.layer_set.specs.Worlds.{held_at, spec_of};
+ghost use Rattle.layer_set.specs.Worlds.{held_at, spec_of, present_layer, with_held};
 ghost use Rattle.layer_set.specs.LookUps.{look_ups, stands_at};
+ghost use Rattle.layer_set.specs.declared.held.Held.{Held};
 
 use crate::held::Held;
 use crate::key::Key;
@@ -17,7 +18,7 @@ use crate::shared::Shared;
 use asset_names::AssetId;
 use plain_data::{copy, same};
 use sdf_paths::Path;
-use sdf_specs::Spec;
+use sdf_specs::{Layer, Spec};
 use spec_tables::OrderedTable;
 use std::alloc::{AllocError, Global};
 use std::marker::Model;
@@ -99,6 +100,13 @@ impl World {
         named::name_at(&self.layers, i)
     }
 
+    /// Whether a name is among `names`.
+    pub fn has(&self, id: &AssetId) -> bool
+        ensures { result ≡ is_some (at_name id.now self.now.layers) }
+    {
+        named::has(&self.layers, id)
+    }
+
     /// What stands at a name; `Absent` for a name that is not among `names`.
     pub fn held(&self, id: &AssetId) -> &Held
         ensures { result.now ≡ held_at self.now id.now }
@@ -142,6 +150,24 @@ impl World {
         ensures err { OnErr result (self.new ≡ self.old) }
     {
         named::put(self.alloc, &mut self.layers, id, held)
+    }
+
+    /// Takes the layer at a name out, to be changed and put back; nothing where no layer is present. It is copied only where another
+    /// world shares it. Apart from the name the world stays as it is, also after want of memory.
+    pub fn take_layer(&mut self, id: &AssetId) -> Result<Option<Layer>, AllocError>
+        ensures taken { IfOk result (λ taken. taken ≡ present_layer (held_at self.old id.now)) }
+        ensures none { result ≡ Ok None → self.new ≡ self.old }
+        ensures rest { (held : Held) → with_held id.now held self.new ≡ with_held id.now held self.old }
+    {
+        match self.held(id) {
+            Held::Present(_) => (),
+            Held::Absent => return Ok(None),
+            Held::Broken(_) => return Ok(None),
+        }
+        match named::take(&mut self.layers, id)? {
+            Some(Held::Present(layer)) => Ok(Some(layer)),
+            _ => unreachable!(),
+        }
     }
 
     /// Puts a load rule at the path of a prim of the stage, or takes it away. After want of memory the world is as before.

@@ -1,0 +1,87 @@
+-- Adding properties, and their defaults and samples.
+use Rattle.std.specs.Prelude.{ℕ, ℤ, Bool, true, false, not, List, [], ◌∷◌, Option, Some, None, is_some, Ok}
+use Rattle.std.specs.Ordering.{int_cmp}
+use Rattle.list_ops.specs.Blank.{no_edits}
+use Rattle.sdf_paths.specs.declared.element.Element.{Element}
+use Rattle.sdf_paths.specs.declared.element.Element.TheVariants.{Property as Named}
+use Rattle.sdf_specs.specs.Layers.{LayerTable, has_parent}
+use Rattle.sdf_values.specs.declared.decimal.Num.{Num}
+use Rattle.sdf_values.specs.declared.type_name.TypeName.{TypeName}
+use Rattle.sdf_values.specs.declared.value.Value.{Value}
+use Rattle.spec_properties.specs.Properties.{with_property}
+use Rattle.spec_properties.specs.declared.property.Property.{Property}
+use Rattle.spec_properties.specs.declared.property.Property.TheVariants.{Attr, Rel}
+use Rattle.spec_tables.specs.Tables.{with_key, without_key}
+use Rattle.layer_edit.specs.Outcomes.{Made, passing, given}
+use Rattle.layer_edit.specs.Places.{last_element, above, is_property_path, property_in, has_spec, changed_spec, with_properties, changed_property}
+use Rattle.layer_edit.specs.Typing.{has_form, typed, time_at}
+use Rattle.layer_edit.specs.declared.fault.EditFault.TheVariants.{WrongPath, NoParent, NoSpec, SpecThere, NoSuchType, ValueShape, TimeRange}
+
+-- ---- new properties
+
+abbrev pub blank_attribute : List ℕ → TypeName → Bool → Bool → Property
+blank_attribute name ty custom uniform = Attr name ty custom uniform None [] no_edits []
+
+abbrev pub blank_relationship : List ℕ → Bool → Property
+blank_relationship name custom = Rel name custom no_edits []
+
+abbrev pub named_property : Option Element → (List ℕ → Property) → List Property → List Property
+named_property (Some (Named name)) blank properties = with_property (blank name) properties
+named_property last blank properties = properties
+
+-- with a property at a path, the last of its owner
+unfoldable pub with_new_property : List Element → (List ℕ → Property) → LayerTable → LayerTable
+with_new_property path blank layer = changed_spec (above path) (λ s. with_properties (named_property (last_element path) blank s.body.properties) s) layer
+
+unfoldable pub attribute_added : List Element → Option TypeName → Bool → Bool → LayerTable → Made LayerTable
+attribute_added path ty custom uniform layer =
+    passing ((not (is_property_path path), WrongPath) ∷ (not (has_parent path layer.specs), NoParent) ∷ (has_spec path layer, SpecThere) ∷ [])
+    (given NoSuchType ty (λ ty. Ok (with_new_property path (λ name. blank_attribute name ty custom uniform) layer)))
+
+unfoldable pub relationship_added : List Element → Bool → LayerTable → Made LayerTable
+relationship_added path custom layer =
+    passing ((not (is_property_path path), WrongPath) ∷ (not (has_parent path layer.specs), NoParent) ∷ (has_spec path layer, SpecThere) ∷ [])
+    (Ok (with_new_property path (λ name. blank_relationship name custom) layer))
+
+-- ---- defaults and samples
+
+-- the type of an attribute; a relationship has none
+abbrev pub type_of : Option Property → Option TypeName
+type_of (Some (Attr name ty custom uniform default samples connections meta)) = Some ty
+type_of p = None
+
+abbrev pub with_default : Option Value → Property → Property
+with_default v (Attr name ty custom uniform default samples connections meta) = Attr name ty custom uniform v samples connections meta
+with_default v p = p
+
+abbrev pub with_sample : ℤ → Value → Property → Property
+with_sample t v (Attr name ty custom uniform default samples connections meta) = Attr name ty custom uniform default (with_key int_cmp t v samples) connections meta
+with_sample t v p = p
+
+abbrev pub without_sample : ℤ → Property → Property
+without_sample t (Attr name ty custom uniform default samples connections meta) = Attr name ty custom uniform default (without_key int_cmp t samples) connections meta
+without_sample t p = p
+
+-- what is made of an attribute's type; a relationship counts as none
+abbrev pub at_attribute : List Element → LayerTable → (TypeName → Made LayerTable) → Made LayerTable
+at_attribute path layer make = passing ((not (is_property_path path), WrongPath) ∷ []) (given NoSpec (type_of (property_in path layer)) make)
+
+unfoldable pub default_set : List Element → Value → LayerTable → Made LayerTable
+default_set path v layer =
+    at_attribute path layer (λ ty.
+    passing ((not (has_form ty v), ValueShape) ∷ [])
+    (given TimeRange (typed ty v) (λ v. Ok (changed_property path (with_default (Some v)) layer))))
+
+unfoldable pub default_cleared : List Element → LayerTable → Made LayerTable
+default_cleared path layer = at_attribute path layer (λ ty. Ok (changed_property path (with_default None) layer))
+
+unfoldable pub sample_set : List Element → Num → Value → LayerTable → Made LayerTable
+sample_set path time v layer =
+    at_attribute path layer (λ ty.
+    passing ((not (has_form ty v), ValueShape) ∷ [])
+    (given TimeRange (time_at time) (λ t.
+    given TimeRange (typed ty v) (λ v. Ok (changed_property path (with_sample t v) layer)))))
+
+unfoldable pub sample_cleared : List Element → Num → LayerTable → Made LayerTable
+sample_cleared path time layer =
+    at_attribute path layer (λ ty. given TimeRange (time_at time) (λ t. Ok (changed_property path (without_sample t) layer)))

@@ -1,0 +1,70 @@
+use sdf_specs::Refusal;
+use std::alloc::{AllocError, AllocFailed};
+use thiserror::Error;
+
+/// Why an operation is refused.
+#[derive(Clone, Copy, Debug, PartialEq, Eq)]
+pub enum EditFault {
+    /// The layer is not present.
+    NoLayer,
+    /// A new layer is present already.
+    LayerThere,
+    /// The world would have more than 4,096 names of layers.
+    LayerLimit,
+    /// The root or the session layer would be absent or broken.
+    RootLayer,
+    /// The text of a new layer is refused.
+    LayerText(Refusal),
+    /// The path is not of the kind that the operation is for.
+    WrongPath,
+    /// What the prim, variant or property would stand in has no spec.
+    NoParent,
+    /// There is no spec at the path, or one of the other kind of property.
+    NoSpec,
+    /// There is a spec at the path already.
+    SpecThere,
+    /// There is no such type of attributes.
+    NoSuchType,
+    /// The type or the key does not take the value.
+    ValueShape,
+    /// A time is more than 10^12 away from 0 or has more than 18 decimals.
+    TimeRange,
+    /// An offset is not whole and within 1,000,000,000 of 0, or a scale is not whole and from 1 to 1,000,000.
+    OffsetRange,
+    /// A class, reference or payload has a path that is not that of a prim, or that selects a variant, or an asset that names no
+    /// layer.
+    BadArc,
+}
+
+/// Why a batch was not applied.
+#[derive(Clone, Copy, Debug, PartialEq, Eq, Error)]
+pub enum EditRefused {
+    /// The first operation that is refused, counted from 1, and why.
+    #[error("operation {op}: {fault:?}")]
+    Op { op: u32, fault: EditFault },
+    /// Memory ran out.
+    #[error("out of memory")]
+    NoMemory,
+}
+
+impl From<AllocError> for EditRefused {
+    ghost use Rattle.std.specs.Prelude.{◌≡◌};
+    ghost use Rattle.layer_edit.specs.declared.fault.EditRefused.TheVariants.{NoMemory};
+
+    ghost from_gives = { λ _ e. e ≡ NoMemory };
+
+    fn from(_e: AllocError) -> EditRefused {
+        EditRefused::NoMemory
+    }
+}
+
+impl<T: Drop> From<AllocFailed<T>> for EditRefused {
+    ghost use Rattle.std.specs.Prelude.{◌≡◌};
+    ghost use Rattle.layer_edit.specs.declared.fault.EditRefused.TheVariants.{NoMemory};
+
+    ghost from_gives = { λ _ e. e ≡ NoMemory };
+
+    fn from(_e: AllocFailed<T>) -> EditRefused {
+        EditRefused::NoMemory
+    }
+}
