@@ -4,7 +4,6 @@ use Rattle.sdf_paths.specs.Order.{text_cmp}
 use Rattle.spec_properties.specs.Entries.{MetaEntries}
 use Rattle.spec_tables.specs.Tables.{at_key, with_key}
 use Rattle.sdf_values.specs.declared.value.DictItem.{DictItem, out-DictItem}
-
 use Rattle.sdf_values.specs.declared.value.Value.{Value, out-Value}
 use Rattle.sdf_values.specs.declared.value.Value.TheVariants as value
 use Rattle.sdf_values.specs.declared.value.Value.TheOpen.{Value-F}

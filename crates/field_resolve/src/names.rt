@@ -183,7 +183,11 @@ pub fn child_names(alloc: Global, world: &World, sites: &[Site]) -> Result<Items
 /// # Errors
 ///
 /// Memory ran out.
-pub fn property_names(alloc: Global, world: &World, sites: &[Site]) -> Result<Items<Text>, AllocError>
+pub fn property_names(
+    alloc: Global,
+    world: &World,
+    sites: &[Site],
+) -> Result<Items<Text>, AllocError>
     ensures { IfOk result (λ names. names ≡ properties_on (said_on (look_ups world.now) sites.now)) }
 {
     let said = opinions_on(alloc, world, sites)?;

@@ -25,12 +25,7 @@ fn node_at(alloc: Global, path: &str) -> Result<Node, PathFault> {
 }
 
 /// A node that has the set `s` and selects this variant of it.
-fn tree_at(
-    alloc: Global,
-    path: &str,
-    variant: &str,
-    own: Items<Child>,
-) -> Result<Tree, PathFault> {
+fn tree_at(alloc: Global, path: &str, variant: &str, own: Items<Child>) -> Result<Tree, PathFault> {
     let mut sets = Items::new(alloc);
     sets.push(Text::of(alloc, "s")?)?;
     let mut selections = Items::new(alloc);
@@ -79,22 +74,10 @@ fn child_at(
 /// `/A`, which specializes `/S` and refers to `/R`, which refers to `/S`.
 fn specializing(alloc: Global) -> Result<Tree, PathFault> {
     let mut below = Items::new(alloc);
-    below.push(child_at(
-        alloc,
-        ArcKind::Reference,
-        "/S",
-        "low",
-        Items::new(alloc),
-    )?)?;
+    below.push(child_at(alloc, ArcKind::Reference, "/S", "low", Items::new(alloc))?)?;
     let mut own = Items::new(alloc);
     own.push(child_at(alloc, ArcKind::Reference, "/R", "mid", below)?)?;
-    own.push(child_at(
-        alloc,
-        ArcKind::Specializes,
-        "/S",
-        "low",
-        Items::new(alloc),
-    )?)?;
+    own.push(child_at(alloc, ArcKind::Specializes, "/S", "low", Items::new(alloc))?)?;
     tree_at(alloc, "/A", "top", own)
 }
 
