@@ -13,8 +13,6 @@ mod outcome;
 mod reads;
 mod stacks;
 mod target;
-#[cfg(test)]
-mod tests;
 
 pub use arcs::{ArcItem, ArcsHere, arcs_at};
 pub use authored::{authored_at, has_spec_at, selections_at, variant_sets_at};

@@ -4,8 +4,6 @@
 mod class;
 mod lift;
 mod lists;
-#[cfg(test)]
-mod tests;
 
 pub use class::{Class, is_class_of, same_kind, same_path};
 pub use lift::path_above;

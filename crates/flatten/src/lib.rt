@@ -4,7 +4,5 @@
 mod flat;
 mod head;
 mod prim;
-#[cfg(test)]
-mod tests;
 
 pub use flat::{flatten_layer, flatten_text};

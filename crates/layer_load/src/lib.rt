@@ -15,6 +15,3 @@ pub use fault::LoadFault;
 pub use laws::files_have_one_reading;
 pub use load::{Loaded, MAX_NAMES, load_world};
 pub use one::{MAX_FETCHED, load_one};
-
-#[cfg(test)]
-mod tests;

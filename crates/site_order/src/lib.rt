@@ -8,8 +8,6 @@ mod keeping;
 mod order;
 mod ranks;
 mod sizes;
-#[cfg(test)]
-mod tests;
 
 pub use deciding::decided;
 pub use faults::arc_faults;

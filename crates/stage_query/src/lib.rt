@@ -4,8 +4,6 @@
 mod answer;
 mod property;
 mod questions;
-#[cfg(test)]
-mod tests;
 
 pub use answer::Answer;
 pub use questions::{children_of, default_of, samples_of, targets_of, value_at, view_of};
