@@ -8,7 +8,6 @@ pub mod World005
 pub mod World006
 pub mod World007
 pub mod World008
-pub mod World009
 pub mod World011
 pub mod World021
 pub mod World022
@@ -30,7 +29,6 @@ pub mod World069
 pub mod World073
 pub mod World086
 pub mod World087
-pub mod World093
 pub mod World095
 pub mod World096
 pub mod World098
@@ -49,7 +47,6 @@ pub mod WorldAChainOfSixtyFour
 pub mod WorldAClassBelowItself
 pub mod WorldALayerBelowItself
 pub mod WorldAReferenceToItself
-pub mod WorldAssetsOfEveryKind
 pub mod WorldClassesAcrossAReference
 pub mod WorldLocalClassOfAReference
 pub mod WorldPayloadsThatMeet

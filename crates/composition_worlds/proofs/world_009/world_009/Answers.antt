@@ -1,9 +1,0 @@
--- World 009, by computing.
-use Rattle.std.proofs.Common.{refl}
-use Rattle.std.specs.Fmt.{digits}
-use Rattle.composition.specs.Compose.{meaning}
-use Rattle.composition_worlds.proofs.world_009.world_009.Goals as goal
-
-pub returns : goal.returns
-unfolding meaning digits
-returns c = (refl, refl, refl, refl)
