@@ -30,6 +30,8 @@ printf '#usda 1.0\n' >"$folder/empty.usda"
 printf '#usda 1.0\ndef "A" { int x = 007 } # the end' >"$folder/a.usda"
 printf '#usda 1.0\nover "A" {}\n' >"$folder/over.usda"
 printf '#usda 1.0\ndef "A" {' >"$folder/broken.usda"
+printf '#usda 1.0\ndef "B" {}\n' >"$folder/def.usda"
+printf '#usda 1.0\ndef "R" (references = @a.usda@</A>) {}\n' >"$folder/reference.usda"
 printf '#usda 1.1\n' >"$folder/version.usda"
 printf '#usda 1.0\ndef "T' >"$folder/t.usda"
 mkdir "$folder/folder.usda"
@@ -40,10 +42,14 @@ expect "no words" 2 '' 'usdstage: not a command'
 expect "another word" 2 '' 'usdstage: not a command' flat a.usda
 expect "a word too many" 2 '' 'usdstage: not a command' flatten a.usda a.usda
 expect "an option" 2 '' 'usdstage: not a command' flatten --help
-expect "a root in a folder" 2 '' 'usdstage: not a command' flatten ./a.usda
+expect "a root by another spelling" 0 $'#usda 1.0\n\ndef "A"\n{\n    int x = 7\n}' '' flatten ./a.usda
+expect "an option twice" 2 '' 'usdstage: not a command' flatten --session=a.usda a.usda --session a.usda
+expect "an option without its layer" 2 '' 'usdstage: not a command' flatten a.usda --session
+expect "a session layer" 0 $'#usda 1.0\n\ndef "B"\n{\n}\n\nover "A"\n{\n}' '' flatten --session over.usda def.usda
+expect "an absent session layer" 5 '' 'usdstage: none.usda: absent' flatten --session none.usda a.usda
 expect "a folder as the root" 3 '' 'usdstage: reading failed' flatten folder.usda
 expect "an absent root" 5 '' 'usdstage: none.usda: absent' flatten none.usda
-expect "another form" 10 '' 'usdstage: over.usda:1: not yet' flatten over.usda
+expect "a reference" 0 $'#usda 1.0\n\ndef "R"\n{\n    int x = 7\n}' '' flatten reference.usda
 expect "a text that breaks off" 5 '' 'usdstage: broken.usda:2:10: Syntax' flatten broken.usda
 expect "a string without its end, in a session" 5 '' 'usdstage: t.usda:2:5: Syntax' session t.usda
 expect "another version" 5 '' 'usdstage: version.usda:1:1: BadHeader' session version.usda

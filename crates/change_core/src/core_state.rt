@@ -1,11 +1,12 @@
 //! The core: its calls keep a legal history and the world after it.
 
-ghost use Rattle.std.specs.Prelude.{◌≡◌, [], ◌<◌, ◌+◌, Ok, Err, IfOk, OnErr};
+ghost use Rattle.std.specs.Prelude.{◌≡◌, [], ◌<◌, ◌≤◌, ◌+◌, length, Ok, Err, IfOk, OnErr};
+ghost use Rattle.compose_api.specs.Stage.{stage_of};
 ghost use Rattle.change_core.specs.History.{edit_count, batch_count};
 
 use crate::history::{EditReply, HistoryEntry, MOST_EDITS};
 use crate::publish::{Items, PublishReply};
-use compose_api::{ApplyRefused, Composer, stage_items};
+use compose_api::{ApplyRefused, Composer, StageRefused, stage_items, stage_items_within};
 use plain_data::copy;
 use std::alloc::{AllocError, Global};
 use std::marker::Model;
@@ -135,6 +136,37 @@ impl<C: Composer> Core<C> {
         ensures refused { OnErr result (self.new ≡ self.old) }
     {
         let items = stage_items(self.alloc, &self.composer, &self.world)?;
+        let edition = self.note_published(seat, items)?;
+        Ok(PublishReply::Published { edition })
+    }
+
+    /// The same for a stage of so many places at most. After a refusal all is as before.
+    ///
+    /// # Errors
+    ///
+    /// `Full` exactly where the stage has more places. `NoMemory` where memory ran out.
+    pub fn publish_within(&mut self, seat: u64, most: usize) -> Result<Items<C>, StageRefused>
+        ensures answer { IfOk result (λ edition. NotesPublish ⟦<C as Composer>⟧ self.old self.new seat edition.version edition.batches edition.items) }
+        ensures few { IfOk result (λ edition. length edition.items ≤ most) }
+        ensures full { result ≡ Err StageRefused.Full → most < length (stage_of C.entry_of C.listed (world_of C.applied self.old) C.root_place) }
+        ensures refused { OnErr result (self.new ≡ self.old) }
+    {
+        let items = stage_items_within(self.alloc, &self.composer, &self.world, most)?;
+        let edition = self.note_published(seat, items)?;
+        Ok(edition)
+    }
+
+    // Notes the publish of the stage of the world.
+    fn note_published(
+        &mut self,
+        seat: u64,
+        items: plain_data::Items<(C::Place, C::Entry)>,
+    ) -> Result<Items<C>, AllocError>
+        requires { items ≡ stage_of C.entry_of C.listed (world_of C.applied self.old) C.root_place }
+        ensures answer { IfOk result (λ edition. NotesPublish ⟦<C as Composer>⟧ self.old self.new seat edition.version edition.batches edition.items) }
+        ensures items { IfOk result (λ edition. edition.items ≡ items) }
+        ensures refused { OnErr result (self.new ≡ self.old) }
+    {
         let version = self.versions;
         let batches = self.batches;
         self.history.push(HistoryEntry::Publish {
@@ -144,12 +176,10 @@ impl<C: Composer> Core<C> {
         })?;
         let _room = self.history.len();
         self.versions = version + 1;
-        Ok(PublishReply::Published {
-            edition: Items {
-                version,
-                batches,
-                items,
-            },
+        Ok(Items {
+            version,
+            batches,
+            items,
         })
     }
 }

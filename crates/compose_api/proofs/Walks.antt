@@ -1,10 +1,11 @@
 -- Steps of the walk over a stage.
-use Rattle.std.proofs.Common.{◌≡◌, ◌≢◌, ◌∙◌, ap, sym, refl, ℕ, zero, suc, ◌+◌, ◌-◌, ◌<◌, List, [], ◌∷◌, ◌++◌, length, take, slice_get, Option, Some, None, arith, add-one, append_assoc, length-append, Contains, ◌≤◌}
+use Rattle.std.proofs.Common.{◌≡◌, ◌≢◌, ◌∙◌, ap, sym, refl, ℕ, zero, suc, ◌+◌, ◌-◌, ◌<◌, List, [], ◌∷◌, ◌++◌, length, take, drop, slice_get, Option, Some, None, arith, add-one, append_assoc, length-append, Contains, ◌≤◌}
 use Rattle.std.specs.List.{flat_map}
 use Rattle.std.specs.Option.{option_map}
 use Rattle.std.proofs.Math.Seq.{take-suc, get_or-append_seam}
 use Rattle.std.proofs.lemmas.Option.{slice_get-get_or, get_or_from_slice_get, slice_get_within}
-use Rattle.std.proofs.lemmas.List.{flat_map_more, take_all}
+use Rattle.std.proofs.lemmas.List.{flat_map_more, take_all, take-append-drop}
+use Rattle.std.proofs.lemmas.Grind.{flat_map-append}
 use Rattle.compose_api.specs.Stage.{walked}
 
 -- the item that was added before the others
@@ -70,3 +71,22 @@ all_listed kids count i counts past = rw (← counts) past
 pub child_found : {P E : Type 0} (listed : P → E → List P) (place child : P) (item first : P × E) (e : E) (i : ℕ) → item ≡ first → first.1 ≡ e
     → slice_get (listed place item.1) i ≡ Some child → slice_get (listed place e) i ≡ Some child
 child_found listed place child item first e i same entry found = rw (same, entry) at found
+
+-- what has a first item is longer than what it is put behind
+pub longer_by_one : {A : Type 0} (items : List A) (first : A) (rest all : List A) (most : ℕ) → most ≤ length items → all ≡ first ∷ rest → most < length (items ++ all)
+longer_by_one items first rest all most many is = rw is (omega (arith, length-append items (first ∷ rest)))
+
+pub at_least : {A : Type 0} (xs ys : List A) → length xs ≤ length (xs ++ ys)
+at_least xs ys = omega (arith, length-append xs ys)
+
+-- what is too long after some of the children is too long after all of them
+pub too_long_below : {X A : Type 0} (f : X → List A) (items pushed old : List A) (first : A) (xs : List X) (i most : ℕ) (x : X) → items ≡ pushed ++ flat_map f (take i xs)
+    → pushed ≡ old ++ first ∷ [] → slice_get xs i ≡ Some x → most < length (items ++ f x) → most < length (old ++ first ∷ flat_map f xs)
+too_long_below f items pushed old first xs i most x kept added found many =
+    let now : items ++ f x ≡ pushed ++ flat_map f (take (i + 1) xs) = walk_goes_on f items pushed (items ++ f x) xs i x kept refl found in
+    let parts : flat_map f (take (i + 1) xs) ++ flat_map f (drop (i + 1) xs) ≡ flat_map f xs = sym (flat_map-append f (take (i + 1) xs) (drop (i + 1) xs)) ∙ ap (flat_map f) (take-append-drop (i + 1) xs) in
+    let whole : (pushed ++ flat_map f (take (i + 1) xs)) ++ flat_map f (drop (i + 1) xs) ≡ old ++ first ∷ flat_map f xs =
+        append_assoc pushed (flat_map f (take (i + 1) xs)) (flat_map f (drop (i + 1) xs))
+        ∙ (ap (λ y. pushed ++ y) parts ∙ (ap (λ y. y ++ flat_map f xs) added ∙ append_assoc old (first ∷ []) (flat_map f xs))) in
+    let less : length (items ++ f x) ≤ length (old ++ first ∷ flat_map f xs) = rw now (rw (← whole) (at_least (pushed ++ flat_map f (take (i + 1) xs)) (flat_map f (drop (i + 1) xs)))) in
+    omega (arith, many, less)

@@ -19,16 +19,16 @@ pub enum ApplyRefused<F> {
 /// Composes the entry of a place from a world, and applies batches to worlds.
 pub trait Composer: Drop + Send + Sync {
     /// What all entries are functions of.
-    type World: Drop + Send + Sync;
+    type World: Drop;
 
     /// Where an entry stands, in a tree with one root.
     type Place: ExactOrd + ExactClone + Drop + Send + Sync;
 
     /// What is composed at a place.
-    type Entry: ExactEq + ExactClone + Drop + Send + Sync;
+    type Entry: ExactEq + ExactClone + Drop;
 
     /// Changes that are made together or not at all.
-    type Batch: Drop + Send + Sync;
+    type Batch: Drop;
 
     /// Why an operation of a batch is refused.
     type Fault: ExactClone + Drop + Send + Sync;

@@ -2,7 +2,9 @@
 #![tactic(auto)]
 
 mod composer;
+mod refused;
 mod walk;
 
 pub use composer::{ApplyRefused, Composer};
-pub use walk::stage_items;
+pub use refused::StageRefused;
+pub use walk::{stage_items, stage_items_within};

@@ -55,6 +55,19 @@ abbrev pub property_meta : Property → MetaEntries
 property_meta (Attr name ty custom uniform default samples connections meta) = meta
 property_meta (Rel name custom targets meta) = meta
 
+-- ---- what the head of a layer says of the root, and the root as a site
+
+abbrev pub with_default_prim : LayerHead → MetaEntries
+with_default_prim h = elim h.default_prim [ None ↦ h.meta | Some text ↦ with_key text_cmp (codes "defaultPrim") (value.Text text) h.meta ]
+
+abbrev pub head_meta : Heading → List MetaEntries
+head_meta (headed h) = with_default_prim h ∷ []
+head_meta no_layer = []
+head_meta (refused r) = []
+
+abbrev pub root_site : Site
+root_site = record { stack = Root; path = []; maps = []; offset = identity; by_class = false; has_spec = true }
+
 module _ (l : Limits) where
   -- a property by its strongest spec and all that count
   abbrev pub view_by : Text → List PropertySaid → Property → PropertyView
@@ -100,14 +113,6 @@ module _ (l : Limits) where
 
     -- ---- the root
 
-    abbrev pub with_default_prim : LayerHead → MetaEntries
-    with_default_prim h = elim h.default_prim [ None ↦ h.meta | Some text ↦ with_key text_cmp (codes "defaultPrim") (value.Text text) h.meta ]
-
-    abbrev pub head_meta : Heading → List MetaEntries
-    head_meta (headed h) = with_default_prim h ∷ []
-    head_meta no_layer = []
-    head_meta (refused r) = []
-
     -- the metadata of the session layer, if any, and of the root layer
     abbrev pub root_meta : MetaEntries
     root_meta = merged_all (elim w.session [ None ↦ [] | Some s ↦ head_meta (w.heading s) ] ++ head_meta (w.heading w.root))
@@ -117,9 +122,6 @@ module _ (l : Limits) where
 
     abbrev pub root_children : List Text
     root_children = names_of (filter_map (λ e. root_naming e.0) (stack l w Root).layers)
-
-    abbrev pub root_site : Site
-    root_site = record { stack = Root; path = []; maps = []; offset = identity; by_class = false; has_spec = true }
 
     -- `/` has the metadata of the session and the root layer alone, the children of the root stack and its sublayer faults
     abbrev pub root_view : PrimView

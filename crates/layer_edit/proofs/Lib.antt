@@ -2,3 +2,7 @@ pub mod Found
 pub mod Anchored
 pub mod AllOf
 pub mod Judging
+pub mod Owners
+pub mod Changing
+pub mod Attributes
+pub mod Named

@@ -6,3 +6,4 @@ pub mod Prims
 pub mod Properties
 pub mod Metadata
 pub mod Fields
+pub mod Changes

@@ -1,6 +1,8 @@
 -- What an edit makes, or why it is refused.
-use Rattle.std.specs.Prelude.{Bool, List, [], ◌∷◌, Option, Some, None, Result, Ok, Err, if◌then◌else◌}
+use Rattle.std.specs.Prelude.{◌≡◌, Bool, List, [], ◌∷◌, Option, Some, None, Result, Ok, Err, if◌then◌else◌}
 use Rattle.layer_edit.specs.declared.fault.EditFault.{EditFault}
+use Rattle.layer_edit.specs.declared.fault.OpRefused.{OpRefused}
+use Rattle.layer_edit.specs.declared.fault.OpRefused.TheVariants.{Fault, NoMemory}
 
 abbrev pub Made : Type 0 → Type 0
 Made A = Result A EditFault
@@ -26,3 +28,15 @@ passing tests made = unless (first_fault tests) made
 unfoldable pub given : {V A : Type 0} → EditFault → Option V → (V → Made A) → Made A
 given fault None make = Err fault
 given fault (Some v) make = make v
+
+-- what a call answers: what is made, or its fault, unless memory ran out
+abbrev pub Gives : {A : Type 0} → Result A OpRefused → Made A → Type 0
+Gives (Ok a) made = made ≡ Ok a
+Gives (Err (Fault fault)) made = made ≡ Err fault
+Gives (Err NoMemory) made = Unit {0}
+
+-- a call on a layer: it is now what is made, or the fault is told, unless memory ran out
+abbrev pub Does : {A : Type 0} → Result (Unit {0}) OpRefused → A → Made A → Type 0
+Does (Ok u) after made = made ≡ Ok after
+Does (Err (Fault fault)) after made = made ≡ Err fault
+Does (Err NoMemory) after made = Unit {0}

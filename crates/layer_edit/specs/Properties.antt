@@ -63,25 +63,35 @@ without_sample t (Attr name ty custom uniform default samples connections meta) 
 without_sample t p = p
 
 -- what is made of an attribute's type; a relationship counts as none
-abbrev pub at_attribute : List Element → LayerTable → (TypeName → Made LayerTable) → Made LayerTable
+abbrev pub at_attribute : {A : Type 0} → List Element → LayerTable → (TypeName → Made A) → Made A
 at_attribute path layer make = passing ((not (is_property_path path), WrongPath) ∷ []) (given NoSpec (type_of (property_in path layer)) make)
 
-unfoldable pub default_set : List Element → Value → LayerTable → Made LayerTable
-default_set path v layer =
-    at_attribute path layer (λ ty.
+-- of an attribute of a type
+unfoldable pub default_given : List Element → TypeName → Value → LayerTable → Made LayerTable
+default_given path ty v layer =
     passing ((not (has_form ty v), ValueShape) ∷ [])
-    (given TimeRange (typed ty v) (λ v. Ok (changed_property path (with_default (Some v)) layer))))
+    (given TimeRange (typed ty v) (λ v. Ok (changed_property path (with_default (Some v)) layer)))
+
+unfoldable pub default_set : List Element → Value → LayerTable → Made LayerTable
+default_set path v layer = at_attribute path layer (λ ty. default_given path ty v layer)
+
+unfoldable pub default_dropped : List Element → LayerTable → Made LayerTable
+default_dropped path layer = Ok (changed_property path (with_default None) layer)
 
 unfoldable pub default_cleared : List Element → LayerTable → Made LayerTable
-default_cleared path layer = at_attribute path layer (λ ty. Ok (changed_property path (with_default None) layer))
+default_cleared path layer = at_attribute path layer (λ ty. default_dropped path layer)
 
-unfoldable pub sample_set : List Element → Num → Value → LayerTable → Made LayerTable
-sample_set path time v layer =
-    at_attribute path layer (λ ty.
+unfoldable pub sample_given : List Element → TypeName → Num → Value → LayerTable → Made LayerTable
+sample_given path ty time v layer =
     passing ((not (has_form ty v), ValueShape) ∷ [])
     (given TimeRange (time_at time) (λ t.
-    given TimeRange (typed ty v) (λ v. Ok (changed_property path (with_sample t v) layer)))))
+    given TimeRange (typed ty v) (λ v. Ok (changed_property path (with_sample t v) layer))))
+
+unfoldable pub sample_set : List Element → Num → Value → LayerTable → Made LayerTable
+sample_set path time v layer = at_attribute path layer (λ ty. sample_given path ty time v layer)
+
+unfoldable pub sample_dropped : List Element → Num → LayerTable → Made LayerTable
+sample_dropped path time layer = given TimeRange (time_at time) (λ t. Ok (changed_property path (without_sample t) layer))
 
 unfoldable pub sample_cleared : List Element → Num → LayerTable → Made LayerTable
-sample_cleared path time layer =
-    at_attribute path layer (λ ty. given TimeRange (time_at time) (λ t. Ok (changed_property path (without_sample t) layer)))
+sample_cleared path time layer = at_attribute path layer (λ ty. sample_dropped path time layer)

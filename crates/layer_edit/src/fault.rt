@@ -1,3 +1,4 @@
+use plain_data::ExactClone;
 use sdf_specs::Refusal;
 use std::alloc::{AllocError, AllocFailed};
 use thiserror::Error;
@@ -34,6 +35,43 @@ pub enum EditFault {
     /// A class, reference or payload has a path that is not that of a prim, or that selects a variant, or an asset that names no
     /// layer.
     BadArc,
+}
+
+impl ExactClone for EditFault {
+    ghost use Rattle.std.proofs.Common.{rules};
+
+    ghost copy_is_same = { Prim.search rules };
+}
+
+/// Why one operation was not carried out.
+#[derive(Clone, Copy, Debug, PartialEq, Eq)]
+pub enum OpRefused {
+    /// It is refused.
+    Fault(EditFault),
+    /// Memory ran out.
+    NoMemory,
+}
+
+impl From<AllocError> for OpRefused {
+    ghost use Rattle.std.specs.Prelude.{◌≡◌};
+    ghost use Rattle.layer_edit.specs.declared.fault.OpRefused.TheVariants.{NoMemory};
+
+    ghost from_gives = { λ _ e. e ≡ NoMemory };
+
+    fn from(_e: AllocError) -> OpRefused {
+        OpRefused::NoMemory
+    }
+}
+
+impl<T: Drop> From<AllocFailed<T>> for OpRefused {
+    ghost use Rattle.std.specs.Prelude.{◌≡◌};
+    ghost use Rattle.layer_edit.specs.declared.fault.OpRefused.TheVariants.{NoMemory};
+
+    ghost from_gives = { λ _ e. e ≡ NoMemory };
+
+    fn from(_e: AllocFailed<T>) -> OpRefused {
+        OpRefused::NoMemory
+    }
 }
 
 /// Why a batch was not applied.

@@ -1,5 +1,6 @@
 // Kinds of paths.
 ghost use Rattle.std.specs.Prelude.{◌≡◌};
+ghost use Rattle.sdf_paths.specs.Paths.{IsPath};
 ghost use Rattle.layer_edit.specs.Places.{is_prim_path, is_variant_path, is_spec_path, is_property_path, is_stage_prim};
 
 use sdf_paths::{Element, Path};
@@ -57,4 +58,11 @@ pub fn is_stage_prim(path: &Path) -> bool
     ensures { result ≡ is_stage_prim path.now }
 {
     !path.is_root() && !path.is_property() && path.is_plain()
+}
+
+/// A path is one by its rules.
+pub fn follows_rules(path: &Path)
+    ensures { IsPath path.now }
+{
+    let _elements = path.elements();
 }

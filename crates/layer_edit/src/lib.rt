@@ -1,17 +1,35 @@
-//! Edits of worlds: batches of operations, tried one after the other and refused whole.
+//! Edits of worlds: what a batch of operations is, and the operations on one layer.
 #![tactic(auto)]
 
 mod batch;
+mod change;
 mod fault;
+mod fields;
 mod kinds;
+mod metadata;
+mod names;
 mod offsets;
 mod op;
+mod places;
+mod prims;
+mod properties;
+mod property_changes;
+mod spec_changes;
+#[cfg(test)]
+mod tests;
 mod typing;
 mod written;
 
 pub use batch::Batch;
-pub use fault::{EditFault, EditRefused};
+pub use fault::{EditFault, EditRefused, OpRefused};
+pub use fields::{set_list, set_order, set_selection, set_sublayers};
+pub use kinds::is_stage_prim;
+pub use metadata::{clear_meta, set_meta};
 pub use op::{FieldList, Op};
+pub use prims::{add_prim, add_variant, remove};
+pub use properties::{
+    add_attribute, add_relationship, clear_default, clear_sample, set_default, set_sample,
+};
 pub use usda_fields::{OrderWord, PathField, ReferenceField, TextField};
 pub use usda_lists::ListEdit;
 pub use written::{WrittenOffset, WrittenReference, WrittenSubLayer};

@@ -6,7 +6,7 @@ use Rattle.std.specs.Io.KnownBytes.{Consumes, IsAtEnd, Keeps}
 use Rattle.std.proofs.lemmas.List.{take_all, length-drop, get_or-drop, drop-drop, length-take, take-append-drop, length-append, take-append-le, drop-append-le}
 use Rattle.std.proofs.Math.ListN.{drop_of_length-le}
 use Rattle.std.proofs.Math.Seq.{take-add}
-use Rattle.std.proofs.lemmas.Bool.{ltb-true, ltb-false}
+use Rattle.std.proofs.lemmas.Bool.{eqb-true, ltb-true, ltb-false}
 use Rattle.std.specs.Prelude.{nat_lt}
 use Rattle.std.proofs.Math.Seq.{take-suc, drop-cons}
 use Rattle.std.proofs.KnownBytes.{Consumes-trans}
@@ -16,7 +16,13 @@ use Rattle.session_script.specs.States.{has_feed, IsScanned}
 use Rattle.session_script.specs.Fronts.{IsFront, Grows}
 use Rattle.session_script.specs.declared.front.Front.TheVariants.{Line, TooLong, End}
 use Rattle.session_script.proofs.Pieces.{glue, glue-push, glue-first, take_next}
-use Rattle.session_script.proofs.Texts.{ne_test}
+
+false_of : (b : Bool) → (b ≡ true → ⊥) → b ≡ false
+false_of true h = absurd (h refl)
+false_of false h = refl
+
+ne_test : (x y : ℕ) → (x ≡ y → ⊥) → (x == y) ≡ false
+ne_test x y ne = false_of (x == y) (λ e. ne (eqb-true x y e))
 
 nor : (a b : Bool) → (a || b) ≡ false → (a ≡ false) × (b ≡ false)
 nor true b e = absurd cc

@@ -4,7 +4,7 @@ use Rattle.std.specs.Prelude.{nat_lt}
 use Rattle.std.specs.Io.KnownBytes.{Consumes}
 use Rattle.std.proofs.lemmas.Bool.{lt-ltb, le-ltb}
 use Rattle.std.proofs.lemmas.List.{length-take}
-use Rattle.session_script.specs.declared.steps.Op.{Op}
+use Rattle.layer_edit.specs.declared.op.Op.{Op}
 use Rattle.session_script.specs.declared.steps.Step.{Step}
 use Rattle.session_script.specs.declared.faults.ScriptKind.{ScriptKind}
 use Rattle.session_script.specs.declared.faults.ScriptKind.TheVariants.{BadLine, Unfinished, TooLong}
@@ -14,7 +14,7 @@ use Rattle.session_script.specs.declared.front.Front.{Front}
 use Rattle.session_script.specs.declared.front.Front.TheVariants as front
 use Rattle.session_script.specs.Told.{BothTold}
 use Rattle.session_script.specs.Pieces.{lines_of}
-use Rattle.session_script.specs.Grammar.{line_of}
+use Rattle.script_lines.specs.Lines.{line_of}
 use Rattle.session_script.specs.Reading.{Steps, ended, refused, step, Move, goes_on, asks, refuses, move, most_bytes, at_end, steps_from}
 use Rattle.session_script.specs.States.{State, steps_left, AnswersNext, Feeds, FrontIs, TakesLine, EndsScript, stopped_at, behind_line}
 

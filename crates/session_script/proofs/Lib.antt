@@ -1,5 +1,3 @@
-pub mod Gapping
 pub mod Pieces
-pub mod Texts
 pub mod Feeds
 pub mod Going

@@ -1,10 +1,6 @@
 pub mod Fronts
-pub mod Answers
-pub mod Gaps
-pub mod Grammar
 pub mod Moves
 pub mod Pieces
 pub mod Reading
 pub mod States
 pub mod Told
-pub mod Words

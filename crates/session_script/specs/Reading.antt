@@ -1,20 +1,25 @@
 -- A script as the steps that it asks for, up to its end or to the first line that is refused.
 use Rattle.std.specs.Prelude.{ℕ, ◌+◌, nat_lt, Bool, true, false, List, [], ◌∷◌, ◌++◌, length, Option, Some, None}
-use Rattle.session_script.specs.declared.line.Line.{Line}
-use Rattle.session_script.specs.declared.line.Line.TheVariants.{Blank, Begin, Change, Commit, Publish, Ask}
-use Rattle.session_script.specs.declared.steps.Op.{Op}
+use Rattle.layer_edit.specs.declared.op.Op.{Op}
+use Rattle.script_lines.specs.Lines.{line_of}
+use Rattle.script_lines.specs.declared.line.Line.{Line}
+use Rattle.script_lines.specs.declared.line.Line.TheVariants.{Blank, Begin, Change, Commit, Open, Publish, Ask}
 use Rattle.session_script.specs.declared.steps.Step.{Step}
 use Rattle.session_script.specs.declared.steps.Step.TheVariants as steps
 use Rattle.session_script.specs.declared.faults.ScriptKind.{ScriptKind}
 use Rattle.session_script.specs.declared.faults.ScriptKind.TheVariants.{BadLine, Unfinished, TooLong}
 use Rattle.session_script.specs.Pieces.{lines_of}
-use Rattle.session_script.specs.Grammar.{line_of}
 
 -- what comes of a line: the script goes on, it asks for a step, or the line is refused
 pub data Move : Type 0 where
   goes_on : Option (List Op) → Move
   asks : Step → Move
   refuses : Move
+
+-- a step stands in no batch
+abbrev pub asked : Option (List Op) → Step → Move
+asked None s = asks s
+asked (Some ops) s = refuses
 
 -- Operations stand exactly between `begin` and `commit`, and nothing else does. An open batch has the operations so far.
 abbrev pub move : Option (List Op) → Option Line → Move
@@ -25,11 +30,10 @@ move (Some ops) (Some Begin) = refuses
 move None (Some (Change op)) = refuses
 move (Some ops) (Some (Change op)) = goes_on (Some (ops ++ op ∷ []))
 move None (Some Commit) = refuses
-move (Some ops) (Some Commit) = asks (steps.Batch (record { ops = ops }))
-move None (Some Publish) = asks steps.Publish
-move (Some ops) (Some Publish) = refuses
-move None (Some (Ask question)) = asks (steps.Ask question)
-move (Some ops) (Some (Ask question)) = refuses
+move (Some ops) (Some Commit) = asks (steps.Batch ops)
+move batch (Some (Open id)) = asked batch (steps.OpenLayer id)
+move batch (Some Publish) = asked batch steps.Publish
+move batch (Some (Ask question)) = asked batch (steps.Ask question)
 
 -- the steps of a script, each with the number of the line that ends it
 pub data Steps : Type 0 where

@@ -13,26 +13,6 @@ pub enum ScriptKind {
     TooLong,
 }
 
-/// Why a line was not read.
-#[derive(Clone, Copy, Debug, PartialEq, Eq)]
-pub enum LineFault {
-    /// It is no line of a script.
-    Bad,
-    /// Memory ran out.
-    NoMemory,
-}
-
-impl From<AllocError> for LineFault {
-    ghost use Rattle.std.specs.Prelude.{◌≡◌};
-    ghost use Rattle.session_script.specs.declared.faults.LineFault.TheVariants.{NoMemory};
-
-    ghost from_gives = { λ _ e. e ≡ NoMemory };
-
-    fn from(_e: AllocError) -> LineFault {
-        LineFault::NoMemory
-    }
-}
-
 /// Why a script gave no step.
 #[derive(Clone, Copy, Debug, PartialEq, Eq)]
 pub enum ScriptFault {

@@ -1,13 +1,18 @@
 //! What comes of a line.
 
 ghost use Rattle.std.specs.Prelude.{◌≡◌, IfOk, OnErr, None, Some};
-ghost use Rattle.session_script.specs.Reading.{move};
+ghost use Rattle.session_script.specs.Reading.{asked, move};
 ghost use Rattle.session_script.specs.Moves.{IsMoved};
+ghost use Rattle.script_lines.specs.declared.line.Line.TheVariants as Line;
 
-use crate::line::Line;
-use crate::steps::{Batch, Op, Step};
+use crate::steps::Step;
+use layer_edit::{Batch, Op};
 use plain_data::Items;
+use script_lines::Line;
 use std::alloc::{AllocError, Global};
+
+// A batch has fewer operations.
+const MOST_OPS: usize = 4_294_967_296;
 
 /// What comes of a line.
 #[derive(Debug, Drop)]
@@ -18,6 +23,62 @@ pub enum Moved {
     Asks(Step),
     /// The line may not stand here.
     Refuses,
+}
+
+// Ends the batch that is open. 2^32 operations, which no script has, are told as want of memory.
+fn commit(batch: &mut Option<Items<Op>>) -> Result<Moved, AllocError>
+    ensures moves { IfOk result (λ m. IsMoved m batch.new batch.old (move batch.old (Some Line.Commit))) }
+    ensures err { OnErr result (batch.new ≡ batch.old) }
+{
+    let Some(ops) = batch else {
+        return Ok(Moved::Refuses);
+    };
+    if ops.len() >= MOST_OPS {
+        return Err(AllocError);
+    }
+    let Some(ops) = batch.take() else {
+        return Ok(Moved::Refuses);
+    };
+    match Batch::of(ops) {
+        Some(batch) => Ok(Moved::Asks(Step::Batch(batch))),
+        None => Err(AllocError),
+    }
+}
+
+// Begins a batch.
+fn begin(alloc: Global, batch: &mut Option<Items<Op>>) -> Moved
+    ensures { IsMoved result batch.new batch.old (move batch.old (Some Line.Begin)) }
+{
+    if batch.is_some() {
+        return Moved::Refuses;
+    }
+    *batch = Some(Items::new(alloc));
+    Moved::GoesOn
+}
+
+// Adds an operation to the batch that is open.
+fn change(batch: &mut Option<Items<Op>>, op: Op) -> Result<Moved, AllocError>
+    ensures moves { IfOk result (λ m. IsMoved m batch.new batch.old (move batch.old (Some (Line.Change op)))) }
+    ensures err { OnErr result (batch.new ≡ batch.old) }
+{
+    match batch {
+        Some(ops) => {
+            ops.push(op)?;
+            Ok(Moved::GoesOn)
+        }
+        None => Ok(Moved::Refuses),
+    }
+}
+
+// Asks for a step, where no batch is open.
+fn ask(batch: &Option<Items<Op>>, step: Step) -> Moved
+    ensures { IsMoved result batch.now batch.now (asked batch.now step) }
+{
+    if batch.is_some() {
+        Moved::Refuses
+    } else {
+        Moved::Asks(step)
+    }
 }
 
 /// Takes a line, behind the operations of the batch that is open. After want of memory nothing is taken.
@@ -31,37 +92,11 @@ pub fn take_line(
 {
     match line {
         Line::Blank => Ok(Moved::GoesOn),
-        Line::Begin => {
-            if batch.is_some() {
-                return Ok(Moved::Refuses);
-            }
-            *batch = Some(Items::new(alloc));
-            Ok(Moved::GoesOn)
-        }
-        Line::Change(op) => {
-            let Some(ops) = batch else {
-                return Ok(Moved::Refuses);
-            };
-            ops.push(op)?;
-            Ok(Moved::GoesOn)
-        }
-        Line::Commit => match batch.take() {
-            Some(ops) => Ok(Moved::Asks(Step::Batch(Batch { ops }))),
-            None => Ok(Moved::Refuses),
-        },
-        Line::Publish => {
-            if batch.is_some() {
-                Ok(Moved::Refuses)
-            } else {
-                Ok(Moved::Asks(Step::Publish))
-            }
-        }
-        Line::Ask(question) => {
-            if batch.is_some() {
-                Ok(Moved::Refuses)
-            } else {
-                Ok(Moved::Asks(Step::Ask(question)))
-            }
-        }
+        Line::Begin => Ok(begin(alloc, batch)),
+        Line::Change(op) => change(batch, op),
+        Line::Commit => commit(batch),
+        Line::Open(id) => Ok(ask(batch, Step::OpenLayer(id))),
+        Line::Publish => Ok(ask(batch, Step::Publish)),
+        Line::Ask(question) => Ok(ask(batch, Step::Ask(question))),
     }
 }

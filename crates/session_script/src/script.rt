@@ -4,13 +4,14 @@ ghost use Rattle.std.specs.Prelude.{◌≡◌, ◌+◌, ◌<◌, ◌≤◌, ◌+
 ghost use Rattle.io_edges.specs.Causes.{Rose};
 ghost use Rattle.session_script.specs.Fronts.{IsReadError};
 
-use crate::faults::{LineFault, ScriptFault, ScriptKind};
+use crate::faults::{ScriptFault, ScriptKind};
 use crate::front::{Front, read_front};
-use crate::grammar::line_of;
 use crate::moves::{Moved, take_line};
-use crate::steps::{Op, Step};
+use crate::steps::Step;
 use io_edges::Source;
+use layer_edit::Op;
 use plain_data::Items;
+use script_lines::read_line;
 use std::alloc::Global;
 use std::marker::Model;
 
@@ -29,9 +30,13 @@ pub struct Script {
 
 impl Model for Script {
     ghost use Rattle.std.specs.Prelude.{drop};
+    ghost use Rattle.std.specs.Coded.{codes};
+    ghost use Rattle.layer_edit.specs.contracts.op.Op as of_op;
     ghost use Rattle.session_script.specs.States.{State, IsKept};
 
     ghost Value = { State };
+
+    ghost coded = { Prim.hlevel (codes, of_op.the_row.coded) };
 
     ghost view = { λ s. record { taken = s.start; held = drop s.start s.bytes.items; lines = s.lines; batch = s.batch; line = s.line; stopped = s.stopped } };
 
@@ -50,7 +55,7 @@ impl Script {
     ghost use Rattle.session_script.specs.Told.{BothTold};
     ghost use Rattle.session_script.specs.States.{AnswersNext, Counts, EndsScript, Feeds, FrontIs, TakesLine, stopped_at, steps_left};
     ghost use Rattle.session_script.specs.Reading.{move};
-    ghost use Rattle.session_script.specs.Grammar.{line_of};
+    ghost use Rattle.script_lines.specs.Lines.{line_of};
 
     /// A script of which nothing was read.
     pub fn new(alloc: Global) -> Script
@@ -104,10 +109,8 @@ impl Script {
         requires short { self.old.taken + len ≤ 16777216 }
         ensures { TakesLine result len self.old self.new (move self.old.batch (line_of (take len self.old.held))) }
     {
-        let line = match line_of(self.alloc, part_of(&self.bytes, self.start, len)) {
-            Ok(line) => line,
-            Err(LineFault::Bad) => return Err(self.stop(ScriptKind::BadLine)),
-            Err(LineFault::NoMemory) => return Err(ScriptFault::NoMemory),
+        let Some(line) = read_line(self.alloc, part_of(&self.bytes, self.start, len))? else {
+            return Err(self.stop(ScriptKind::BadLine));
         };
         match take_line(self.alloc, &mut self.batch, line)? {
             Moved::Refuses => Err(self.stop(ScriptKind::BadLine)),

@@ -1,39 +1,115 @@
 -- A run by what its parts answer.
-use Rattle.std.proofs.Common.{◌≡◌, ℕ, List, take, Option, Some, None, refl, subst, arith}
+use Rattle.std.proofs.Common.{◌≡◌, ◌∙◌, ℕ, List, [], Option, Some, None, Result, Ok, Err, refl, ap, subst, sym, inl, inr, arith, ◌⊎◌}
 use Rattle.std.specs.Prelude.{IfSome}
 use Rattle.std.specs.Io.KnownBytes.{Appends}
+use Rattle.composition.specs.Texts.{Text}
 use Rattle.io_edges.specs.Causes.{Rose}
-use Rattle.first_layer.specs.Forest.{Forest}
+use Rattle.layer_load.specs.Answers.{Opens}
+use Rattle.layer_load.specs.Files.{Files, AreRead, taken_at}
+use Rattle.layer_load.specs.Opening.{Ending, most_names, opened}
+use Rattle.layer_load.specs.declared.fault.LoadFault.{LoadFault}
+use Rattle.layer_load.specs.declared.fault.LoadFault.TheVariants as load
+use Rattle.layer_load.specs.declared.load.Loaded.{Loaded}
+use Rattle.layer_set.specs.Worlds.{WorldData}
+use Rattle.layer_set.specs.declared.held.Held.{Held}
 use Rattle.session_script.specs.Reading.{steps_of}
-use Rattle.first_stage.specs.Drafts.{table_of}
-use Rattle.first_session.specs.Replies.{opening, opening_text}
-use Rattle.first_session.specs.Replies as sessions
-use Rattle.usdstage.specs.Outcome.{LayerOutcome, ScriptOutcome, IsWriteError, IsScript}
+use Rattle.stage_session.specs.Sessions.{Session as SessionState, stage_after, most_paths, opening, opening_text}
+use Rattle.std.specs.Prelude.{length, ◌≤◌}
+use Rattle.usdstage.specs.Course.{Course, nothing, unopened, flat_course, session_course, world_course, opened_course, carried, course}
+use Rattle.usdstage.specs.Outcome.{ByFiles, Ends, EndsAsDue, EndsWith, IsScript}
 use Rattle.usdstage.specs.declared.status.Status.{Status}
+use Rattle.usdstage.specs.declared.status.Status.TheVariants.{ReadFault, WriteFault, NoMemory, Usage}
+use Rattle.usdstage.specs.declared.words.Command.{Command}
 use Rattle.usdstage.specs.declared.words.Verb.{Verb}
-use Rattle.usdstage.specs.declared.words.Verb.TheVariants.{Flatten, Session}
-use Rattle.usdstage.proofs.Outcomes.{opened_outcome, opening_front}
+use Rattle.usdstage.specs.declared.words.Verb.TheVariants as verbs
+use Rattle.usdstage.proofs.Carrying.{opened_then}
+use Rattle.usdstage.proofs.Files.{by_files, then_files}
+use Rattle.usdstage.proofs.Outcomes.{cut_at_once, ends_with_nothing, due_by}
 
-pub opened_told : (left : Option (List ℕ)) (root : List ℕ) (prims : Forest) (session : sessions.Session) (status : Status) (a b c : Option (List ℕ)) → session ≡ opening (table_of root prims) → Appends a b (opening_text (table_of root prims))
-    → IfSome left (λ all. (written : List ℕ) × ScriptOutcome session (steps_of all) status written × Appends b c written)
-    → IfSome left (λ all. (written : List ℕ) × LayerOutcome Session root prims all status written × Appends a c written)
-opened_told None root prims session status a b c is first o = tt
-opened_told (Some all) root prims session status a b c is first (written, o, then) =
-    opened_outcome root prims all written status a b c first then (subst (λ (s : sessions.Session). ScriptOutcome s (steps_of all) status written) is o)
+pub some_then : (x : Option (List ℕ)) (P Q : List ℕ → Type 0) → IfSome x P → ((all : List ℕ) → P all → Q all) → IfSome x Q
+some_then None P Q p h = tt
+some_then (Some a) P Q p h = h a p
 
-pub opening_told : (left : Option (List ℕ)) (root : List ℕ) (prims : Forest) (status : Status) (n : ℕ) (a b : Option (List ℕ)) → IsWriteError status → Appends a b (take n (opening_text (table_of root prims)))
-    → IfSome left (λ all. (written : List ℕ) × LayerOutcome Session root prims all status written × Appends a b written)
-opening_told None root prims status n a b kind wrote = tt
-opening_told (Some all) root prims status n a b kind wrote = opening_front root prims all n status a b kind wrote
+pub some_all : (x : Option (List ℕ)) (Q : List ℕ → Type 0) → ((all : List ℕ) → Q all) → IfSome x Q
+some_all None Q h = tt
+some_all (Some a) Q h = h a
 
-by_verb : (verb : Verb) (root script : List ℕ) → IsScript (Some (verb, root)) (Some script) script
-by_verb Flatten root script = tt
-by_verb Session root script = refl
+some_is : (x : Option (List ℕ)) (s : List ℕ) (P : List ℕ → Type 0) → x ≡ Some s → IfSome x P → P s
+some_is x s P e p = rw e at p
+
+-- ---- a session
+
+pub session_told : (told : Option Files) (left a b c : Option (List ℕ)) (world : WorldData) (bytes : ℕ) (session : SessionState) (status : Status) → session ≡ opening world → length (stage_after world []) ≤ most_paths → Appends a b (opening_text world)
+    → ByFiles told (λ held size. IfSome left (λ all. EndsWith (carried held size session bytes (steps_of all)) status b c))
+    → ByFiles told (λ held size. IfSome left (λ all. EndsWith (session_course held size world bytes all) status a c))
+session_told told left a b c world bytes session status is few first o =
+    then_files told _ _ o (λ held size p. some_then left _ _ p (λ all e. opened_then held size world bytes all status a b c few first (subst (λ (s : SessionState). EndsWith (carried held size s bytes (steps_of all)) status b c) is e)))
+
+pub session_ended : (told : Option Files) (left a b : Option (List ℕ)) (world : WorldData) (bytes : ℕ) (status : Status) → ((bytes : ℕ) (held : Text → Held) (size : Text → ℕ) (script : List ℕ) → EndsWith (session_course held size world bytes script) status a b)
+    → ByFiles told (λ held size. IfSome left (λ all. EndsWith (session_course held size world bytes all) status a b))
+session_ended told left a b world bytes status h = by_files told _ (λ held size. some_all left _ (λ all. h bytes held size all))
+
+-- ---- the opening of a world
+
+-- a run of these words on what the opening ended with
+abbrev pub RunsOn : (Text → Held) → (Text → ℕ) → Command → Option (List ℕ) → Status → Option (List ℕ) → Option (List ℕ) → Type 0
+RunsOn held size command left status a b = (s : List ℕ) → IsScript (Some command) left s → EndsWith (course held size (Some command) s) status a b
+
+opened_is : (held : Text → Held) (size : Text → ℕ) (command : Command) (s : List ℕ) (e : Ending) → opened held size most_names command.root command.session ≡ e → course held size (Some command) s ≡ opened_course held size command.verb e s
+opened_is held size command s e is = ap (λ (x : Ending). opened_course held size command.verb x s) is
+
+pub not_opened : (told : Option Files) (command : Command) (left out : Option (List ℕ)) (fault : LoadFault) (status : Status) → Opens told most_names command.root command.session (Err fault) → status ≡ unopened fault
+    → ByFiles told (λ held size. RunsOn held size command left status out out)
+not_opened told command left out load.ReadFault status o is = rw is (by_files told (λ held size. RunsOn held size command left ReadFault out out) (λ held size s k. cut_at_once (course held size (Some command) s) ReadFault out tt))
+not_opened told command left out load.NoMemory status o is = rw is (by_files told (λ held size. RunsOn held size command left NoMemory out out) (λ held size s k. cut_at_once (course held size (Some command) s) NoMemory out tt))
+not_opened None command left out (load.RootRefused name refusal) status o is = tt
+not_opened None command left out load.WorldTooLarge status o is = tt
+not_opened (Some f) command left out (load.RootRefused name refusal) status o is = rw is (λ held read s k.
+    let here = rw o.fit at o.answers in
+    ends_with_nothing (course held (taken_at f) (Some command) s) _ out (opened_is held (taken_at f) command s (Err (load.RootRefused name refusal)) (here held read)))
+not_opened (Some f) command left out load.WorldTooLarge status o is = rw is (λ held read s k.
+    let here = rw o.fit at o.answers in
+    ends_with_nothing (course held (taken_at f) (Some command) s) _ out (opened_is held (taken_at f) command s (Err load.WorldTooLarge) (here held read)))
+
+pub opened_flat : (told : Option Files) (command : Command) (left a b : Option (List ℕ)) (loaded : Loaded) (status : Status) → Opens told most_names command.root command.session (Ok loaded) → command.verb ≡ verbs.Flatten
+    → EndsWith (flat_course loaded.world) status a b → ByFiles told (λ held size. RunsOn held size command left status a b)
+opened_flat None command left a b loaded status o verb e = tt
+opened_flat (Some f) command left a b loaded status o verb e = λ held read s k.
+    let here = rw o.fit at o.answers in
+    let c : course held (taken_at f) (Some command) s ≡ flat_course loaded.world = opened_is held (taken_at f) command s (Ok loaded) (here held read) ∙ ap (λ (v : Verb). world_course held (taken_at f) v loaded s) verb in
+    subst (λ (x : Course). EndsWith x status a b) (sym c) e
+
+reads : (command : Command) (left : Option (List ℕ)) (s : List ℕ) → command.verb ≡ verbs.Session → IsScript (Some command) left s → left ≡ Some s
+reads command left s verb k = rw verb at k
+
+pub opened_session : (told : Option Files) (command : Command) (left a b : Option (List ℕ)) (loaded : Loaded) (status : Status) → Opens told most_names command.root command.session (Ok loaded) → command.verb ≡ verbs.Session
+    → ByFiles told (λ held size. IfSome left (λ all. EndsWith (session_course held size loaded.world loaded.bytes all) status a b)) → ByFiles told (λ held size. RunsOn held size command left status a b)
+opened_session None command left a b loaded status o verb e = tt
+opened_session (Some f) command left a b loaded status o verb e = λ held read s k.
+    let here = rw o.fit at o.answers in
+    let c : course held (taken_at f) (Some command) s ≡ session_course held (taken_at f) loaded.world loaded.bytes s = opened_is held (taken_at f) command s (Ok loaded) (here held read) ∙ ap (λ (v : Verb). world_course held (taken_at f) v loaded s) verb in
+    subst (λ (x : Course). EndsWith x status a b) (sym c) (some_is left s _ (reads command left s verb k) (e held read))
+
+-- ---- the whole run
+
+pub completes : (told : Option Files) (P : List ℕ → Type 0) (c : (Text → Held) → (Text → ℕ) → List ℕ → Course) (status : Status) (a b : Option (List ℕ)) (F S W : Type 0)
+    → (status ≡ ReadFault → F ⊎ S) → (status ≡ WriteFault → W) → ByFiles told (λ held size. (s : List ℕ) → P s → EndsWith (c held size s) status a b)
+    → ByFiles told (λ held size. (s : List ℕ) → P s → (F → ⊥) → (S → ⊥) → (W → ⊥) → EndsAsDue (c held size s) status)
+completes told P c status a b F S W read write o =
+    then_files told (λ held size. (s : List ℕ) → P s → EndsWith (c held size s) status a b) (λ held size. (s : List ℕ) → P s → (F → ⊥) → (S → ⊥) → (W → ⊥) → EndsAsDue (c held size s) status) o (λ held size e s k f r w'.
+    due_by (c held size s) status (e s k).0 (F ⊎ S) W read write (λ x. elim x [ inl y ↦ f y | inr z ↦ r z ]) w' (e s k).1)
+
+pub no_command : (told : Option Files) (left out : Option (List ℕ)) → ByFiles told (λ held size. (s : List ℕ) → IsScript None left s → EndsWith (course held size None s) Usage out out)
+no_command told left out = by_files told (λ held size. (s : List ℕ) → IsScript None left s → EndsWith (course held size None s) Usage out out) (λ held size s k. ends_with_nothing (course held size None s) Usage out refl)
+
+by_verb : (command : Command) (verb : Verb) (script : List ℕ) → command.verb ≡ verb → IsScript (Some command) (Some script) script
+by_verb command verbs.Flatten script e = rw e tt
+by_verb command verbs.Session script e = rw e refl
 
 -- a script that is told is the one that is read
-pub is_script : (c : Option (Verb × List ℕ)) (script : List ℕ) → IsScript c (Some script) script
+pub is_script : (c : Option Command) (script : List ℕ) → IsScript c (Some script) script
 is_script None script = tt
-is_script (Some (verb, root)) script = by_verb verb root script
+is_script (Some command) script = by_verb command command.verb script refl
 
 pub never_rose : Rose 0 0 → ⊥
 never_rose rose = absurd (omega arith)

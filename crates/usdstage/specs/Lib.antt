@@ -1,6 +1,6 @@
 pub mod Command
+pub mod Course
 pub mod Kinds
 pub mod Outcome
 pub mod Refusals
-pub mod Stage
 pub mod Statuses

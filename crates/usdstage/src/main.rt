@@ -1,12 +1,8 @@
-//! Flattens a layer of the first form, `usdstage flatten ROOT`, or carries out the script of a session on it, `usdstage session ROOT`.
+//! Flattens a stage, `usdstage flatten ROOT`, or carries out the script of a session on it, `usdstage session ROOT`.
 #![tactic(auto)]
 
 mod output;
-#[cfg(test)]
-mod session_tests;
 mod status;
-#[cfg(test)]
-mod tests;
 mod tool;
 mod words;
 

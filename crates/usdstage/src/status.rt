@@ -5,13 +5,13 @@ ghost use Rattle.std.specs.Fmt.{decimal};
 ghost use Rattle.usdstage.specs.Kinds.{kind_text};
 ghost use Rattle.usdstage.specs.Refusals.{refusal_text};
 
-use plain_data::Text;
+use asset_names::AssetId;
 use prim_view::refusal_name;
 use sdf_specs::Refusal;
 use session_script::ScriptKind;
 use std::alloc::{AllocError, Global};
 
-/// How a run has ended. The words are judged first, then the root's file, then its text.
+/// How a run has ended. The words are judged first, then each file as it is fetched.
 #[derive(Debug, PartialEq, Eq, Drop)]
 pub enum Status {
     /// All was read, and all of the output was written.
@@ -22,19 +22,12 @@ pub enum Status {
     ReadFault,
     /// A write failed. What was taken before is the front of the output.
     WriteFault,
-    /// There is no file of this name, which the words give as the root, or no layer has its text.
+    /// There is no file of this name, which is that of the root or the session layer, or no layer has its text.
     RootRefused {
-        /// The root's name.
-        name: Text,
-        /// Why no layer has the root's text, and where; none where there is no file.
+        /// The layer's name.
+        name: AssetId,
+        /// Why no layer has the text, and where; none where there is no file.
         refusal: Option<Refusal>,
-    },
-    /// The root of this name is a layer, and not of the form that is composed by now.
-    NotYet {
-        /// The root's name.
-        name: Text,
-        /// The line from which on it is not of that form: 1, as the layer is judged as a whole.
-        line: u64,
     },
     /// This line of the script, counted from 1, is refused. All lines before it were answered.
     ScriptRefused {
@@ -43,16 +36,20 @@ pub enum Status {
         /// What is wrong with it.
         kind: ScriptKind,
     },
+    /// A stage has more than 262,144 paths. What was taken before is the front of the output.
+    StageFull,
+    /// More names of layers are needed than a world may have, or more bytes were fetched than may be.
+    WorldTooLarge,
     /// Memory ran out. What was taken before is the front of the output.
     NoMemory,
 }
 
 // The line about a file of this name, as far as the name.
-fn line_about(alloc: Global, name: &Text) -> Result<String, AllocError>
+fn line_about(alloc: Global, name: &AssetId) -> Result<String, AllocError>
     ensures { IfOk result (λ line. string_bytes line ≡ codes "usdstage: " ++ name.now) }
 {
     let mut line = String::from_str(alloc, "usdstage: ")?;
-    line.push_str(name.as_str())?;
+    line.push_str(name.text())?;
     Ok(line)
 }
 
@@ -85,23 +82,13 @@ fn push_refusal(
 // The line about a root that is refused.
 fn line_about_root(
     alloc: Global,
-    name: &Text,
+    name: &AssetId,
     refusal: &Option<Refusal>,
 ) -> Result<String, AllocError>
     ensures { IfOk result (λ line. string_bytes line ≡ codes "usdstage: " ++ name.now ++ refusal_text refusal.now) }
 {
     let mut line = line_about(alloc, name)?;
     push_refusal(alloc, &mut line, refusal)?;
-    Ok(line)
-}
-
-// The line about a root that is not of the form that is composed by now.
-fn line_not_yet(alloc: Global, name: &Text, number: u64) -> Result<String, AllocError>
-    ensures { IfOk result (λ line. string_bytes line ≡ codes "usdstage: " ++ name.now ++ codes ":" ++ decimal number ++ codes ": not yet") }
-{
-    let mut line = line_about(alloc, name)?;
-    push_place(alloc, &mut line, number)?;
-    line.push_str(": not yet")?;
     Ok(line)
 }
 
@@ -142,8 +129,9 @@ impl Status {
             Status::WriteFault => 4,
             Status::RootRefused { .. } => 5,
             Status::ScriptRefused { .. } => 6,
+            Status::StageFull => 7,
+            Status::WorldTooLarge => 8,
             Status::NoMemory => 9,
-            Status::NotYet { .. } => 10,
         }
     }
 
@@ -157,8 +145,12 @@ impl Status {
             Status::ReadFault => Ok(String::from_str(alloc, "usdstage: reading failed")?),
             Status::WriteFault => Ok(String::from_str(alloc, "usdstage: writing failed")?),
             Status::RootRefused { name, refusal } => line_about_root(alloc, name, refusal),
-            Status::NotYet { name, line } => line_not_yet(alloc, name, *line),
             Status::ScriptRefused { line, kind } => line_about_script(alloc, *line, *kind),
+            Status::StageFull => Ok(String::from_str(alloc, "usdstage: more than 262144 paths")?),
+            Status::WorldTooLarge => Ok(String::from_str(
+                alloc,
+                "usdstage: too many layers or bytes",
+            )?),
             Status::NoMemory => Ok(String::from_str(alloc, "usdstage: out of memory")?),
         }
     }

@@ -1,107 +1,58 @@
 //! All that the program does.
 
-ghost use Rattle.std.specs.Prelude.{◌≡◌, ◌≢◌, ◌≤◌, ◌↔◌, ◌++◌, ◌⊎◌, ℕ, List, [], map, Ok, Err, Some, None, IfSome, IfOk, IfErr, string_bytes, take};
+ghost use Rattle.std.specs.Prelude.{◌≡◌, ◌≢◌, ◌≤◌, ◌↔◌, ◌++◌, ◌⊎◌, ℕ, List, [], map, take, length, Ok, Err, Some, None, IfSome, IfOk, IfErr, string_bytes};
 ghost use Rattle.std.specs.Io.KnownBytes.{Appends};
-ghost use Rattle.first_layer.specs.Forest.{nesting};
-ghost use Rattle.first_layer.specs.Layer.{layer_of};
-ghost use Rattle.first_session.specs.Replies.{reply_to, after};
 ghost use Rattle.io_edges.specs.Causes.{Rose};
 ghost use Rattle.io_edges.specs.Stores.{file_named};
-ghost use Rattle.first_session.specs.Replies.{opening, opening_text};
-ghost use Rattle.first_stage.specs.Drafts.{table_of};
+ghost use Rattle.layer_load.specs.Files.{AreRead, taken_at};
 ghost use Rattle.session_script.specs.Told.{BothTold};
 ghost use Rattle.session_script.specs.Reading.{steps_of};
-ghost use Rattle.usdstage.specs.Stage.{flattened};
-ghost use Rattle.usdstage.specs.Outcome.{IsNamed, EndsEarly, IsRead, IsJudged, IsCourse, IsOutcome, IsScript, LayerOutcome, ScriptOutcome, IsWriteError, EndsAsDue};
+ghost use Rattle.stage_session.specs.Sessions.{most_paths, opening, opening_text, stage_after};
 ghost use Rattle.usdstage.specs.Command.{command_of};
+ghost use Rattle.usdstage.specs.Course.{nothing, onto, unopened, turn, flat_course, session_course, carried, course};
+ghost use Rattle.usdstage.specs.Outcome.{ByFiles, Carries, Ends, EndsAsDue, EndsWith, IsFront, IsScript, Takes};
+ghost use Rattle.usdstage.specs.declared.words.Verb.{Verb as SaidVerb};
+ghost use Rattle.usdstage.specs.declared.words.Verb.TheVariants as verbs;
 
 use crate::output::{Written, write_all};
 use crate::status::Status;
-use crate::words::{Verb, command_of};
-use first_form::first_of;
-use first_layer::FirstLayer;
-use first_session::FirstSession;
-use first_writer::write_first;
-use io_edges::{
-    Fetched, FreeGate, Gate, LayerFiles, Sink, Source, SureFiles, SureSink, SureSource,
-};
-use plain_data::Text;
-use sdf_specs::Refusal;
+use crate::words::{Command, Verb, command_of};
+use asset_names::AssetId;
+use compose_api::StageRefused;
+use io_edges::{FreeGate, Gate, LayerFiles, Sink, Source, SureFiles, SureSink, SureSource};
+use layer_edit::Batch;
+use layer_load::{LoadFault, Loaded, load_one, load_world};
+use layer_set::World;
 use session_script::{Script, ScriptFault, Step};
+use stage_questions::Question;
+use stage_session::{Session, flatten_world};
 use std::alloc::Global;
-use usda_reader::{LayerFault, read_layer};
+use usda_reader::texts_have_one_answer;
 
-// The root is absent, or refused for this.
-fn refused(alloc: Global, root: &str, refusal: Option<Refusal>) -> Status
-    ensures { IsNamed result (λ name why. (name ≡ root.now) × (why ≡ refusal)) (λ _ _. ⊥) }
+// How a run ends whose world was not opened.
+fn unopened(fault: LoadFault) -> Status
+    ensures value { result ≡ unopened fault }
+    ensures calm { (result ≢ Status.WriteFault) × (result ≢ Status.Done) × (result ≢ Status.Usage) }
 {
-    match Text::of(alloc, root) {
-        Ok(name) => Status::RootRefused { name, refusal },
-        Err(_) => Status::NoMemory,
+    match fault {
+        LoadFault::ReadFault => Status::ReadFault,
+        LoadFault::RootRefused { name, refusal } => Status::RootRefused { name, refusal },
+        LoadFault::WorldTooLarge => Status::WorldTooLarge,
+        LoadFault::NoMemory => Status::NoMemory,
     }
 }
 
-// The root's layer is not of the form that is composed by now.
-fn not_yet(alloc: Global, root: &str) -> Status
-    ensures { IsNamed result (λ _ _. ⊥) (λ name line. (name ≡ root.now) × (line ≡ 1)) }
-{
-    match Text::of(alloc, root) {
-        Ok(name) => Status::NotYet { name, line: 1 },
-        Err(_) => Status::NoMemory,
-    }
-}
-
-// The layer of the first form that these bytes of the root are a text of, or how the run ends without one.
-fn first_layer_of(alloc: Global, root: &str, bytes: &[u8]) -> Result<FirstLayer, Status>
-    ensures judged { IsJudged bytes.now root.now result }
-    ensures shallow { IfOk result (λ layer. nesting (layer_of layer) ≤ 64) }
-    ensures flat { IfOk result (λ layer. flattened (layer_of layer) ≡ layer_of layer) }
-    ensures kinds { EndsEarly result }
-    ensures calm { result ≢ Err Status.ReadFault }
-{
-    let layer = match read_layer(alloc, bytes) {
-        Ok(layer) => layer,
-        Err(LayerFault::Refused(refusal)) => return Err(refused(alloc, root, Some(refusal))),
-        Err(LayerFault::NoMemory) => return Err(Status::NoMemory),
-    };
-    match first_of(alloc, &layer) {
-        Ok(Some(first)) => Ok(first),
-        Ok(None) => Err(not_yet(alloc, root)),
-        Err(_) => Err(Status::NoMemory),
-    }
-}
-
-// The root's layer, or how the run ends without one.
-fn read_root<F: LayerFiles>(alloc: Global, root: &str, files: &mut F) -> Result<FirstLayer, Status>
-    ensures told { IfSome (F.files files.old) (λ f. IsRead (f root.now) root.now result) }
-    ensures shallow { IfOk result (λ layer. nesting (layer_of layer) ≤ 64) }
-    ensures flat { IfOk result (λ layer. flattened (layer_of layer) ≡ layer_of layer) }
-    ensures same { F.files files.new ≡ F.files files.old }
-    ensures later { F.faults files.old ≤ F.faults files.new }
-    ensures cause { result ≡ Err Status.ReadFault → Rose (F.faults files.old) (F.faults files.new) }
-    ensures kinds { EndsEarly result }
-{
-    let mut bytes = Vec::new(alloc);
-    match files.fetch(root, &mut bytes) {
-        Fetched::Found => {}
-        Fetched::Absent => return Err(refused(alloc, root, None)),
-        Fetched::Failed => return Err(Status::ReadFault),
-        Fetched::NoMemory => return Err(Status::NoMemory),
-    }
-    first_layer_of(alloc, root, &bytes)
-}
-
-// Writes the flattened layer.
-fn write_flat<K: Sink>(alloc: Global, _root: &str, layer: &FirstLayer, out: &mut K) -> Status
-    requires shallow { nesting (layer_of layer.now) ≤ 64 }
-    requires flat { flattened (layer_of layer.now) ≡ layer_of layer.now }
-    ensures outcome { (script : List ℕ) → (written : List ℕ) × LayerOutcome Verb.Flatten _root.now (layer_of layer.now) script result written × Appends (K.taken out.old) (K.taken out.new) written }
+// Writes the text of the flattened layer.
+fn write_flat<K: Sink>(alloc: Global, world: &World, out: &mut K) -> Status
+    ensures outcome { EndsWith (flat_course world.now) result (K.taken out.old) (K.taken out.new) }
     ensures cause { result ≡ Status.WriteFault → Rose (K.faults out.old) (K.faults out.new) }
     ensures calm { result ≢ Status.ReadFault }
     ensures kinds { result ≢ Status.Usage }
 {
-    let Ok(text) = write_first(alloc, layer) else {
-        return Status::NoMemory;
+    let text = match flatten_world(alloc, world) {
+        Ok(text) => text,
+        Err(StageRefused::Full) => return Status::StageFull,
+        Err(StageRefused::NoMemory) => return Status::NoMemory,
     };
     match write_all(out, &text) {
         Written::Whole => Status::Done,
@@ -110,67 +61,139 @@ fn write_flat<K: Sink>(alloc: Global, _root: &str, layer: &FirstLayer, out: &mut
     }
 }
 
-// Carries out a step of a session, and writes its reply.
-fn carry_out<K: Sink>(session: &mut FirstSession, step: Step, out: &mut K) -> Written
-    ensures whole { result ≡ Written.Whole → Appends (K.taken out.old) (K.taken out.new) (reply_to session.old step) × (session.new ≡ after session.old step) }
-    ensures front { (n : ℕ) × Appends (K.taken out.old) (K.taken out.new) (take n (reply_to session.old step)) }
-    ensures later { K.faults out.old ≤ K.faults out.new }
-    ensures cause { result ≡ Written.Failed → Rose (K.faults out.old) (K.faults out.new) }
+// Puts the layer of a name as its file gives it: the reply, and the bytes fetched by then.
+fn open_layer<F: LayerFiles>(
+    alloc: Global,
+    session: &mut Session,
+    bytes: u64,
+    id: AssetId,
+    files: &mut F,
+) -> Result<(Vec<u8>, u64), Status>
+    ensures turn { ByFiles (F.files files.old) (λ held size. Takes (λ v. v.items) result session.new (turn held size session.old bytes (Step.OpenLayer id))) }
+    ensures same { F.files files.new ≡ F.files files.old }
+    ensures later { F.faults files.old ≤ F.faults files.new }
+    ensures cause { result ≡ Err Status.ReadFault → Rose (F.faults files.old) (F.faults files.new) }
+    ensures calm { (result ≢ Err Status.WriteFault) × (result ≢ Err Status.Done) × (result ≢ Err Status.Usage) }
 {
-    match session.act(step) {
-        Ok(reply) => write_all(out, &reply),
-        Err(_) => Written::NoMemory,
+    texts_have_one_answer();
+    match load_one(alloc, files, &id, bytes) {
+        Ok((held, total)) => match session.put_layer(id, held) {
+            Ok(reply) => Ok((reply, total)),
+            Err(_) => Err(Status::NoMemory),
+        },
+        Err(fault) => Err(unopened(fault)),
     }
 }
 
-// Opens a session on a layer, and writes the reply to the opening, which the session is answered with.
-fn open_session<K: Sink>(
-    alloc: Global,
-    root: &str,
-    layer: &FirstLayer,
-    out: &mut K,
-) -> Result<FirstSession, Status>
-    requires shallow { nesting (layer_of layer.now) ≤ 64 }
-    ensures opened { IfOk result (λ s. let t = table_of root.now (layer_of layer.now) in (s ≡ opening t) × Appends (K.taken out.old) (K.taken out.new) (opening_text t)) }
-    ensures front { IfErr result (λ status. IsWriteError status × (n : ℕ) × Appends (K.taken out.old) (K.taken out.new) (take n (opening_text (table_of root.now (layer_of layer.now))))) }
-    ensures later { K.faults out.old ≤ K.faults out.new }
-    ensures cause { result ≡ Err Status.WriteFault → Rose (K.faults out.old) (K.faults out.new) }
+// The reply to a batch.
+#[tactic(auto, unfolding(crate::specs::Course::turn))]
+fn edit(session: &mut Session, bytes: u64, batch: Batch) -> Result<(Vec<u8>, u64), Status>
+    ensures turn { (held : _) (size : _) → Takes (λ v. v.items) result session.new (turn held size session.old bytes (Step.Batch batch)) }
+    ensures calm { (result ≢ Err Status.ReadFault) × (result ≢ Err Status.WriteFault) × (result ≢ Err Status.Done) × (result ≢ Err Status.Usage) }
 {
-    let Ok(name) = Text::of(alloc, root) else {
-        return Err(Status::NoMemory);
-    };
-    let Ok((session, reply)) = FirstSession::open(alloc, name, layer) else {
-        return Err(Status::NoMemory);
+    match session.edit(batch) {
+        Ok(reply) => Ok((reply, bytes)),
+        Err(_) => Err(Status::NoMemory),
+    }
+}
+
+// The reply to a publish.
+fn publish(session: &mut Session, bytes: u64) -> Result<(Vec<u8>, u64), Status>
+    ensures turn { (held : _) (size : _) → Takes (λ v. v.items) result session.new (turn held size session.old bytes Step.Publish) }
+    ensures calm { (result ≢ Err Status.ReadFault) × (result ≢ Err Status.WriteFault) × (result ≢ Err Status.Done) × (result ≢ Err Status.Usage) }
+{
+    match session.publish() {
+        Ok(reply) => Ok((reply, bytes)),
+        Err(StageRefused::Full) => Err(Status::StageFull),
+        Err(StageRefused::NoMemory) => Err(Status::NoMemory),
+    }
+}
+
+// The reply to a question.
+#[tactic(auto, unfolding(crate::specs::Course::turn))]
+fn answer(session: &Session, bytes: u64, question: &Question) -> Result<(Vec<u8>, u64), Status>
+    ensures turn { (held : _) (size : _) → Takes (λ v. v.items) result session.now (turn held size session.now bytes (Step.Ask question.now)) }
+    ensures calm { (result ≢ Err Status.ReadFault) × (result ≢ Err Status.WriteFault) × (result ≢ Err Status.Done) × (result ≢ Err Status.Usage) }
+{
+    match session.answer(question) {
+        Ok(reply) => Ok((reply, bytes)),
+        Err(_) => Err(Status::NoMemory),
+    }
+}
+
+// The reply to a step, and the bytes fetched by then, or how the run ends without one.
+fn reply_to<F: LayerFiles>(
+    alloc: Global,
+    session: &mut Session,
+    bytes: u64,
+    step: Step,
+    files: &mut F,
+) -> Result<(Vec<u8>, u64), Status>
+    ensures turn { ByFiles (F.files files.old) (λ held size. Takes (λ v. v.items) result session.new (turn held size session.old bytes step)) }
+    ensures same { F.files files.new ≡ F.files files.old }
+    ensures later { F.faults files.old ≤ F.faults files.new }
+    ensures cause { result ≡ Err Status.ReadFault → Rose (F.faults files.old) (F.faults files.new) }
+    ensures calm { (result ≢ Err Status.WriteFault) × (result ≢ Err Status.Done) × (result ≢ Err Status.Usage) }
+{
+    match step {
+        Step::Batch(batch) => edit(session, bytes, batch),
+        Step::OpenLayer(id) => open_layer(alloc, session, bytes, id, files),
+        Step::Publish => publish(session, bytes),
+        Step::Ask(question) => answer(session, bytes, &question),
+    }
+}
+
+// Carries out a step of a session, and writes its reply; the bytes fetched by then, or how the run ends.
+fn carry_out<F: LayerFiles, K: Sink>(
+    alloc: Global,
+    session: &mut Session,
+    bytes: u64,
+    step: Step,
+    files: &mut F,
+    out: &mut K,
+) -> Result<u64, Status>
+    ensures carried { ByFiles (F.files files.old) (λ held size. Carries result session.new (turn held size session.old bytes step) (K.taken out.old) (K.taken out.new)) }
+    ensures same { F.files files.new ≡ F.files files.old }
+    ensures later { (F.faults files.old ≤ F.faults files.new) × (K.faults out.old ≤ K.faults out.new) }
+    ensures read_fault { result ≡ Err Status.ReadFault → Rose (F.faults files.old) (F.faults files.new) }
+    ensures write_fault { result ≡ Err Status.WriteFault → Rose (K.faults out.old) (K.faults out.new) }
+    ensures calm { (result ≢ Err Status.Done) × (result ≢ Err Status.Usage) }
+{
+    let (reply, total) = match reply_to(alloc, session, bytes, step, files) {
+        Ok(replied) => replied,
+        Err(status) => return Err(status),
     };
     match write_all(out, &reply) {
-        Written::Whole => Ok(session),
+        Written::Whole => Ok(total),
         Written::Failed => Err(Status::WriteFault),
         Written::NoMemory => Err(Status::NoMemory),
     }
 }
 
 // Carries out the steps of a script, each with its reply before the next is read.
-fn run_script<S: Source, K: Sink>(
+fn run_script<F: LayerFiles, S: Source, K: Sink>(
     alloc: Global,
-    session: FirstSession,
+    session: Session,
+    bytes: u64,
+    files: &mut F,
     script: &mut S,
     out: &mut K,
 ) -> Status
-    ensures outcome { IfSome (S.left script.old) (λ all. (written : List ℕ) × ScriptOutcome session (steps_of all) result written × Appends (K.taken out.old) (K.taken out.new) written) }
+    ensures outcome { ByFiles (F.files files.old) (λ held size. IfSome (S.left script.old) (λ all. EndsWith (carried held size session bytes (steps_of all)) result (K.taken out.old) (K.taken out.new))) }
     ensures end { result ≡ Status.Done → BothTold (S.left script.old) (S.left script.new) (λ _ b. b ≡ []) }
-    ensures read_fault { result ≡ Status.ReadFault → Rose (S.faults script.old) (S.faults script.new) }
+    ensures read_fault { result ≡ Status.ReadFault → Rose (F.faults files.old) (F.faults files.new) ⊎ Rose (S.faults script.old) (S.faults script.new) }
     ensures write_fault { result ≡ Status.WriteFault → Rose (K.faults out.old) (K.faults out.new) }
     ensures kinds { result ≢ Status.Usage }
 {
     let mut session = session;
+    let mut bytes = bytes;
     let mut steps = Script::new(alloc);
     loop {
         match steps.next(script) {
             Ok(None) => return Status::Done,
-            Ok(Some(step)) => match carry_out(&mut session, step, out) {
-                Written::Whole => {}
-                Written::Failed => return Status::WriteFault,
-                Written::NoMemory => return Status::NoMemory,
+            Ok(Some(step)) => match carry_out(alloc, &mut session, bytes, step, files, out) {
+                Ok(total) => bytes = total,
+                Err(status) => return status,
             },
             Err(ScriptFault::Refused { line, kind }) => {
                 return Status::ScriptRefused { line, kind };
@@ -181,24 +204,74 @@ fn run_script<S: Source, K: Sink>(
     }
 }
 
-// A session on a layer.
-fn run_session<S: Source, K: Sink>(
+// Opens a session on a world, and writes the reply to the opening.
+fn open_session<K: Sink>(alloc: Global, world: World, out: &mut K) -> Result<Session, Status>
+    ensures opened { IfOk result (λ session. (session ≡ opening world) × Appends (K.taken out.old) (K.taken out.new) (opening_text world)) }
+    ensures few { IfOk result (λ _. length (stage_after world []) ≤ most_paths) }
+    ensures outcome { (bytes : ℕ) (held : _) (size : _) (script : List ℕ) → IfErr result (λ status. EndsWith (session_course held size world bytes script) status (K.taken out.old) (K.taken out.new)) }
+    ensures later { K.faults out.old ≤ K.faults out.new }
+    ensures cause { result ≡ Err Status.WriteFault → Rose (K.faults out.old) (K.faults out.new) }
+    ensures calm { (result ≢ Err Status.ReadFault) × (result ≢ Err Status.Done) × (result ≢ Err Status.Usage) }
+{
+    let (session, reply) = match Session::open(alloc, world) {
+        Ok(opened) => opened,
+        Err(StageRefused::Full) => return Err(Status::StageFull),
+        Err(StageRefused::NoMemory) => return Err(Status::NoMemory),
+    };
+    match write_all(out, &reply) {
+        Written::Whole => Ok(session),
+        Written::Failed => Err(Status::WriteFault),
+        Written::NoMemory => Err(Status::NoMemory),
+    }
+}
+
+// A session on a world for which so many bytes were fetched.
+fn run_session<F: LayerFiles, S: Source, K: Sink>(
     alloc: Global,
-    root: &str,
-    layer: &FirstLayer,
+    loaded: Loaded,
+    files: &mut F,
     script: &mut S,
     out: &mut K,
 ) -> Status
-    requires shallow { nesting (layer_of layer.now) ≤ 64 }
-    ensures outcome { IfSome (S.left script.old) (λ all. (written : List ℕ) × LayerOutcome Verb.Session root.now (layer_of layer.now) all result written × Appends (K.taken out.old) (K.taken out.new) written) }
+    ensures outcome { ByFiles (F.files files.old) (λ held size. IfSome (S.left script.old) (λ all. EndsWith (session_course held size loaded.world loaded.bytes all) result (K.taken out.old) (K.taken out.new))) }
     ensures end { result ≡ Status.Done → BothTold (S.left script.old) (S.left script.new) (λ _ b. b ≡ []) }
-    ensures read_fault { result ≡ Status.ReadFault → Rose (S.faults script.old) (S.faults script.new) }
+    ensures read_fault { result ≡ Status.ReadFault → Rose (F.faults files.old) (F.faults files.new) ⊎ Rose (S.faults script.old) (S.faults script.new) }
     ensures write_fault { result ≡ Status.WriteFault → Rose (K.faults out.old) (K.faults out.new) }
     ensures kinds { result ≢ Status.Usage }
 {
-    match open_session(alloc, root, layer, out) {
-        Ok(session) => run_script(alloc, session, script, out),
+    let Loaded { world, bytes } = loaded;
+    match open_session(alloc, world, out) {
+        Ok(session) => run_script(alloc, session, bytes, files, script, out),
         Err(status) => status,
+    }
+}
+
+// Carries out a command.
+fn run_command<F: LayerFiles, S: Source, K: Sink>(
+    alloc: Global,
+    command: Command,
+    files: &mut F,
+    script: &mut S,
+    out: &mut K,
+) -> Status
+    ensures outcome { ByFiles (F.files files.old) (λ held size. (s : List ℕ) → IsScript (Some command) (S.left script.old) s → EndsWith (course held size (Some command) s) result (K.taken out.old) (K.taken out.new)) }
+    ensures end { command.verb ≡ verbs.Session → result ≡ Status.Done → BothTold (S.left script.old) (S.left script.new) (λ _ left. left ≡ []) }
+    ensures read_fault { result ≡ Status.ReadFault → Rose (F.faults files.old) (F.faults files.new) ⊎ Rose (S.faults script.old) (S.faults script.new) }
+    ensures write_fault { result ≡ Status.WriteFault → Rose (K.faults out.old) (K.faults out.new) }
+    ensures kinds { result ≢ Status.Usage }
+{
+    let Command {
+        verb,
+        root,
+        session,
+    } = command;
+    let loaded = match load_world(alloc, files, root, session) {
+        Ok(loaded) => loaded,
+        Err(fault) => return unopened(fault),
+    };
+    match verb {
+        Verb::Flatten => write_flat(alloc, &loaded.world, out),
+        Verb::Session => run_session(alloc, loaded, files, script, out),
     }
 }
 
@@ -215,32 +288,26 @@ pub fn run_tool<R, F: LayerFiles, S: Source, K: Sink, G: Gate + Sync>(
     out: &mut K,
     _gate: &G,
 ) -> Status
-    // What is answered has its cause, and what was written is the output or the front of it.
-    ensures outcome { IfSome (F.files files.old) (λ f. (s : List ℕ) → IsScript (command_of (map string_bytes words.now)) (S.left script.old) s
-        → (written : List ℕ) × IsOutcome (map string_bytes words.now) f s result written × Appends (K.taken out.old) (K.taken out.new) written) }
-    ensures usage { (result ≡ Status.Usage) ↔ (command_of (map string_bytes words.now) ≡ None) }
-    // A wrong command touches neither the files nor the script nor the sink.
-    ensures untouched { result ≡ Status.Usage → (files.new ≡ files.old) × (script.new ≡ script.old) × (out.new ≡ out.old) }
+    // What is answered and written is the course of the run; at a fault or want of memory the front of what it writes was written.
+    ensures outcome { ByFiles (F.files files.old) (λ held size. (s : List ℕ) → IsScript (command_of (map string_bytes words.now)) (S.left script.old) s
+        → EndsWith (course held size (command_of (map string_bytes words.now)) s) result (K.taken out.old) (K.taken out.new)) }
+    ensures usage { result ≡ Status.Usage → command_of (map string_bytes words.now) ≡ None }
+    // Words that are no command touch neither the files nor the script nor the sink.
+    ensures untouched { command_of (map string_bytes words.now) ≡ None → (files.new ≡ files.old) × (script.new ≡ script.old) × (out.new ≡ out.old) }
     // A session that is done has read its script to the end.
-    ensures end { (root : List ℕ) → command_of (map string_bytes words.now) ≡ Some (Verb.Session, root) → result ≡ Status.Done
-        → BothTold (S.left script.old) (S.left script.new) (λ _ left. left ≡ []) }
+    ensures end { IfSome (command_of (map string_bytes words.now)) (λ c. c.verb ≡ verbs.Session → result ≡ Status.Done
+        → BothTold (S.left script.old) (S.left script.new) (λ _ left. left ≡ [])) }
     ensures read_fault { result ≡ Status.ReadFault → Rose (F.faults files.old) (F.faults files.new) ⊎ Rose (S.faults script.old) (S.faults script.new) }
     ensures write_fault { result ≡ Status.WriteFault → Rose (K.faults out.old) (K.faults out.new) }
-    // Where nothing fails, the run ends as it should by the words, the files and the script, unless memory runs out.
-    ensures complete { IfSome (F.files files.old) (λ f. (s : List ℕ) → IsScript (command_of (map string_bytes words.now)) (S.left script.old) s
+    // Where nothing fails, the run ends as it is due by the words, the files and the script, unless memory runs out.
+    ensures complete { ByFiles (F.files files.old) (λ held size. (s : List ℕ) → IsScript (command_of (map string_bytes words.now)) (S.left script.old) s
         → (Rose (F.faults files.old) (F.faults files.new) → ⊥) → (Rose (S.faults script.old) (S.faults script.new) → ⊥) → (Rose (K.faults out.old) (K.faults out.new) → ⊥)
-        → EndsAsDue (map string_bytes words.now) f s result) }
+        → EndsAsDue (course held size (command_of (map string_bytes words.now)) s) result) }
 {
-    let Some((verb, root)) = command_of(words) else {
-        return Status::Usage;
-    };
-    let layer = match read_root(alloc, root, files) {
-        Ok(layer) => layer,
-        Err(status) => return status,
-    };
-    match verb {
-        Verb::Flatten => write_flat(alloc, root, &layer, out),
-        Verb::Session => run_session(alloc, root, &layer, script, out),
+    match command_of(alloc, words) {
+        Ok(Some(command)) => run_command(alloc, command, files, script, out),
+        Ok(None) => Status::Usage,
+        Err(_) => Status::NoMemory,
     }
 }
 
@@ -255,9 +322,10 @@ pub fn run_in_memory<R>(
 ) -> Status
     ensures no_read_fault { result ≢ Status.ReadFault }
     ensures no_write_fault { result ≢ Status.WriteFault }
-    ensures ends { EndsAsDue (map string_bytes words.now) (file_named files.old) script.old.left result }
-    ensures written { result ≡ Status.Done → (text : List ℕ) × IsCourse (map string_bytes words.now) (file_named files.old) script.old.left text Status.Done
-        × (out.new.taken ≡ out.old.taken ++ text) }
+    ensures ends { (held : _) → AreRead (file_named files.old) held
+        → EndsAsDue (course held (taken_at (file_named files.old)) (command_of (map string_bytes words.now)) script.old.left) result }
+    ensures written { (held : _) → AreRead (file_named files.old) held → result ≡ Status.Done
+        → out.new.taken ≡ out.old.taken ++ (course held (taken_at (file_named files.old)) (command_of (map string_bytes words.now)) script.old.left).text }
 {
     run_tool(rt, alloc, words, files, script, out, &FreeGate)
 }

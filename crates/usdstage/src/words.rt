@@ -1,8 +1,13 @@
 //! The words that are a command.
 
-ghost use Rattle.std.specs.Prelude.{◌≡◌, map, string_bytes};
+ghost use Rattle.std.specs.Prelude.{◌≡◌, IfOk, map, string_bytes};
 ghost use Rattle.std.specs.Option.{option_map};
-ghost use Rattle.usdstage.specs.Command.{is_root, verb_of, command_of};
+ghost use Rattle.script_words.specs.Words.{layer_named};
+ghost use Rattle.usdstage.specs.Command.{begins_with_dash, verb_of, blank, with_root, with_session, wanting, with_word, take_word, take_words, finished, command_of};
+
+use asset_names::AssetId;
+use script_words::{LineFault, layer_named};
+use std::alloc::{AllocError, Global};
 
 /// What a command asks for.
 #[derive(Clone, Copy, Debug, PartialEq, Eq)]
@@ -13,11 +18,21 @@ pub enum Verb {
     Session,
 }
 
-// Not empty, no option, and without `/`.
-fn is_root(name: &[u8]) -> bool
-    ensures { result ≡ is_root name.now }
-{
-    !name.is_empty() && name[0] != b'-' && !name.contains(&b'/')
+/// What is asked for, and the layers that the world is opened with.
+#[derive(Debug, Drop)]
+pub struct Command {
+    pub verb: Verb,
+    pub root: AssetId,
+    pub session: Option<AssetId>,
+}
+
+/// What was read of the words behind the first.
+#[derive(Debug, Drop)]
+pub struct Draft {
+    pub root: Option<AssetId>,
+    pub session: Option<AssetId>,
+    /// Whether the next word names the session layer.
+    pub wants_layer: bool,
 }
 
 // What the first word asks for.
@@ -33,19 +48,161 @@ fn verb_of(word: &str) -> Option<Verb>
     }
 }
 
-/// What is asked for and the root layer's name, where the words are a verb and that name.
-pub fn command_of(words: &[String]) -> Option<(Verb, &str)>
-    ensures { option_map (λ x. (x.0, x.1.now)) result ≡ command_of (map string_bytes words.now) }
+fn begins_with_dash(word: &[u8]) -> bool
+    ensures { result ≡ begins_with_dash word.now }
 {
-    if words.len() != 2 {
+    match word.first() {
+        Some(c) => *c == b'-',
+        None => false,
+    }
+}
+
+// The name of a layer that a word gives by itself.
+fn name_of(alloc: Global, word: &str) -> Result<Option<AssetId>, AllocError>
+    ensures { IfOk result (λ name. name ≡ layer_named word.now) }
+{
+    match layer_named(alloc, word) {
+        Ok(name) => Ok(Some(name)),
+        Err(LineFault::Bad) => Ok(None),
+        Err(LineFault::NoMemory) => Err(AllocError),
+    }
+}
+
+// The root is named.
+fn with_root(alloc: Global, draft: Draft, word: &str) -> Result<Option<Draft>, AllocError>
+    ensures { IfOk result (λ next. next ≡ with_root draft word.now) }
+{
+    if draft.root.is_some() {
+        return Ok(None);
+    }
+    match name_of(alloc, word)? {
+        Some(name) => Ok(Some(Draft {
+            root: Some(name),
+            session: draft.session,
+            wants_layer: false,
+        })),
+        None => Ok(None),
+    }
+}
+
+// The session layer is named.
+fn with_session(alloc: Global, draft: Draft, word: &str) -> Result<Option<Draft>, AllocError>
+    ensures { IfOk result (λ next. next ≡ with_session draft word.now) }
+{
+    if draft.session.is_some() {
+        return Ok(None);
+    }
+    match name_of(alloc, word)? {
+        Some(name) => Ok(Some(Draft {
+            root: draft.root,
+            session: Some(name),
+            wants_layer: false,
+        })),
+        None => Ok(None),
+    }
+}
+
+// The next word names the session layer.
+fn wanting(draft: Draft) -> Option<Draft>
+    ensures { result ≡ wanting draft }
+{
+    match draft.session {
+        Some(_) => None,
+        None => Some(Draft {
+            root: draft.root,
+            session: None,
+            wants_layer: true,
+        }),
+    }
+}
+
+// An option, or the root.
+fn with_word(alloc: Global, draft: Draft, word: &str) -> Result<Option<Draft>, AllocError>
+    ensures { IfOk result (λ next. next ≡ with_word draft word.now) }
+{
+    if word == "--session" {
+        return Ok(wanting(draft));
+    }
+    if let Some(name) = word.strip_prefix("--session=") {
+        return with_session(alloc, draft, name);
+    }
+    if begins_with_dash(word.as_bytes()) {
+        return Ok(None);
+    }
+    with_root(alloc, draft, word)
+}
+
+// One word more.
+#[tactic(auto, unfolding(crate::specs::Command::take_word))]
+fn take_word(alloc: Global, draft: Draft, word: &str) -> Result<Option<Draft>, AllocError>
+    ensures { IfOk result (λ next. next ≡ take_word draft word.now) }
+{
+    if !draft.wants_layer {
+        return with_word(alloc, draft, word);
+    }
+    if begins_with_dash(word.as_bytes()) {
+        return Ok(None);
+    }
+    with_session(alloc, draft, word)
+}
+
+// Word after word, from this one on.
+#[tactic(auto, unfolding(crate::specs::Command::take_words))]
+fn take_words(alloc: Global, words: &[String]) -> Result<Option<Draft>, AllocError>
+    ensures { IfOk result (λ draft. draft ≡ take_words blank (map string_bytes words.now)) }
+{
+    let mut draft = Draft {
+        root: None,
+        session: None,
+        wants_layer: false,
+    };
+    for word in words {
+        match take_word(alloc, draft, word.as_str())? {
+            Some(next) => draft = next,
+            None => return Ok(None),
+        }
+    }
+    Ok(Some(draft))
+}
+
+// The command of which all was read.
+fn finished(verb: Verb, draft: Draft) -> Option<Command>
+    ensures { result ≡ finished verb draft }
+{
+    let Draft {
+        root,
+        session,
+        wants_layer,
+    } = draft;
+    if wants_layer {
         return None;
     }
-    let root = words[1].as_str();
-    if !is_root(root.as_bytes()) {
-        return None;
-    }
-    match verb_of(words[0].as_str()) {
-        Some(verb) => Some((verb, root)),
+    match root {
+        Some(root) => Some(Command {
+            verb,
+            root,
+            session,
+        }),
         None => None,
+    }
+}
+
+/// The command that the words are, if they are one.
+///
+/// # Errors
+///
+/// Memory ran out.
+pub fn command_of(alloc: Global, words: &[String]) -> Result<Option<Command>, AllocError>
+    ensures { IfOk result (λ command. command ≡ command_of (map string_bytes words.now)) }
+{
+    if words.is_empty() {
+        return Ok(None);
+    }
+    let Some(verb) = verb_of(words[0].as_str()) else {
+        return Ok(None);
+    };
+    match take_words(alloc, &words[1..])? {
+        Some(draft) => Ok(finished(verb, draft)),
+        None => Ok(None),
     }
 }

@@ -1,14 +1,15 @@
-use Rattle.std.proofs.Common.{map}
+use Rattle.std.proofs.Common.{map, sym, ◌∙◌, ap, ◌++◌}
 use Rattle.std.specs.Prelude.{string_bytes}
 use Rattle.usdstage.specs.Command.{command_of}
 use Rattle.usdstage.proofs.Runs.{is_script, never_rose}
 use Rattle.usdstage.proofs.tool.run_in_memory.Goals as goal
 
 pub returns-clause-ends : goal.returns-clause-ends
-returns-clause-ends g c =
-    c.run_tool.ensures.complete c.args.script.now.left (is_script (command_of (map string_bytes c.args.words.now)) c.args.script.now.left) never_rose never_rose never_rose
+returns-clause-ends g c = λ held read.
+    c.run_tool.ensures.complete held read c.args.script.now.left (is_script (command_of (map string_bytes c.args.words.now)) c.args.script.now.left) never_rose never_rose never_rose
 
 pub returns-clause-written : goal.returns-clause-written
-returns-clause-written g c = λ done.
-    let o = c.run_tool.ensures.outcome c.args.script.now.left (is_script (command_of (map string_bytes c.args.words.now)) c.args.script.now.left) in
-    (o.0, rw done at o.1, o.2)
+returns-clause-written g c = λ held read done.
+    let o = c.run_tool.ensures.outcome held read c.args.script.now.left (is_script (command_of (map string_bytes c.args.words.now)) c.args.script.now.left) in
+    let ends = rw done at o.1 in
+    o.2 ∙ ap (λ t. c.args.out.now.taken ++ t) (sym ends.0)

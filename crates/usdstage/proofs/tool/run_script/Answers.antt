@@ -1,45 +1,62 @@
-use Rattle.std.proofs.Common.{refl, inl, inr, arith, Ok, Err, None}
+use Rattle.std.proofs.Common.{◌≡◌, ◌∙◌, refl, ap, sym, inl, inr, arith, Ok, Err, None, Some}
 use Rattle.session_script.specs.declared.faults.ScriptFault.TheVariants as faults
 use Rattle.usdstage.specs.declared.status.Status.TheVariants as status
-use Rattle.usdstage.proofs.Outcomes.{goes_on, breaks_off, gives_none}
+use Rattle.usdstage.specs.Course.{turn}
+use Rattle.usdstage.specs.Outcome.{Carries}
+use Rattle.usdstage.proofs.Carrying.{gives_none, goes_on, stops}
+use Rattle.usdstage.proofs.Files.{then_files, both_files, same_files, heard_on, heard_end}
 use Rattle.usdstage.proofs.tool.run_script.Goals as goal
 
 pub returns-in-Ok-None-clause-outcome : goal.returns-in-Ok-None-clause-outcome
 returns-in-Ok-None-clause-outcome g c =
     let n = rw c.in-Ok-None.field-0-is at c.in-Ok-None.ensures.answer in
-    gives_none (g.S.Source.left c.args.script.now) (g.S.Source.left c.loop-steps.script) (g.S.Source.left c.next.new.source) (g.K.Sink.taken c.args.out.now) (g.K.Sink.taken c.loop-steps.out)
-    c.args.session c.loop-steps.session c.loop-steps.steps c.next.new.self (Ok None) status.Done refl c.loop-steps.invariant.told n
+    then_files (g.F.LayerFiles.files c.args.files.now) _ _ c.loop-steps.invariant.told
+    (λ held size have. gives_none held size c.args.session c.loop-steps.session c.args.bytes c.loop-steps.bytes c.loop-steps.steps c.next.new.self (Ok None) status.Done (g.S.Source.left c.args.script.now) (g.S.Source.left c.loop-steps.script) (g.S.Source.left c.next.new.source) (g.K.Sink.taken c.args.out.now) (g.K.Sink.taken c.loop-steps.out) refl have n)
+
+pub returns-in-Ok-None-clause-end : goal.returns-in-Ok-None-clause-end
+returns-in-Ok-None-clause-end g c =
+    let n = rw c.in-Ok-None.field-0-is at c.in-Ok-None.ensures.end in
+    λ e. heard_end (g.S.Source.left c.args.script.now) (g.S.Source.left c.loop-steps.script) (g.S.Source.left c.next.new.source) c.loop-steps.invariant.heard (n refl)
 
 pub loop-steps-preserved : goal.loop-steps-preserved
 loop-steps-preserved g c =
     let i = c.loop-steps.invariant in
-    let f = c.in-Ok-Some.field-0-is in
-    let n = rw f at c.in-Ok-Some.ensures.answer in
-    let w = c.in-Whole.ensures.whole refl in
+    let n = rw c.in-Ok-Some.field-0-is at c.in-Ok-Some.ensures.answer in
     record {
-      told = goes_on (g.S.Source.left c.args.script.now) (g.S.Source.left c.loop-steps.script) (g.S.Source.left c.next.new.source) (g.K.Sink.taken c.args.out.now) (g.K.Sink.taken c.loop-steps.out) (g.K.Sink.taken c.carry_out.new.out)
-          c.args.session c.loop-steps.session c.carry_out.new.session c.loop-steps.steps c.next.new.self c.in-Ok-Some.step i.told n w.0 w.1;
+      told = both_files (g.F.LayerFiles.files c.args.files.now) _ _ _ i.told (same_files (g.F.LayerFiles.files c.args.files.now) (g.F.LayerFiles.files c.loop-steps.files) (λ held size. Carries (Ok c.in-Ok.total) c.carry_out.new.session (turn held size c.loop-steps.session c.loop-steps.bytes c.in-Ok-Some.step) (g.K.Sink.taken c.loop-steps.out) (g.K.Sink.taken c.carry_out.new.out)) i.same c.in-Ok.ensures.carried)
+          (λ held size have carried. goes_on held size c.args.session c.loop-steps.session c.carry_out.new.session c.args.bytes c.loop-steps.bytes c.in-Ok.total c.loop-steps.steps c.next.new.self c.in-Ok-Some.step (g.S.Source.left c.args.script.now) (g.S.Source.left c.loop-steps.script) (g.S.Source.left c.next.new.source) (g.K.Sink.taken c.args.out.now) (g.K.Sink.taken c.loop-steps.out) (g.K.Sink.taken c.carry_out.new.out) have n carried);
+      heard = heard_on (g.S.Source.left c.args.script.now) (g.S.Source.left c.loop-steps.script) (g.S.Source.left c.next.new.source) _ i.heard n;
+      same = c.in-Ok.ensures.same ∙ i.same;
+      files_later = omega (arith, i.files_later, c.in-Ok.ensures.later.0);
       read_later = omega (arith, i.read_later, c.in-Ok-Some.ensures.later);
-      write_later = omega (arith, i.write_later, c.in-Whole.ensures.later);
+      write_later = omega (arith, i.write_later, c.in-Ok.ensures.later.1);
     }
 
-pub returns-in-Failed-clause-outcome : goal.returns-in-Failed-clause-outcome
-returns-in-Failed-clause-outcome g c =
+pub returns-in-Err-clause-outcome : goal.returns-in-Err-clause-outcome
+returns-in-Err-clause-outcome g c =
+    let i = c.loop-steps.invariant in
     let n = rw c.in-Ok-Some.field-0-is at c.in-Ok-Some.ensures.answer in
-    let front = c.in-Failed.ensures.front in
-    breaks_off (g.S.Source.left c.args.script.now) (g.S.Source.left c.loop-steps.script) (g.S.Source.left c.next.new.source) (g.K.Sink.taken c.args.out.now) (g.K.Sink.taken c.loop-steps.out) (g.K.Sink.taken c.carry_out.new.out)
-    c.args.session c.loop-steps.session c.loop-steps.steps c.next.new.self c.in-Ok-Some.step front.0 status.WriteFault (inl refl) c.loop-steps.invariant.told n front.1
+    both_files (g.F.LayerFiles.files c.args.files.now) _ _ _ i.told (same_files (g.F.LayerFiles.files c.args.files.now) (g.F.LayerFiles.files c.loop-steps.files) (λ held size. Carries (Err c.in-Err.status) c.carry_out.new.session (turn held size c.loop-steps.session c.loop-steps.bytes c.in-Ok-Some.step) (g.K.Sink.taken c.loop-steps.out) (g.K.Sink.taken c.carry_out.new.out)) i.same c.in-Err.ensures.carried)
+    (λ held size have carried. stops held size c.args.session c.loop-steps.session c.carry_out.new.session c.args.bytes c.loop-steps.bytes c.loop-steps.steps c.next.new.self c.in-Ok-Some.step c.in-Err.status (g.S.Source.left c.args.script.now) (g.S.Source.left c.loop-steps.script) (g.S.Source.left c.next.new.source) (g.K.Sink.taken c.args.out.now) (g.K.Sink.taken c.loop-steps.out) (g.K.Sink.taken c.carry_out.new.out) have n carried)
 
-pub returns-in-NoMemory-clause-outcome : goal.returns-in-NoMemory-clause-outcome
-returns-in-NoMemory-clause-outcome g c =
-    let n = rw c.in-Ok-Some.field-0-is at c.in-Ok-Some.ensures.answer in
-    let front = c.in-NoMemory.ensures.front in
-    breaks_off (g.S.Source.left c.args.script.now) (g.S.Source.left c.loop-steps.script) (g.S.Source.left c.next.new.source) (g.K.Sink.taken c.args.out.now) (g.K.Sink.taken c.loop-steps.out) (g.K.Sink.taken c.carry_out.new.out)
-    c.args.session c.loop-steps.session c.loop-steps.steps c.next.new.self c.in-Ok-Some.step front.0 status.NoMemory (inr refl) c.loop-steps.invariant.told n front.1
+pub returns-in-Err-clause-end : goal.returns-in-Err-clause-end
+returns-in-Err-clause-end g c = λ e. absurd (c.in-Err.ensures.calm.0 (ap Err e))
 
 pub returns-in-Err-Refused-clause-outcome : goal.returns-in-Err-Refused-clause-outcome
 returns-in-Err-Refused-clause-outcome g c =
-    let n = rw c.in-Err-Refused.field-0-is at c.in-Err-Refused.ensures.answer in
-    let told = gives_none (g.S.Source.left c.args.script.now) (g.S.Source.left c.loop-steps.script) (g.S.Source.left c.next.new.source) (g.K.Sink.taken c.args.out.now) (g.K.Sink.taken c.loop-steps.out)
-    c.args.session c.loop-steps.session c.loop-steps.steps c.next.new.self (Err (faults.Refused c.in-Err-Refused.line c.in-Err-Refused.kind)) (status.ScriptRefused c.in-Err-Refused.line c.in-Err-Refused.kind) refl c.loop-steps.invariant.told n in
+    let n = rw (c.in-Err-Refused.field-0-is) at c.in-Err-Refused.ensures.answer in
+    let told = then_files (g.F.LayerFiles.files c.args.files.now) _ _ c.loop-steps.invariant.told
+    (λ held size have. gives_none held size c.args.session c.loop-steps.session c.args.bytes c.loop-steps.bytes c.loop-steps.steps c.next.new.self (Err (faults.Refused c.in-Err-Refused.line c.in-Err-Refused.kind)) (status.ScriptRefused c.in-Err-Refused.line c.in-Err-Refused.kind) (g.S.Source.left c.args.script.now) (g.S.Source.left c.loop-steps.script) (g.S.Source.left c.next.new.source) (g.K.Sink.taken c.args.out.now) (g.K.Sink.taken c.loop-steps.out) refl have n) in
     rw (c.in-Err-Refused.line-is, c.in-Err-Refused.kind-is) told
+
+pub returns-in-Err-ReadFault-clause-outcome : goal.returns-in-Err-ReadFault-clause-outcome
+returns-in-Err-ReadFault-clause-outcome g c =
+    let n = rw c.in-Err-ReadFault.field-0-is at c.in-Err-ReadFault.ensures.answer in
+    then_files (g.F.LayerFiles.files c.args.files.now) _ _ c.loop-steps.invariant.told
+    (λ held size have. gives_none held size c.args.session c.loop-steps.session c.args.bytes c.loop-steps.bytes c.loop-steps.steps c.next.new.self (Err faults.ReadFault) status.ReadFault (g.S.Source.left c.args.script.now) (g.S.Source.left c.loop-steps.script) (g.S.Source.left c.next.new.source) (g.K.Sink.taken c.args.out.now) (g.K.Sink.taken c.loop-steps.out) refl have n)
+
+pub returns-in-Err-NoMemory-clause-outcome : goal.returns-in-Err-NoMemory-clause-outcome
+returns-in-Err-NoMemory-clause-outcome g c =
+    let n = rw c.in-Err-NoMemory.field-0-is at c.in-Err-NoMemory.ensures.answer in
+    then_files (g.F.LayerFiles.files c.args.files.now) _ _ c.loop-steps.invariant.told
+    (λ held size have. gives_none held size c.args.session c.loop-steps.session c.args.bytes c.loop-steps.bytes c.loop-steps.steps c.next.new.self (Err faults.NoMemory) status.NoMemory (g.S.Source.left c.args.script.now) (g.S.Source.left c.loop-steps.script) (g.S.Source.left c.next.new.source) (g.K.Sink.taken c.args.out.now) (g.K.Sink.taken c.loop-steps.out) refl have n)

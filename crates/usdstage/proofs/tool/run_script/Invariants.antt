@@ -1,14 +1,16 @@
-use Rattle.std.proofs.Common.{◌≤◌, ◌-◌}
+use Rattle.std.proofs.Common.{◌≡◌, ◌≤◌, ◌-◌}
 use Rattle.session_script.specs.Told.{BothTold}
-use Rattle.session_script.specs.States.{steps_left}
-use Rattle.session_script.specs.Reading.{steps_of}
-use Rattle.usdstage.proofs.Outcomes.{Reached}
+use Rattle.usdstage.specs.Outcome.{ByFiles}
+use Rattle.usdstage.proofs.Carrying.{Stands}
 use Rattle.usdstage.proofs.tool.run_script.Given as goal
 
 abbrev pub invariant-loop-steps : goal.invariant-loop-steps
 invariant-loop-steps g l = record {
-  told : BothTold (g.S.Source.left l.initial.script) (g.S.Source.left l.script)
-      (λ all rest. Reached l.initial.session l.session (steps_of all) (steps_left l.steps rest) (g.K.Sink.taken l.initial.out) (g.K.Sink.taken l.out));
+  told : ByFiles (g.F.LayerFiles.files l.initial.files)
+      (λ held size. Stands held size l.initial.session l.session l.initial.bytes l.bytes l.steps (g.S.Source.left l.initial.script) (g.S.Source.left l.script) (g.K.Sink.taken l.initial.out) (g.K.Sink.taken l.out));
+  heard : BothTold (g.S.Source.left l.initial.script) (g.S.Source.left l.script) (λ _ _. Unit {0});
+  same : g.F.LayerFiles.files l.files ≡ g.F.LayerFiles.files l.initial.files;
+  files_later : g.F.LayerFiles.faults l.initial.files ≤ g.F.LayerFiles.faults l.files;
   read_later : g.S.Source.faults l.initial.script ≤ g.S.Source.faults l.script;
   write_later : g.K.Sink.faults l.initial.out ≤ g.K.Sink.faults l.out;
 }

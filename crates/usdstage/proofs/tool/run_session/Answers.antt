@@ -1,12 +1,17 @@
-use Rattle.first_layer.specs.Layer.{layer_of}
-use Rattle.usdstage.proofs.Runs.{opened_told, opening_told}
+use Rattle.std.proofs.Common.{ap, Err}
+use Rattle.usdstage.proofs.Runs.{session_told, session_ended}
 use Rattle.usdstage.proofs.tool.run_session.Goals as goal
 
 pub returns-in-Ok-clause-outcome : goal.returns-in-Ok-clause-outcome
 returns-in-Ok-clause-outcome g c =
-    opened_told (g.S.Source.left c.args.script.now) c.args.root.now (layer_of c.args.layer.now) c.in-Ok.session c.run_script.result _ _ _ c.in-Ok.ensures.opened.0 c.in-Ok.ensures.opened.1 c.run_script.ensures.outcome
+    session_told (g.F.LayerFiles.files c.args.files.now) (g.S.Source.left c.args.script.now) _ _ _ c.args.loaded.world c.args.loaded.bytes c.in-Ok.session c.run_script.result c.in-Ok.ensures.opened.0 c.in-Ok.ensures.few c.in-Ok.ensures.opened.1 c.run_script.ensures.outcome
 
 pub returns-in-Err-clause-outcome : goal.returns-in-Err-clause-outcome
 returns-in-Err-clause-outcome g c =
-    let front = c.in-Err.ensures.front in
-    opening_told (g.S.Source.left c.args.script.now) c.args.root.now (layer_of c.args.layer.now) c.in-Err.status front.1 _ _ front.0 front.2
+    session_ended (g.F.LayerFiles.files c.args.files.now) (g.S.Source.left c.args.script.now) _ _ c.args.loaded.world c.args.loaded.bytes c.in-Err.status c.in-Err.ensures.outcome
+
+pub returns-in-Err-clause-end : goal.returns-in-Err-clause-end
+returns-in-Err-clause-end g c = λ e. absurd (c.in-Err.ensures.calm.1 (ap Err e))
+
+pub returns-in-Err-clause-read_fault : goal.returns-in-Err-clause-read_fault
+returns-in-Err-clause-read_fault g c = λ e. absurd (c.in-Err.ensures.calm.0 (ap Err e))

@@ -1,4 +1,0 @@
-pub mod Counting
-pub mod Defining
-pub mod Naming
-pub mod Standing

@@ -1,3 +1,0 @@
-pub mod Forest
-pub mod Layer
-pub mod Names

@@ -1,4 +1,0 @@
-pub mod Publishing
-pub mod Replies
-pub mod Shows
-pub mod Texts

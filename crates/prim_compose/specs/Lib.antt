@@ -1,0 +1,8 @@
+pub mod Activity
+pub mod Composed
+pub mod Laws
+pub mod Listing
+pub mod Properties
+pub mod Room
+pub mod Root
+pub mod Viewed

@@ -1,0 +1,149 @@
+// The names of children: those that a path can have, and those whose paths would pass a limit.
+ghost use Rattle.std.specs.Prelude.{◌≡◌, ◌++◌, ◌∷◌, [], true, false, map, Some, IfOk, OnOk};
+ghost use Rattle.std.specs.List.{list_all};
+ghost use Rattle.composition.specs.Faults.{child_too_long};
+ghost use Rattle.composition.specs.Fields.{listed_children, unlisted_children, is_false};
+ghost use Rattle.composition.specs.Paths.{limits};
+ghost use Rattle.field_resolve.specs.Folding.{meta_on};
+ghost use Rattle.sdf_paths.specs.Paths.{is_prim_name, IsPath};
+ghost use Rattle.prim_compose.specs.Activity.{active_key, says_inactive};
+ghost use Rattle.prim_compose.specs.Viewed.{active_names};
+ghost use Rattle.prim_compose.specs.Room.{bytes_left, room_of, has_room, listed_in, too_long_in};
+
+use field_resolve::child_names_of;
+use plain_data::{Items, Text, copy};
+use prim_opinions::SaidAt;
+use prim_view::PrimFault;
+use sdf_paths::Path;
+use sdf_values::Value;
+use spec_properties::Meta;
+use std::alloc::{AllocError, Global};
+
+/// How many names of prims a path has at most.
+const MAX_NAMES: usize = 64;
+
+/// How many bytes a path has at most in print.
+const MAX_BYTES: usize = 4096;
+
+/// The children that a place lists, and a fault for each whose path would pass a limit.
+#[derive(Drop)]
+pub struct Children {
+    pub names: Items<Text>,
+    pub faults: Items<PrimFault>,
+}
+
+/// How many bytes a path leaves for what stands below it.
+fn bytes_left(place: &Path) -> Result<usize, AllocError>
+    ensures left { IfOk result (λ left. left ≡ bytes_left place.now) }
+    ensures path { OnOk result (IsPath place.now) }
+{
+    let elements = place.elements();
+    if elements.is_empty() {
+        return Ok(MAX_BYTES);
+    }
+    let text = place.print()?;
+    Ok(MAX_BYTES - text.len())
+}
+
+/// The room that a path leaves for the name of a child: none where no child fits, else one more than the bytes of the longest name.
+fn room_below(place: &Path) -> Result<usize, AllocError>
+    ensures room { IfOk result (λ room. room ≡ room_of place.now) }
+    ensures path { OnOk result (IsPath place.now) }
+{
+    let left = bytes_left(place)?;
+    if place.depth() >= MAX_NAMES {
+        return Ok(0);
+    }
+    Ok(left)
+}
+
+/// Whether a name fits.
+fn has_room(room: usize, name: &Text) -> bool
+    ensures { result ≡ has_room room name.now }
+{
+    name.len() < room
+}
+
+/// The names that fit.
+fn listed_in(alloc: Global, room: usize, names: &[Text]) -> Result<Items<Text>, AllocError>
+    ensures { IfOk result (λ listed. listed ≡ listed_in room names.now) }
+{
+    let mut listed = Items::new(alloc);
+    for name in names {
+        if has_room(room, name) {
+            listed.push(copy(name)?)?;
+        }
+    }
+    Ok(listed)
+}
+
+/// A fault for each name that does not fit.
+fn too_long_in(alloc: Global, room: usize, names: &[Text]) -> Result<Items<PrimFault>, AllocError>
+    ensures { IfOk result (λ faults. faults ≡ too_long_in room names.now) }
+{
+    let mut faults = Items::new(alloc);
+    for name in names {
+        if !has_room(room, name) {
+            faults.push(PrimFault::ChildTooLong(copy(name)?))?;
+        }
+    }
+    Ok(faults)
+}
+
+/// The children of these names below a prim of the stage or `/`.
+pub fn children_below(alloc: Global, place: &Path, names: &[Text]) -> Result<Children, AllocError>
+    requires { list_all is_prim_name place.now ≡ true }
+    ensures names { IfOk result (λ children. children.names ≡ listed_children limits place.now names.now) }
+    ensures faults { IfOk result (λ children. children.faults ≡ map child_too_long (unlisted_children limits place.now names.now)) }
+{
+    let room = room_below(place)?;
+    Ok(Children {
+        names: listed_in(alloc, room, names)?,
+        faults: too_long_in(alloc, room, names)?,
+    })
+}
+
+/// Whether a value is `false`.
+fn is_false(value: &Value) -> bool
+    ensures { result ≡ is_false (Some value.now) }
+{
+    match value {
+        Value::Bool(value) => !*value,
+        _ => false,
+    }
+}
+
+/// The key of what says whether a prim is active.
+#[tactic(auto, unfolding(crate::specs::Activity::active_key))]
+fn active_key(alloc: Global) -> Result<Text, AllocError>
+    ensures { IfOk result (λ key. key ≡ active_key) }
+{
+    Text::of(alloc, "active")
+}
+
+/// Whether metadata says that its prim is not active.
+fn is_inactive(alloc: Global, meta: &Meta) -> Result<bool, AllocError>
+    ensures { IfOk result (λ inactive. inactive ≡ says_inactive meta.now) }
+{
+    let key = active_key(alloc)?;
+    match meta.get(&key) {
+        Some(value) => Ok(is_false(value)),
+        None => Ok(false),
+    }
+}
+
+/// The names of the children that opinions give, each once, in their order; none of a prim that is not active.
+pub fn active_names(
+    alloc: Global,
+    meta: &Meta,
+    said: &[SaidAt<'_, '_>],
+) -> Result<Items<Text>, AllocError>
+    requires { meta.now ≡ meta_on said.now }
+    ensures { IfOk result (λ names. names ≡ active_names said.now) }
+{
+    let inactive = is_inactive(alloc, meta)?;
+    if inactive {
+        return Ok(Items::new(alloc));
+    }
+    child_names_of(alloc, said)
+}

@@ -1,0 +1,176 @@
+ghost use Rattle.std.specs.Prelude.{◌≡◌, ◌++◌, true, IfOk};
+ghost use Rattle.std.specs.List.{list_all};
+ghost use Rattle.composition.specs.Paths.{limits};
+ghost use Rattle.composition.specs.Views.{empty_view};
+ghost use Rattle.layer_set.specs.LookUps.{look_ups};
+ghost use Rattle.layer_set.specs.Rules.{IsStagePrim};
+ghost use Rattle.prim_index.specs.Answer.{index_at, faults_in};
+ghost use Rattle.sdf_paths.specs.Paths.{is_prim_name};
+ghost use Rattle.prim_compose.specs.Composed.{faults_once};
+ghost use Rattle.prim_compose.specs.Listing.{entry_at};
+ghost use Rattle.prim_compose.specs.Viewed.{index_in, seen, seen_by};
+
+use crate::children::{active_names, children_below};
+use crate::faults::faults_after;
+use crate::lists::{copied, push_all};
+use crate::properties::properties_of;
+use crate::root::root_view;
+use field_resolve::{PrimFields, fields_of};
+use layer_set::World;
+use plain_data::{Items, Text, copy};
+use prim_index::{PrimIndex, index};
+use prim_opinions::{SaidAt, opinions_on};
+use prim_view::{Choices, PrimFault, PrimView, PropertyView, Site};
+use sdf_paths::Path;
+use sdf_specs::Specifier;
+use spec_tables::OrderedTable;
+use std::alloc::{AllocError, Global};
+
+/// The view that has nothing but faults.
+fn bare_view(alloc: Global, faults: Items<PrimFault>) -> PrimView
+    ensures { result ≡ record empty_view { faults = faults } }
+{
+    PrimView {
+        specifier: Specifier::Over,
+        type_name: None,
+        meta: OrderedTable::new(alloc),
+        api_schemas: None,
+        clip_sets: None,
+        properties: Items::new(alloc),
+        children: Items::new(alloc),
+        choices: Items::new(alloc),
+        sites: Items::new(alloc),
+        faults,
+        since: 0,
+    }
+}
+
+/// The faults of a prim: those of its index, of its properties and of its children, each once.
+fn all_faults(
+    alloc: Global,
+    index: &PrimIndex,
+    properties: &[PrimFault],
+    children: &[PrimFault],
+) -> Result<Items<PrimFault>, AllocError>
+    ensures { IfOk result (λ faults. faults ≡ faults_once ((faults_in index.now ++ properties.now) ++ children.now)) }
+{
+    let mut faults = copied(alloc, index.faults())?;
+    push_all(&mut faults, properties)?;
+    faults_after(alloc, faults, children)
+}
+
+/// A view of these parts.
+fn joined(
+    fields: PrimFields,
+    properties: Items<PropertyView>,
+    children: Items<Text>,
+    choices: Choices,
+    sites: Items<Site>,
+    faults: Items<PrimFault>,
+) -> PrimView
+    ensures { result ≡ record { specifier = fields.specifier; type_name = fields.type_name; meta = fields.meta; api_schemas = fields.api_schemas; clip_sets = fields.clip_sets; properties = properties; children = children; choices = choices; sites = sites; faults = faults; since = 0 } }
+{
+    PrimView {
+        specifier: fields.specifier,
+        type_name: fields.type_name,
+        meta: fields.meta,
+        api_schemas: fields.api_schemas,
+        clip_sets: fields.clip_sets,
+        properties,
+        children,
+        choices,
+        sites,
+        faults,
+        since: 0,
+    }
+}
+
+/// The view of a prim of the stage, by its index and the opinions on it.
+fn view_from(
+    alloc: Global,
+    place: &Path,
+    index: &PrimIndex,
+    said: &[SaidAt<'_, '_>],
+) -> Result<PrimView, AllocError>
+    requires { list_all is_prim_name place.now ≡ true }
+    ensures { IfOk result (λ view. view ≡ seen place.now (index_in index.now) said.now) }
+{
+    let fields = fields_of(alloc, said)?;
+    let properties = properties_of(alloc, said)?;
+    let names = active_names(alloc, &fields.meta, said)?;
+    let children = children_below(alloc, place, names.as_slice())?;
+    let faults = all_faults(
+        alloc,
+        index,
+        properties.faults.as_slice(),
+        children.faults.as_slice(),
+    )?;
+    let choices = copy(index.choices())?;
+    let sites = copied(alloc, index.sites())?;
+    Ok(joined(
+        fields,
+        properties.views,
+        children.names,
+        choices,
+        sites,
+        faults,
+    ))
+}
+
+/// The view of a prim of the stage, by its index.
+fn view_by(
+    alloc: Global,
+    world: &World,
+    place: &Path,
+    index: &PrimIndex,
+) -> Result<PrimView, AllocError>
+    requires { list_all is_prim_name place.now ≡ true }
+    ensures { IfOk result (λ view. view ≡ seen_by (look_ups world.now) place.now index.now) }
+{
+    if index.is_overgrown() {
+        let faults = copied(alloc, index.faults())?;
+        return Ok(bare_view(alloc, faults));
+    }
+    let said = opinions_on(alloc, world, index.sites())?;
+    view_from(alloc, place, index, said.as_slice())
+}
+
+/// The view of a prim of the stage.
+fn prim_view(alloc: Global, world: &World, place: &Path) -> Result<PrimView, AllocError>
+    requires plain { list_all is_prim_name place.now ≡ true }
+    requires prim { IsStagePrim place.now }
+    ensures { IfOk result (λ view. view ≡ seen_by (look_ups world.now) place.now (index_at limits (look_ups world.now) place.now)) }
+{
+    let index = index(alloc, world, place)?;
+    view_by(alloc, world, place, &index)
+}
+
+/// Whether a path has names of prims alone.
+fn has_prims_alone(path: &Path) -> bool
+    ensures { result ≡ list_all is_prim_name path.now }
+{
+    if path.is_property() {
+        return false;
+    }
+    path.is_plain()
+}
+
+/// The composed view of a path: the fields, properties and children of the prim that stands there, the sites and choices that it is
+/// composed of, and the faults that were found, each once. `/` has the metadata of the session and the root layer, the root prims,
+/// and the faults of the root's sublayers. A path of no prim of the stage, as that of a property or one with variant selections, has
+/// nothing.
+///
+/// # Errors
+///
+/// Memory ran out, or a fault names a property whose path would be none.
+pub fn compose_prim(alloc: Global, world: &World, path: &Path) -> Result<PrimView, AllocError>
+    ensures { IfOk result (λ view. view ≡ entry_at world.now path.now) }
+{
+    if path.is_root() {
+        return root_view(alloc, world);
+    }
+    if has_prims_alone(path) {
+        return prim_view(alloc, world, path);
+    }
+    Ok(bare_view(alloc, Items::new(alloc)))
+}

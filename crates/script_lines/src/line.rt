@@ -1,0 +1,22 @@
+use asset_names::AssetId;
+use layer_edit::Op;
+use stage_questions::Question;
+
+/// A line of a script, read for itself.
+#[derive(Debug, Drop)]
+pub enum Line {
+    /// Blanks, or a comment.
+    Blank,
+    /// `begin`: operations follow.
+    Begin,
+    /// An operation.
+    Change(Op),
+    /// `commit`: the operations since `begin` are a batch.
+    Commit,
+    /// `open`: the layer is put as its file gives it.
+    Open(AssetId),
+    /// `publish`.
+    Publish,
+    /// A question.
+    Ask(Question),
+}

@@ -1,0 +1,3 @@
+mod Named
+mod Utf8
+mod ReadAlone

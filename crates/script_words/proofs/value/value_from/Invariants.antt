@@ -1,0 +1,10 @@
+use Rattle.std.proofs.Common.{◌≡◌, ◌-◌, length}
+use Rattle.usda_lexer.specs.Words.{left}
+use Rattle.script_words.specs.Values.{of_all, value_from}
+use Rattle.script_words.proofs.value.value_from.Given as goal
+
+abbrev pub invariant-loop-token : goal.invariant-loop-token
+invariant-loop-token l = of_all (value_from l.base l.value) (left l.tokens) ≡ of_all (value_from l.base l.initial.value) (left l.initial.tokens)
+
+abbrev pub decreases-loop-token : goal.decreases-loop-token
+decreases-loop-token l = length l.tokens.source - l.tokens.at

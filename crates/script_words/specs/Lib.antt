@@ -1,0 +1,7 @@
+pub mod Answers
+pub mod Words
+pub mod Values
+pub mod Places
+pub mod Lists
+pub mod Repeats
+pub mod Laws

@@ -1,0 +1,6 @@
+//! The composer of stages: prims of worlds of layers, and the batches that edit such worlds.
+#![tactic(auto)]
+
+mod composer;
+
+pub use composer::UsdComposer;
