@@ -86,7 +86,7 @@ too_long_below f items pushed old first xs i most x kept added found many =
     let now : items ++ f x ≡ pushed ++ flat_map f (take (i + 1) xs) = walk_goes_on f items pushed (items ++ f x) xs i x kept refl found in
     let parts : flat_map f (take (i + 1) xs) ++ flat_map f (drop (i + 1) xs) ≡ flat_map f xs = sym (flat_map-append f (take (i + 1) xs) (drop (i + 1) xs)) ∙ ap (flat_map f) (take-append-drop (i + 1) xs) in
     let whole : (pushed ++ flat_map f (take (i + 1) xs)) ++ flat_map f (drop (i + 1) xs) ≡ old ++ first ∷ flat_map f xs =
-        append_assoc pushed (flat_map f (take (i + 1) xs)) (flat_map f (drop (i + 1) xs))
-        ∙ (ap (λ y. pushed ++ y) parts ∙ (ap (λ y. y ++ flat_map f xs) added ∙ append_assoc old (first ∷ []) (flat_map f xs))) in
+    append_assoc pushed (flat_map f (take (i + 1) xs)) (flat_map f (drop (i + 1) xs))
+    ∙ (ap (λ y. pushed ++ y) parts ∙ (ap (λ y. y ++ flat_map f xs) added ∙ append_assoc old (first ∷ []) (flat_map f xs))) in
     let less : length (items ++ f x) ≤ length (old ++ first ∷ flat_map f xs) = rw now (rw (← whole) (at_least (pushed ++ flat_map f (take (i + 1) xs)) (flat_map f (drop (i + 1) xs)))) in
     omega (arith, many, less)

@@ -15,8 +15,6 @@ mod prims;
 mod properties;
 mod property_changes;
 mod spec_changes;
-#[cfg(test)]
-mod tests;
 mod typing;
 mod written;
 

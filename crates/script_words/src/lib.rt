@@ -20,6 +20,6 @@ pub use place::{ItemForm, ListPlace};
 pub use repeats::{first_paths, first_references, first_texts};
 pub use value::value_in;
 pub use words::{
-    behind_word, ended, flag_at, is_end, layer_at, layer_named, name_at, number_at, path_at, text_at,
-    tokens_of,
+    behind_word, ended, flag_at, is_end, layer_at, layer_named, name_at, number_at, path_at,
+    text_at, tokens_of,
 };

@@ -16,10 +16,7 @@ use stage_publish::Edition;
 use std::alloc::Global;
 
 // The stage of a world.
-fn stage_of_world(
-    alloc: Global,
-    world: &World,
-) -> Result<Items<(Path, PrimView)>, StageRefused>
+fn stage_of_world(alloc: Global, world: &World) -> Result<Items<(Path, PrimView)>, StageRefused>
     ensures stage { IfOk result (λ items. items ≡ stage_after world.now []) }
     ensures few { IfOk result (λ items. length items ≤ most_paths) }
     ensures full { result ≡ Err StageRefused.Full → most_paths < length (stage_after world.now []) }

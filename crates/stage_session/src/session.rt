@@ -170,7 +170,13 @@ impl Session {
         ensures { IfOk result (λ text. text.items ≡ question_reply self.now question.now) }
     {
         let mut text = Vec::new(self.alloc);
-        push_answer(self.alloc, &mut text, &self.root, &self.shown.view(), question)?;
+        push_answer(
+            self.alloc,
+            &mut text,
+            &self.root,
+            &self.shown.view(),
+            question,
+        )?;
         Ok(text)
     }
 }
