@@ -1,0 +1,105 @@
+#!/usr/bin/env python3
+"""Runs the built program over small scenes, each with the answers that the rules of composition and of sessions give it."""
+import os
+import subprocess
+import sys
+import tempfile
+
+TOP = os.path.dirname(os.path.dirname(os.path.abspath(__file__)))
+FIRST = "#usda 1.0\n"
+CHAIN = "".join(f'def "c{i}" (references = </c{i + 1}>) {{}}\n' for i in range(64))
+MANY = "(subLayers = [" + ", ".join(f"@s{i}.usda@" for i in range(4095)) + "])"
+
+# name, layers, script, number of prims at the opening, what is written behind the reply to the opening
+SCENES = [
+    ("a removal that is done twice", {"root": 'def "A" { def "B" { int x = 1 } }'},
+     "begin\nremove @root.usda@ /A/B\nremove @root.usda@ /A/B\ncommit\npublish\nbegin\nremove @root.usda@ /A/B\ncommit\npublish\nchildren /A\ndefault /A/B.x\n", 2,
+     "batch refused: op 2 NoSpec\npublished 1: batches 0, prims 2\nbatch 1 accepted\npublished 2: batches 1, prims 1\nchildren /A: []\ndefault /A/B.x: NoPrim\n"),
+    ("a class looked up across a reference", {"root": 'class "_class" { int x = 5 } def "World" { def "char" (references = @m.usda@</Model>) {} }', "m": 'class "_class" { int x = 3 } def "Model" (inherits = </_class>) { int x = 4 }'},
+     "default /World/char.x\nsites /World/char\n", 3,
+     "default /World/char.x: 5\nsites /World/char: 4\n  @root.usda@ /World/char\n  @root.usda@ /_class\n  @m.usda@ /Model\n  @m.usda@ /_class\n"),
+    ("the same with specializes", {"root": 'class "_class" { int x = 5 } def "World" { def "char" (references = @m.usda@</Model>) {} }', "m": 'class "_class" { int x = 3 } def "Model" (specializes = </_class>) { int x = 4 }'},
+     "default /World/char.x\nsites /World/char\n", 3,
+     "default /World/char.x: 4\nsites /World/char: 4\n  @root.usda@ /World/char\n  @m.usda@ /Model\n  @root.usda@ /_class\n  @m.usda@ /_class\n"),
+    ("a class inside what is referenced", {"root": 'def "World" { def "char" (references = @m.usda@</Model>) { class "_c" { int x = 9 } } }', "m": 'def "Model" { class "_c" { int x = 1 } def "geo" (inherits = </Model/_c>) {} }'},
+     "default /World/char/geo.x\nchildren /World/char\nsites /World/char/geo\n", 4,
+     'default /World/char/geo.x: 9\nchildren /World/char: ["_c", "geo"]\nsites /World/char/geo: 3\n  @root.usda@ /World/char/_c\n  @m.usda@ /Model/geo\n  @m.usda@ /Model/_c\n'),
+    ("a reference to a child", {"root": 'def "A" (references = </A/B>) { def "B" {} def "C" { int x = 1 } }'},
+     "faults /A\nfaults /A/C\ndefault /A/C.x\n", 3,
+     "faults /A: 1\n  ArcCycle @root.usda@</A> references </A/B>\nfaults /A/C: 0\ndefault /A/C.x: 1\n"),
+    ("references that meet below", {"root": 'def "X" { def "a" (references = </Y>) {} } def "Y" { def "b" (references = </X>) {} }'},
+     "faults /X/a\nfaults /X/a/b\nchildren /X/a/b\n", 6,
+     "faults /X/a: 0\nfaults /X/a/b: 1\n  ArcCycle @root.usda@</Y/b> references </X>\nchildren /X/a/b: []\n"),
+    ("a selection inside what is referenced", {"root": 'def "A" (variants = { string s = "y" } references = @r.usda@</R/T>) {}', "r": 'def "R" (variants = { string s = "x" } variantSets = "s") { variantSet "s" = { "x" { def "T" { int v = 1 } } "y" { def "T" { int v = 2 } } } }'},
+     "default /A.v\nsites /A\n", 1,
+     "default /A.v: 1\nsites /A: 2\n  @root.usda@ /A\n  @r.usda@ /R{s=x}T\n"),
+    ("a set decided in the second round", {"root": 'def "A" (variants = { string size = "big" } variantSets = ["size", "look"]) { variantSet "size" = { "big" (variants = { string look = "red" }) { int s = 1 } } variantSet "look" = { "red" { int x = 6 } } }'},
+     "default /A.x\n", 1, "default /A.x: 6\n"),
+    ("samples through an offset", {"root": "(subLayers = [@s.usda@ (offset = 10; scale = 2)])", "s": 'def "A" { int x.timeSamples = {1: 7, 5: 8} }'},
+     "value /A.x 11\nvalue /A.x 19\nvalue /A.x 20\nsamples /A.x\ndefault /A.x\n", 1,
+     "value /A.x 11: 7\nvalue /A.x 19: 7\nvalue /A.x 20: 8\nsamples /A.x: {12: 7, 20: 8}\ndefault /A.x: NoValue\n"),
+    ("a block over samples", {"root": '(subLayers = [@w.usda@]) def "A" { int x = None }', "w": 'def "A" { int x.timeSamples = {1: 7} }'},
+     "value /A.x 1\nvalue /A.x 0\nvalue /B.x 1\nvalue /A.y 1\n", 1,
+     "value /A.x 1: Blocked\nvalue /A.x 0: Blocked\nvalue /B.x 1: NoPrim\nvalue /A.y 1: NoProperty\n"),
+    ("a batch whose third operation is refused", {"root": 'def "A" { int x = 1 }'},
+     "begin\nset @root.usda@ /A.x 2\nattr @root.usda@ /A.y int\nset @root.usda@ /B.z 3\ncommit\npublish\ndefault /A.x\n", 1,
+     "batch refused: op 3 NoSpec\npublished 1: batches 0, prims 1\ndefault /A.x: 1\n"),
+    ("a broken layer", {"root": 'def "A" (references = @t.usda@</T>) { int x = 1 }', "t": 'def "T'},
+     "faults /A\ndefault /A.x\n", 1,
+     "faults /A: 1\n  BrokenLayer @root.usda@</A> references @t.usda@</T> Syntax 2:5\ndefault /A.x: 1\n"),
+    ("assets of every kind", {"root": 'def "A" (references = [@a.usdc@, @no.usda@, @n.usda@, @g.usda@]) {}', "n": "", "g": '(defaultPrim = "G") def "G" { int x = 2 }'},
+     "faults /A\ndefault /A.x\n", 1,
+     "faults /A: 3\n  BrokenLayer @root.usda@</A> references @a.usdc@ Crate 1:1\n  MissingLayer @root.usda@</A> references @no.usda@\n  NoDefaultPrim @root.usda@</A> references @n.usda@\ndefault /A.x: 2\n"),
+    ("a chain of sixty-four references", {"root": CHAIN + 'def "c64" {}'}, "faults /c0\n", 65, "faults /c0: 0\n"),
+    ("a chain of sixty-five references", {"root": CHAIN + 'def "c64" (references = </c65>) {} def "c65" {}'}, "faults /c0\nfaults /c1\n", 66,
+     "faults /c0: 1\n  TooDeep @root.usda@</c64> references </c65>\nfaults /c1: 0\n"),
+    ("sublayers that are none", {"root": "(subLayers = [@root.usda@, @no.usda@])"}, "faults /\n", 0,
+     "faults /: 2\n  SublayerCycle @root.usda@ @root.usda@\n  SublayerMissing @root.usda@ @no.usda@\n"),
+    ("a new layer whose text is refused, and an empty batch", {"root": 'def "A" { int x = 1 }'},
+     'begin\nnewlayer @n.usda@ "#usda 1.1"\ncommit\nbegin\ncommit\nopen @root.usda@\n', 1,
+     "batch refused: op 1 LayerText BadHeader 1:1\nbatch 1 accepted\nbatch 2 accepted\n"),
+    ("targets out of a reference", {"root": 'def "A" (references = @m.usda@</Model>) {}', "m": 'def "Model" { rel r = [</Model/k>, </Other>] def "k" {} }'},
+     "targets /A.r\nfaults /A\n", 2, "targets /A.r: [</A/k>]\nfaults /A: 1\n  TargetOutside @m.usda@</Model.r> </Other>\n"),
+    ("a payload that is unloaded and loaded", {"root": 'def "A" (payload = @p.usda@) {} def "B" {}', "p": '(defaultPrim = "P") def "P" { def "k" {} }'},
+     "begin\nunload /A\ncommit\npublish\nchildren /A\nbegin\nload /A\ncommit\npublish\nchildren /A\n", 3,
+     'batch 1 accepted\npublished 1: batches 1, prims 2\nchildren /A: []\nbatch 2 accepted\npublished 2: batches 2, prims 3\nchildren /A: ["k"]\n'),
+]
+
+
+def run(folder, words, script=""):
+    return subprocess.run([os.path.join(TOP, "usdstage")] + words, cwd=folder, input=script.encode(), capture_output=True, timeout=600)
+
+
+def write(folder, layers):
+    for name, text in layers.items():
+        with open(os.path.join(folder, name + ".usda"), "w") as file:
+            file.write(FIRST + text)
+
+
+def main():
+    failed = 0
+    for name, layers, script, prims, wanted in SCENES:
+        with tempfile.TemporaryDirectory() as folder:
+            write(folder, layers)
+            got = run(folder, ["session", "root.usda"], script)
+        output = f"published 0: batches 0, prims {prims}\n{wanted}".encode()
+        if got.returncode != 0 or got.stdout != output:
+            failed += 1
+            print(f"{name}: status {got.returncode} {got.stderr.decode()}\n{got.stdout.decode()}")
+    with tempfile.TemporaryDirectory() as folder:
+        write(folder, {"root": MANY})
+        got = run(folder, ["session", "root.usda"], "faults /\n")
+        if got.returncode != 0 or not got.stdout.startswith(b"published 0: batches 0, prims 0\nfaults /: 4095\n"):
+            failed += 1
+            print("4,095 sublayers that are absent:", got.returncode, got.stdout[:100])
+        write(folder, {"root": MANY.replace("[", "[@more.usda@, ")})
+        got = run(folder, ["session", "root.usda"])
+        if (got.returncode, got.stdout, got.stderr) != (8, b"", b"usdstage: too many layers or bytes\n"):
+            failed += 1
+            print("4,096 sublayers that are absent:", got.returncode, got.stdout[:100], got.stderr)
+    print(f"scenes: {len(SCENES) + 2 - failed} passed, {failed} failed")
+    sys.exit(1 if failed else 0)
+
+
+if __name__ == "__main__":
+    main()
