@@ -1,7 +1,7 @@
 #!/usr/bin/env python3
-"""Times `usdstage flatten` on large layers of the first form, and prints a table.
+"""Times `usdstage flatten` on large stages, and prints a table.
 
-    python3 bench/flatten.py
+    python3 bench/flatten.py [PROGRAM]
 
 Each input is made in a temporary folder. Seconds are the processor's, and peak memory is that of the process. Four times the prims
 should take little more than four times the time.
@@ -13,7 +13,7 @@ import sys
 import tempfile
 
 TOP = os.path.dirname(os.path.dirname(os.path.abspath(__file__)))
-PROGRAM = os.path.join(TOP, "crates", "usdstage", "out", "usdstage")
+PROGRAM = os.path.abspath(sys.argv[1]) if len(sys.argv) > 1 else os.path.join(TOP, "crates", "usdstage", "out", "usdstage")
 
 
 def tree(prims):
@@ -36,6 +36,29 @@ def wide(children):
     """One owner with this many children."""
     body = "".join(f'def "c{i}" {{ int v = {i} }}\n' for i in range(children))
     return '#usda 1.0\ndef "owner" {\n' + body + "}\n"
+
+
+def classes(prims):
+    """A tree of prims, eight below each, a quarter of which inherit from one of eight classes."""
+    out = ["#usda 1.0\n"] + [f'class "ck{k}" {{ int v = {k} }}\n' for k in range(8)]
+
+    def put(i):
+        arcs = f" (inherits = </ck{i // 4 % 8}>)" if i % 4 == 0 else ""
+        out.append(f'def "p{i}"{arcs} {{ int a = {i % 1000}\n')
+        for k in range(8 * i + 1, 8 * i + 9):
+            if k < prims:
+                put(k)
+        out.append("}\n")
+
+    put(0)
+    return "".join(out)
+
+
+def arrays(size):
+    """Arrays of numbers, a million bytes each, up to about this many bytes."""
+    row = "[" + ", ".join(f"{i}.5" for i in range(130000)) + "]"
+    body = "".join(f"    double[] values_{i} = {row}\n" for i in range(size // len(row)))
+    return '#usda 1.0\ndef "A" {\n' + body + "}\n"
 
 
 def nested(levels):
@@ -84,19 +107,22 @@ def run(folder, name, text):
 
 def main():
     if not os.path.exists(PROGRAM):
-        sys.exit("build the program first: cd examples && ../usdstage flatten house.usda")
+        sys.exit("build the program first: cd examples/shot && ../../usdstage flatten shot.usda")
     print(f"{'input':34} {'bytes':>11} {'seconds':>9} {'MB/s':>9} {'peak MiB':>10} {'bytes out':>12} {'status':>6}")
     with tempfile.TemporaryDirectory() as folder:
         for label, make, small, large in (
-            ("prims in a tree", tree, 65536, 262143),
-            ("children of one owner", wide, 50000, 200000),
+            ("prims in a tree with 8 classes", classes, 20000, 80000),
+            ("prims in a tree with 8 classes", classes, 32768, 131072),
+            ("prims in a tree", tree, 20000, 80000),
+            ("children of one owner", wide, 20000, 80000),
+            ("bytes of arrays", arrays, 15_000_000, 60_000_000),
         ):
             before, _ = run(folder, f"{small} {label}", make(small))
             after, peak = run(folder, f"{large} {label}", make(large))
-            print(f"    four times the prims: {after / max(before, 1e-9):.2f} times the time, "
-                  f"{peak / large:.0f} bytes a prim")
+            print(f"    four times as much: {after / max(before, 1e-9):.2f} times the time, {peak / large:.0f} bytes of memory each", flush=True)
         run(folder, "64 nested prims", nested(64))
-        run(folder, "a text of 60 MB", long_text(60_000_000))
+        run(folder, "16 nested prims", nested(16))
+        run(folder, "a text of 60 MB in few prims", long_text(60_000_000))
 
 
 if __name__ == "__main__":

@@ -1,11 +1,11 @@
 #!/usr/bin/env python3
-"""Runs `usdstage flatten` with its first allocation failing, then its second, and so on, until it needs no more.
+"""Runs `usdstage` with its first allocation failing, then its second, and so on, until it needs no more.
 
-    python3 bench/out_of_memory.py
+    python3 bench/out_of_memory.py [PROGRAM]
 
-Each run has to end with all of the output (status 0), or with want of memory (status 9) and the front of the output.
-The allocations are made to fail by a small library that is put before the C library; it needs `cc`. So the built
-program is tried with all numbers in seconds; `rt try --fail-alloc N` tries one number, on the interpreter, in a minute.
+Each run has to end as the one with ample memory does, with all of its output, or with want of memory (status 9) and the front of it.
+The allocations are made to fail by a small library that is put before the C library; it needs `cc`. So the built program is tried with
+all numbers in seconds to minutes; `rt try --fail-alloc N` tries one number, on the interpreter, in a minute.
 """
 import os
 import subprocess
@@ -13,7 +13,7 @@ import sys
 import tempfile
 
 TOP = os.path.dirname(os.path.dirname(os.path.abspath(__file__)))
-PROGRAM = os.path.join(TOP, "crates", "usdstage", "out", "usdstage")
+PROGRAM = os.path.abspath(sys.argv[1]) if len(sys.argv) > 1 else os.path.join(TOP, "crates", "usdstage", "out", "usdstage")
 
 FAILING = r"""
 #include <errno.h>
@@ -37,24 +37,43 @@ int posix_memalign(void **out, size_t at, size_t size) {
 }
 """
 
-LAYERS = {
-    "a first line alone": "#usda 1.0\n",
-    "nested prims": '#usda 1.0\ndef Xform "A" { int b = -7 def "C" { int x = 3 def "D" {} } int a = 0 }\ndef "B" { int y = 1 }\n',
-    "a text of another form": '#usda 1.0\nover "A" {}\n',
-}
+# what it shows, the words, the layers, the script
+RUNS = [
+    ("a first line alone", "flatten root.usda", {"root.usda": "#usda 1.0\n"}, ""),
+    ("nested prims", "flatten root.usda", {"root.usda": '#usda 1.0\ndef Xform "A" { int b = -7 def "C" { int x = 3 def "D" {} } int a = 0 }\ndef "B" { int y = 1 }\n'}, ""),
+    (
+        "a reference with a class and a variant, over a sublayer",
+        "flatten root.usda --session s.usda",
+        {
+            "root.usda": '#usda 1.0\n(subLayers = [@w.usda@ (offset = 2)])\nclass "_c" { int x = 5 } def "A" (references = @m.usda@</M> variants = { string v = "b" }) {}\n',
+            "w.usda": '#usda 1.0\nover "A" { int y.timeSamples = { 1: 2, 3: None } }\n',
+            "m.usda": '#usda 1.0\nclass "_c" { int x = 3 } def "M" (inherits = </_c> variantSets = "v") { rel r = </M/k> def "k" {} variantSet "v" = { "a" {} "b" { int z = 1 } } }\n',
+            "s.usda": '#usda 1.0\n(doc = "session")\n',
+        },
+        "",
+    ),
+    (
+        "a session with a refused batch",
+        "session root.usda",
+        {"root.usda": '#usda 1.0\ndef "A" { int x = 1 }\n', "n.usda": "#usda 1.0\n"},
+        "begin\nset @root.usda@ /A.x 2\nattr @root.usda@ /A.y int\nset @root.usda@ /B.z 3\ncommit\npublish\ndefault /A.x\n"
+        "begin\nset @root.usda@ /A.x 2\ncommit\nopen @n.usda@\npublish\ndefault /A.x\nsites /A\nflatten\n",
+    ),
+    ("a refused root", "session root.usda", {"root.usda": '#usda 1.0\ndef "T'}, "publish\n"),
+]
 
 
-def flatten(folder, env=None):
-    return subprocess.run([PROGRAM, "flatten", "root.usda"], cwd=folder, env=env, stdout=subprocess.PIPE, stderr=subprocess.PIPE)
+def run_once(folder, words, script, env=None):
+    return subprocess.run([PROGRAM] + words.split(), cwd=folder, env=env, input=script.encode(), stdout=subprocess.PIPE, stderr=subprocess.PIPE)
 
 
-def tried(folder, library):
+def tried(folder, words, script, library):
     """Counts the runs by status; stops once three runs in a row did not reach the failing allocation."""
-    whole = flatten(folder)
+    whole = run_once(folder, words, script)
     counts, same = {}, 0
-    for at in range(1, 100000):
-        run = flatten(folder, {"LD_PRELOAD": library, "FAIL_AT": str(at)})
-        is_same = (run.returncode, run.stdout) == (whole.returncode, whole.stdout)
+    for at in range(1, 1000000):
+        run = run_once(folder, words, script, {"LD_PRELOAD": library, "FAIL_AT": str(at)})
+        is_same = (run.returncode, run.stdout, run.stderr) == (whole.returncode, whole.stdout, whole.stderr)
         is_front = run.returncode == 9 and whole.stdout.startswith(run.stdout)
         if not is_same and not is_front:
             sys.exit(f"allocation {at}: status {run.returncode}, written {run.stdout[:80]!r}, said {run.stderr[:80]!r}")
@@ -69,17 +88,18 @@ def tried(folder, library):
 
 def main():
     if not os.path.exists(PROGRAM):
-        sys.exit("build the program first: cd examples && ../usdstage flatten house.usda")
+        sys.exit("build the program first: cd examples/shot && ../../usdstage flatten shot.usda")
     with tempfile.TemporaryDirectory() as folder:
         source, library = os.path.join(folder, "failing.c"), os.path.join(folder, "failing.so")
         with open(source, "w") as f:
             f.write(FAILING)
         subprocess.run(["cc", "-shared", "-fPIC", "-O1", "-o", library, source], check=True)
-        for name, text in LAYERS.items():
-            with open(os.path.join(folder, "root.usda"), "w") as f:
-                f.write(text)
-            runs, counts = tried(folder, library)
-            print(f"{name}: {runs} runs, " + ", ".join(f"{n} with status {s}" for s, n in sorted(counts.items())))
+        for name, words, layers, script in RUNS:
+            for layer, text in layers.items():
+                with open(os.path.join(folder, layer), "w") as f:
+                    f.write(text)
+            runs, counts = tried(folder, words, script, library)
+            print(f"{name}: {runs} runs, " + ", ".join(f"{n} with status {s}" for s, n in sorted(counts.items())), flush=True)
 
 
 if __name__ == "__main__":

@@ -1,6 +1,7 @@
 #!/usr/bin/env python3
 """Runs the built program over small scenes, each with the answers that the rules of composition and of sessions give it."""
 import os
+import resource
 import subprocess
 import sys
 import tempfile
@@ -76,6 +77,33 @@ def write(folder, layers):
             file.write(FIRST + text)
 
 
+def check_limits(folder):
+    """Runs at the limits of a stage, of a world and of memory: what differs, in words."""
+    def differs(what, got, status, begin, line):
+        if (got.returncode, got.stderr) == (status, line) and got.stdout.startswith(begin) and bool(got.stdout) == bool(begin):
+            return []
+        return [f"{what}: status {got.returncode}, said {got.stderr}, written {got.stdout[:80]}"]
+
+    def small():
+        resource.setrlimit(resource.RLIMIT_AS, (64 << 20, 64 << 20))
+
+    found = []
+    write(folder, {"root": MANY})
+    found += differs("4,095 sublayers that are absent", run(folder, ["session", "root.usda"], "faults /\n"), 0,
+                     b"published 0: batches 0, prims 0\nfaults /: 4095\n", b"")
+    write(folder, {"root": MANY.replace("[", "[@more.usda@, ")})
+    found += differs("4,096 sublayers that are absent", run(folder, ["session", "root.usda"]), 8, b"", b"usdstage: too many layers or bytes\n")
+    prims = "".join(f'def "p{i}" {{}}\n' for i in range(262143))
+    write(folder, {"root": prims})
+    program = os.path.join(TOP, "crates", "usdstage", "out", "usdstage")
+    low = subprocess.run([program, "flatten", "root.usda"], cwd=folder, capture_output=True, preexec_fn=small, timeout=600)
+    found += differs("262,143 prims in little memory", low, 9, b"", b"usdstage: out of memory\n")
+    found += differs("262,143 prims", run(folder, ["session", "root.usda"]), 0, b"published 0: batches 0, prims 262143\n", b"")
+    write(folder, {"root": prims + 'def "one_more" {}\n'})
+    found += differs("262,144 prims", run(folder, ["session", "root.usda"]), 7, b"", b"usdstage: more than 262144 paths\n")
+    return found
+
+
 def main():
     failed = 0
     for name, layers, script, prims, wanted in SCENES:
@@ -87,17 +115,10 @@ def main():
             failed += 1
             print(f"{name}: status {got.returncode} {got.stderr.decode()}\n{got.stdout.decode()}")
     with tempfile.TemporaryDirectory() as folder:
-        write(folder, {"root": MANY})
-        got = run(folder, ["session", "root.usda"], "faults /\n")
-        if got.returncode != 0 or not got.stdout.startswith(b"published 0: batches 0, prims 0\nfaults /: 4095\n"):
-            failed += 1
-            print("4,095 sublayers that are absent:", got.returncode, got.stdout[:100])
-        write(folder, {"root": MANY.replace("[", "[@more.usda@, ")})
-        got = run(folder, ["session", "root.usda"])
-        if (got.returncode, got.stdout, got.stderr) != (8, b"", b"usdstage: too many layers or bytes\n"):
-            failed += 1
-            print("4,096 sublayers that are absent:", got.returncode, got.stdout[:100], got.stderr)
-    print(f"scenes: {len(SCENES) + 2 - failed} passed, {failed} failed")
+        found = check_limits(folder)
+    print("".join(f"{difference}\n" for difference in found), end="")
+    failed += len(found)
+    print(f"scenes: {len(SCENES) + 5 - failed} passed, {failed} failed")
     sys.exit(1 if failed else 0)
 
 

@@ -1,4 +1,5 @@
 -- Names of layers: an asset taken from the folder of the layer that names it.
+-- docs/COMPOSITION.md, 'Names of layers'.
 use Rattle.std.specs.Prelude.{nat_le, nat_lt, true, false, [], ◌∷◌, length, Option, Some, None}
 use Rattle.std.specs.List.{list_any}
 use Rattle.asset_names.specs.Anchoring.{anchored_name}

@@ -1,4 +1,5 @@
 -- Choices by rounds, the meanings by depth, and what composition gives at a prim of the stage.
+-- docs/COMPOSITION.md, 'Variant choices'; what is overgrown stands in 'Strength'.
 use Rattle.std.specs.Prelude.{ℕ, zero, suc, ◌==◌, ◌||◌, Bool, true, false, List, [], ◌∷◌, ◌++◌, map, flat_map, take, length, Option, filter_map, option_map}
 use Rattle.std.specs.List.{list_any}
 use Rattle.composition.specs.Texts.{Text, same_text, find_at, first_of}
@@ -13,9 +14,11 @@ use Rattle.composition.specs.Strength.{listing, sites}
 abbrev pub rests_on_overgrown : Tree → Bool
 rests_on_overgrown t = list_any (λ n. list_any (λ f. f.overgrown) n.frames) (nodes_of t)
 
+-- a listing was overgrown: the tree's own, or one made for the frames on which it stands
 abbrev pub is_overgrown_on_the_way : Tree → Bool
 is_overgrown_on_the_way t = elim (is_overgrown t) [ true ↦ true | false ↦ rests_on_overgrown t ]
 
+-- of the frames before and after a round: it made no choice
 abbrev pub decides_nothing : Frame → Frame → Bool
 decides_nothing f g = length g.choices == length f.choices
 
@@ -39,10 +42,11 @@ module _ (l : Limits) where
       ]
 
   module _ (tree : Node → Tree) where
-    -- one round at a prim, given the frames above it: what it decides in its tree joins the choices so far
+    -- the tree of a prim in one round, with the choices so far and the frames of the prims above it
     abbrev pub tree_in_round : Node → List Frame → Frame → Tree
     tree_in_round n above f = tree (record n { frames = (record f { overgrown = false }) ∷ above })
 
+    -- one round at a prim, given the frames above it: what it decides in its tree joins the choices so far
     abbrev pub round : Node → List Frame → Frame → Frame
     round n above f =
         let t = tree_in_round n above f in
@@ -55,6 +59,7 @@ module _ (l : Limits) where
         let g = round n above f in
         elim (decides_nothing f g) [ true ↦ g | false ↦ rounds k n above g ]
 
+    -- so many rounds, made to the end also where one decides nothing
     abbrev pub all_rounds : ℕ → Node → List Frame → Frame → Frame
     all_rounds zero n above f = f
     all_rounds (suc k) n above f = all_rounds k n above (round n above f)
@@ -67,6 +72,7 @@ module _ (l : Limits) where
         let q = take (suc k) n.path in
         rounds l.rounds (record n { path = q }) above (record bare { loaded = loaded q }) ∷ above
 
+    -- the frames of a prim and of each prim above it, its own first
     abbrev pub frames_of : (Path → Bool) → Node → List Frame
     frames_of loaded n = frames_along loaded n (length n.path)
 
@@ -84,6 +90,7 @@ module _ (l : Limits) (here : Node → Here) where
         tree = tree;
       }
 
+  -- the frames of prims and the trees of nodes with so many arcs left
   unfoldable pub meaning : ℕ → Meaning
   meaning zero = level zero bottom
   meaning (suc d) = level (suc d) (meaning d)
@@ -98,5 +105,6 @@ module _ (l : Limits) (here : Node → Here) where
       let n = bare_node Root p [] l.depth identity in
       record n { frames = frames_of l tree_of loaded n }
 
+  -- the tree of a path of the stage, from which its sites, choices and faults are told
   abbrev pub stage_tree : (Path → Bool) → Path → Tree
   stage_tree loaded p = tree_of (stage_node loaded p)

@@ -1,4 +1,5 @@
 -- Since which version of the stage a prim is as it is.
+-- docs/COMPOSITION.md, 'Since when a prim is as it is'.
 use Rattle.std.specs.Prelude.{ℕ, ◌≡◌, ◌⊎◌, List, [], ◌∷◌, map, length}
 use Rattle.std.specs.List.{Contains}
 use Rattle.composition.specs.Paths.{Path, Limits}
@@ -24,6 +25,7 @@ module _ (l : Limits) where
   IsTouched w [] p = ⊥
   IsTouched w (v ∷ vs) p = IsTouchedBy w v p ⊎ IsTouched v vs p
 
+  -- the path is `/`, or that of a prim that a path on the stage lists
   abbrev pub IsOnStage : World → Path → Type 0
   IsOnStage w p = Contains (map (λ e. e.0) (stage l w)) p
 

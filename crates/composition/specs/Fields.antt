@@ -1,4 +1,5 @@
 -- Names and fields of a prim: its children and properties in order, specifier, type, metadata and lists of strings.
+-- docs/COMPOSITION.md, 'Names and fields'.
 use Rattle.std.specs.Prelude.{Bool, false, not, List, [], ◌∷◌, ◌++◌, map, filter, Option, Some, None}
 use Rattle.list_ops.specs.ListEdits.{firsts}
 use Rattle.list_ops.specs.declared.op.ListOp.{ListOp}
@@ -36,36 +37,43 @@ names_of namings = firsts same_text (strongest_folded same_text (map naming_edit
 abbrev pub children_naming : List Text → List Text → Naming
 children_naming names order = record { names = filter is_name names; order = order }
 
+-- the names of children that the opinions on a prim give, with their reorders
 abbrev pub all_children : List Said → List Text
 all_children said = names_of (map (λ s. children_naming s.spec.body.children s.spec.body.child_order) said)
 
+-- the names of properties that they give, with their reorders, and not in the order of a dictionary
 abbrev pub all_properties : List Said → List Text
 all_properties said = names_of (map (λ s. record { names = property_names s.spec.body.properties; order = s.spec.body.property_order }) said)
 
+-- the path of the child of a name
 abbrev pub child_path : Path → Text → Path
 child_path p name = p ++ Prim name ∷ []
 
 module _ (l : Limits) where
-  -- the children whose paths are within the limits, and those whose paths are not
+  -- the children whose paths are within the limits of paths
   abbrev pub listed_children : Path → List Text → List Text
   listed_children p names = filter (λ name. fits l (child_path p name)) names
 
+  -- the children that are not listed, since their paths pass a limit
   abbrev pub unlisted_children : Path → List Text → List Text
   unlisted_children p names = filter (λ name. not (fits l (child_path p name))) names
 
--- the strongest `def` or `class` among some specs
+-- a specifier that is `def` or `class`
 abbrev pub if_defining : Specifier → Option Specifier
 if_defining Def = Some Def
 if_defining Over = None
 if_defining Class = Some Class
 
+-- the strongest `def` or `class` among some specs
 abbrev pub defining : List Said → Option Specifier
 defining said = first_of (λ s. if_defining s.spec.body.specifier) said
 
+-- the first of two that is there
 abbrev pub or_else : {T : Type 0} → Option T → Option T → Option T
 or_else (Some x) y = Some x
 or_else None y = y
 
+-- where no spec says `def` or `class`, the prim is an `over`
 abbrev pub or_over : Option Specifier → Specifier
 or_over (Some s) = s
 or_over None = Over
@@ -84,20 +92,24 @@ abbrev pub strings_of : (Said → ListOp Text) → List Said → Option (List Te
 strings_of field said =
     elim (filter is_opinion (map field said)) [ [] ↦ None | op ∷ ops ↦ Some (strongest_folded same_text (op ∷ ops)) ]
 
+-- the metadata of a prim, merged over all opinions on it
 abbrev pub meta_of : List Said → MetaEntries
 meta_of said = merged_all (map (λ s. s.spec.body.meta) said)
 
--- the metadata says `active = false`
+-- the value `false`, and nothing else
 abbrev pub false_step : Value-F Bool Bool → Bool
 false_step (Value-F.Bool b) = not b
 false_step _ = false
 
+-- an entry of a dictionary is not that value
 abbrev pub false_item : DictItem-F Bool Bool → Bool
 false_item item = false
 
+-- the value is there, and is `false`
 abbrev pub is_false : Option Value → Bool
 is_false None = false
 is_false (Some v) = fold-Value Bool Bool false_step false_item v
 
+-- the metadata says `active = false`
 abbrev pub is_inactive : MetaEntries → Bool
 is_inactive meta = is_false (at_key text_cmp (codes "active") meta)

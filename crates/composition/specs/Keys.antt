@@ -1,6 +1,8 @@
 -- The keys of a world that composition reads at a prim.
-use Rattle.std.specs.Prelude.{◌≡◌, ◌≢◌, Bool, false, List, [], ◌∷◌, ◌++◌, map, flat_map, filter, Option, None, option_map}
+-- docs/COMPOSITION.md, 'What a prim reads'.
+use Rattle.std.specs.Prelude.{◌≡◌, ◌≢◌, Bool, true, false, List, [], ◌∷◌, ◌++◌, map, flat_map, filter, Option, None, option_map}
 use Rattle.std.specs.List.{list_any, list_all, All}
+use Rattle.sdf_paths.specs.Paths.{is_prim_name}
 use Rattle.spec_parts.specs.declared.spec.ArcPart.{ArcPart}
 use Rattle.spec_parts.specs.declared.spec.BodyPart.{BodyPart}
 use Rattle.composition.specs.Texts.{Text, same_text, both}
@@ -22,6 +24,7 @@ pub data Key : Type 0 where
   arcs : Text → Path → Key
   body : Text → Path → Key
 
+-- the keys are of one kind, with the same layer and path, as far as their kind has them
 abbrev pub same_key : Key → Key → Bool
 same_key (load p) (load q) = same_path p q
 same_key (head a) (head b) = same_text a b
@@ -30,6 +33,7 @@ same_key (body a p) (body b q) = both (same_text a b) (same_path p q)
 same_key _ _ = false
 
 module _ (l : Limits) (w : World) where
+  -- the names that a stack asks, where its layer is there
   abbrev pub asked_if_present : StackName → Heading → List Text
   asked_if_present s (headed h) = (stack l w s).asked
   asked_if_present s no_layer = []
@@ -41,6 +45,7 @@ module _ (l : Limits) (w : World) where
   asked_by_source (named name) = name ∷ asked_if_present (stack_of w name) (w.heading name)
   asked_by_source (unanchored t) = []
 
+  -- the names that are asked at a node: by its stack, and by each item of its references and of its payloads at loaded levels
   abbrev pub asked_at : Node → List Text
   asked_at n =
       (stack l w n.stack).asked
@@ -52,25 +57,31 @@ module _ (l : Limits) (w : World) where
       flat_map (λ j. map (λ e. arcs e.0 (up n.path j)) (stack l w n.stack).layers) (levels_of n.path)
       ++ map head (asked_at n)
 
+  -- the bodies at a site, one for each layer of its stack, whether or not a spec stands there
   abbrev pub bodies_at : StackName → Path → List Key
   bodies_at s p = map (λ e. body e.0 p) (stack l w s).layers
 
+  -- each node that is visited for the last listing of a prim, and in the rounds of choices of the prim and those above it
   abbrev pub visits_for : Path → List Node
   visits_for p = stage_visits l (here l w) (is_loaded w) p
 
   -- for each listing of a prim and its ancestors, with the rules on them and the bodies at the prim's sites
-  abbrev pub reads : Path → List Key
-  reads [] = map head (stack l w Root).asked ++ bodies_at Root []
-  reads (e ∷ p) =
-      let q = e ∷ p in
+  abbrev pub prim_reads : Path → List Key
+  prim_reads q =
       map (λ j. load (up q j)) (levels_of q)
       ++ flat_map (λ j. flat_map keys_at (visits_for (up q j))) (levels_of q)
       ++ flat_map (λ n. bodies_at n.stack n.path) (nodes_of (stage_tree l (here l w) (is_loaded w) q))
 
--- two lists have the same keys
+  -- the keys that the view of a path reads; the path of a property, or one with variant selections, reads none
+  abbrev pub reads : Path → List Key
+  reads [] = map head (stack l w Root).asked ++ bodies_at Root []
+  reads (e ∷ p) = elim (list_all is_prim_name (e ∷ p)) [ true ↦ prim_reads (e ∷ p) | false ↦ [] ]
+
+-- the first list has all keys of the second
 abbrev pub has_all : List Key → List Key → Bool
 has_all ks = list_all (λ k. list_any (same_key k) ks)
 
+-- two lists have the same keys
 abbrev pub same_keys : List Key → List Key → Bool
 same_keys ks js = both (has_all ks js) (has_all js ks)
 

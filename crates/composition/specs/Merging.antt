@@ -1,4 +1,5 @@
 -- How metadata merges: dictionaries key by key, the stronger first, nested ones too; of all else the strongest is kept.
+-- docs/COMPOSITION.md, 'Names and fields'.
 use Rattle.std.specs.Prelude.{ℕ, zero, suc, List, [], map, fold, Option, Some, None}
 use Rattle.sdf_paths.specs.Order.{text_cmp}
 use Rattle.spec_properties.specs.Entries.{MetaEntries}
@@ -14,6 +15,7 @@ abbrev pub entries_in : Value-F Value DictItem → Option (List DictItem)
 entries_in (Value-F.Dict is) = Some is
 entries_in _ = None
 
+-- the entries of a value that is a dictionary; none of any other
 abbrev pub entries_of : Value → Option (List DictItem)
 entries_of v = entries_in (out-Value v)
 
@@ -29,6 +31,7 @@ module _ (over : Value → Value → Value) where
   over_entry i (Some weaker) =
       record { key = (out-DictItem i).key; ty = (out-DictItem i).ty; value = over (out-DictItem i).value (out-DictItem weaker).value }
 
+  -- a dictionary so far with a stronger entry, put over the entry that has its key
   abbrev pub with_stronger : List (Text × DictItem) → DictItem → List (Text × DictItem)
   with_stronger so_far i = with_key text_cmp (out-DictItem i).key (over_entry i (at_key text_cmp (out-DictItem i).key so_far)) so_far
 
@@ -36,6 +39,7 @@ module _ (over : Value → Value → Value) where
   abbrev pub items_over : List DictItem → List DictItem → List DictItem
   items_over is weaker = map (λ e. e.1) (fold with_stronger (fold with_item [] weaker) is)
 
+  -- two dictionaries merge; else the stronger value stands as it is
   abbrev pub dict_over : Value → Option (List DictItem) → Option (List DictItem) → Value
   dict_over v (Some is) (Some weaker) = value.Dict (items_over is weaker)
   dict_over v _ _ = v
@@ -49,6 +53,7 @@ merged_within (suc levels) v weaker = dict_over (merged_within levels) v (entrie
 abbrev pub merged : Value → Value → Value
 merged v weaker = merged_within 64 v weaker
 
+-- metadata so far with a weaker entry: as it is where its key is new, else below the value that is there
 abbrev pub with_weaker : MetaEntries → Text × Value → MetaEntries
 with_weaker so_far e =
     elim (at_key text_cmp e.0 so_far) [ None ↦ with_key text_cmp e.0 e.1 so_far | Some v ↦ with_key text_cmp e.0 (merged v e.1) so_far ]

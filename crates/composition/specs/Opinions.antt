@@ -1,4 +1,5 @@
 -- What the layers say of a prim: its opinions, by site and then by layer, the strongest first.
+-- docs/COMPOSITION.md, 'Names and fields'.
 pub use Rattle.prim_view.specs.declared.site.Site.{Site}
 use Rattle.std.specs.Prelude.{Bool, true, false, not, List, ◌++◌, map, flat_map, Some, None}
 use Rattle.std.specs.List.{list_any}
@@ -21,22 +22,26 @@ pub record Said : Type 0 where
   pub spec : Spec
 
 module _ (l : Limits) (w : World) where
+  -- the opinions at one site, the strongest layer first
   abbrev pub said_at : Site → List Said
   said_at n = map (λ o. record { site = n; layer = o.layer; offset = composed o.offset n.offset; spec = o.spec }) (opinions_at l w (stack l w n.stack) n.path)
 
+  -- the opinions on a prim of which the sites are given, the strongest first
   abbrev pub said_at_all : List Site → List Said
   said_at_all sites = flat_map said_at sites
 
--- an inherits or specializes arc is on the way from the site to the stage
+-- a class arc: inherits or specializes
 abbrev pub is_class_map : ArcMap → Bool
 is_class_map m = elim (same_kind Inherits m.kind) [ true ↦ true | false ↦ same_kind Specializes m.kind ]
 
+-- an inherits or specializes arc is on the way from the site to the stage
 abbrev pub is_by_class : List ArcMap → Bool
 is_by_class maps = list_any is_class_map maps
 
--- an opinion on a list: an explicit list, also an empty one, or some edit
+-- some edit has items
 abbrev pub has_edits : {T : Type 0} → ListOp T → Bool
 has_edits op = not (is_empty (op.deleted ++ op.added ++ op.prepended ++ op.appended ++ op.ordered))
 
+-- an opinion on a list: an explicit list, also an empty one, or some edit
 abbrev pub is_opinion : {T : Type 0} → ListOp T → Bool
 is_opinion op = elim op.explicit [ Some xs ↦ true | None ↦ has_edits op ]

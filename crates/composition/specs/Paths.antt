@@ -1,4 +1,5 @@
 -- Paths, their levels and their limits.
+-- docs/COMPOSITION.md, 'Nodes, and which arcs are followed'.
 use Rattle.std.specs.Prelude.{ℕ, zero, suc, ◌-◌, nat_le, Bool, true, false, List, [], ◌∷◌, ◌++◌, length, take, drop, Option, Some, None}
 use Rattle.std.specs.List.{list_any}
 use Rattle.std.specs.Str.{chars}
@@ -12,6 +13,7 @@ use Rattle.composition.specs.Texts.{Text, same_list, both}
 abbrev pub Path : Type 0
 Path = List Element
 
+-- the paths are one: names, selections and property are the same
 abbrev pub same_path : Path → Path → Bool
 same_path = same_list same_element
 
@@ -21,6 +23,7 @@ is_prefix [] p = true
 is_prefix (e ∷ front) [] = false
 is_prefix (e ∷ front) (x ∷ p) = elim (same_element e x) [ true ↦ is_prefix front p | false ↦ false ]
 
+-- some variant is selected on the path
 abbrev pub has_selections : Path → Bool
 has_selections p = list_any is_selection p
 
@@ -30,10 +33,11 @@ abbrev pub levels : Path → ℕ
 levels [] = 0
 levels (e ∷ p) = elim (has_selections p) [ true ↦ levels p | false ↦ length (e ∷ p) ]
 
--- the path without its last j elements, and those elements
+-- the path without its last j elements
 abbrev pub up : Path → ℕ → Path
 up p j = take (length p - j) p
 
+-- its last j elements
 abbrev pub tail : Path → ℕ → Path
 tail p j = drop (length p - j) p
 
@@ -42,6 +46,7 @@ abbrev pub below : ℕ → List ℕ
 below zero = []
 below (suc n) = below n ++ n ∷ []
 
+-- the levels of a path by their numbers, from 0, which is the path itself
 abbrev pub levels_of : Path → List ℕ
 levels_of p = below (levels p)
 
@@ -55,6 +60,7 @@ pub record Limits : Type 0 where
   pub rounds : ℕ
   pub layers : ℕ
 
+-- the limits that the program keeps to
 abbrev pub limits : Limits
 limits = record { names = 64; bytes = 4096; depth = 64; nodes = 4096; rounds = 16; layers = 4096 }
 
@@ -62,10 +68,11 @@ limits = record { names = 64; bytes = 4096; depth = 64; nodes = 4096; rounds = 1
 abbrev pub fits : Limits → Path → Bool
 fits l p = both (nat_le (depth p) l.names) (nat_le (length (printed p)) l.bytes)
 
--- the path that a text is read as
+-- the path that has been read, if what has been read is a whole path
 abbrev pub finished : Option Reader → Option Path
 finished None = None
 finished (Some r) = finish r
 
+-- the path that a text is read as; none where it is no path's text
 abbrev pub read_path : Text → Option Path
 read_path text = finished (after (chars text))

@@ -1,2 +1,3 @@
 -- The texts of faults.
+-- docs/COMPOSITION.md, 'Faults'.
 pub use Rattle.prim_view.specs.Printing.{fault_text}

@@ -1,4 +1,5 @@
 -- Layer stacks.
+-- docs/COMPOSITION.md, 'Layer stacks'.
 pub use Rattle.prim_view.specs.declared.fault.SublayerReason.{SublayerReason}
 pub use Rattle.prim_view.specs.declared.fault.SublayerReason.TheVariants.{Cycle as sublayer_cycle, Missing as sublayer_missing, Broken as sublayer_broken, Offset as sublayer_offset}
 pub use Rattle.prim_view.specs.declared.fault.SublayerFault.{SublayerFault}
@@ -17,32 +18,39 @@ pub record LayerStack : Type 0 where
   pub faults : List SublayerFault
   pub asked : List Text
 
+-- a stack in which nothing is listed yet
 abbrev pub nothing_listed : LayerStack
 nothing_listed = record { layers = []; faults = []; asked = [] }
 
+-- with one more layer, weaker than those that are listed
 abbrev pub with_layer : LayerStack → Text → Offset → LayerStack
 with_layer s name o = record s { layers = s.layers ++ (name, o) ∷ [] }
 
+-- with a fault of an asset that a layer of the stack has as a sublayer
 abbrev pub with_fault : LayerStack → SublayerReason → Text → Text → LayerStack
 with_fault s reason layer asset = record s { faults = s.faults ++ (record { reason = reason; layer = layer; asset = asset }) ∷ [] }
 
+-- with one more name that was asked
 abbrev pub with_asked : LayerStack → Text → LayerStack
 with_asked s name = record s { asked = s.asked ++ name ∷ [] }
 
+-- the layer is listed in the stack already
 abbrev pub is_listed : LayerStack → Text → Bool
 is_listed s name = list_any (λ e. same_text name e.0) s.layers
 
+-- the sublayers that a layer has, in order; none where no layer stands at the name
 abbrev pub sublayers_of : Heading → List SubLayer
 sublayers_of (headed h) = h.sublayers
 sublayers_of no_layer = []
 sublayers_of (refused r) = []
 
--- why a sublayer is not followed: the names above it, what its name holds, its offset towards the stack
+-- why no layer stands at a name: it is absent, or it was refused
 abbrev pub not_held : Heading → Option SublayerReason
 not_held (headed h) = None
 not_held no_layer = Some sublayer_missing
 not_held (refused r) = Some sublayer_broken
 
+-- why a sublayer is not followed, given the names above it, its name and its offset towards the stack
 abbrev pub not_followed : World → List Text → Text → Offset → Option SublayerReason
 not_followed w chain name o =
     elim (list_any (same_text name) chain) [
@@ -79,6 +87,7 @@ module _ (w : World) where
       ]
 
 module _ (l : Limits) (w : World) where
+  -- a stack so far, and then a layer's own stack with a chain that begins anew; of a layer that is not there the name is asked alone
   abbrev pub from_layer : Text → LayerStack → LayerStack
   from_layer name s =
       elim (not_held (w.heading name)) [

@@ -1,4 +1,5 @@
 -- What a prim is on the stage: the composed view of a path, and the stage of a world.
+-- docs/COMPOSITION.md, 'The stage'.
 pub use Rattle.prim_view.specs.declared.view.PropertyView.{PropertyView}
 pub use Rattle.prim_view.specs.declared.view.PropertyView.TheVariants.{Attr as attribute, Rel as relationship}
 pub use Rattle.prim_view.specs.declared.view.PrimView.{PrimView}
@@ -32,6 +33,7 @@ use Rattle.composition.specs.Values.{PropertySaid, specs_of, counting, given, de
 use Rattle.composition.specs.Targets.{targets_of, target_faults}
 use Rattle.composition.specs.Faults.{Fault, sublayer, time_outside, target_outside, child_too_long, overgrown, same_fault, Index, index}
 
+-- an `over` with nothing more
 abbrev pub empty_view : PrimView
 empty_view = record {
   specifier = Over;
@@ -47,24 +49,29 @@ empty_view = record {
   since = 0;
 }
 
+-- a spec of a property says `custom`
 abbrev pub is_custom : Property → Bool
 is_custom (Attr name ty custom uniform default samples connections meta) = custom
 is_custom (Rel name custom targets meta) = custom
 
+-- the metadata in a spec of a property
 abbrev pub property_meta : Property → MetaEntries
 property_meta (Attr name ty custom uniform default samples connections meta) = meta
 property_meta (Rel name custom targets meta) = meta
 
 -- ---- what the head of a layer says of the root, and the root as a site
 
+-- the metadata of a head, with the default prim as the key `defaultPrim`
 abbrev pub with_default_prim : LayerHead → MetaEntries
 with_default_prim h = elim h.default_prim [ None ↦ h.meta | Some text ↦ with_key text_cmp (codes "defaultPrim") (value.Text text) h.meta ]
 
+-- the metadata of the head at a name, if a layer stands there
 abbrev pub head_meta : Heading → List MetaEntries
 head_meta (headed h) = with_default_prim h ∷ []
 head_meta no_layer = []
 head_meta (refused r) = []
 
+-- the site of `/` on the stage, which counts as one with a spec
 abbrev pub root_site : Site
 root_site = record { stack = Root; path = []; maps = []; offset = identity; by_class = false; has_spec = true }
 
@@ -77,17 +84,21 @@ module _ (l : Limits) where
   view_by name ps (Rel own custom targets meta) =
       relationship name (list_any (λ p. is_custom p.property) ps) (targets_of l ps) (merged_all (map (λ p. property_meta p.property) ps))
 
+  -- the view of a property by the specs that count; none where there is no spec
   abbrev pub property_view : Text → List PropertySaid → List PropertyView
   property_view name [] = []
   property_view name (p ∷ ps) = view_by name (p ∷ ps) p.property ∷ []
 
+  -- the faults of a property: what lies outside the range of times, and then what has no translation
   abbrev pub property_faults : Text → List PropertySaid → List Fault
   property_faults name ps = map time_outside (time_faults name ps) ++ map target_outside (target_faults l name ps)
 
   module _ (w : World) where
+    -- the properties of these names, each with the specs that count, the strongest first
     abbrev pub counting_of : List Said → List Text → List (Text × List PropertySaid)
     counting_of said names = map (λ name. (name, counting (specs_of name said))) names
 
+    -- the view of a prim by its index and the opinions at its sites
     abbrev pub view_from : Path → Index → List Said → PrimView
     view_from p i said =
         let meta : MetaEntries = meta_of said in
@@ -107,6 +118,7 @@ module _ (l : Limits) where
           since = 0;
         }
 
+    -- the view of a prim by its index; an overgrown prim is an `over` with that one fault
     abbrev pub view_by_index : Path → Option Index → PrimView
     view_by_index p None = record empty_view { faults = overgrown ∷ [] }
     view_by_index p (Some i) = view_from p i (said_at_all l w i.sites)
@@ -117,9 +129,11 @@ module _ (l : Limits) where
     abbrev pub root_meta : MetaEntries
     root_meta = merged_all (elim w.session [ None ↦ [] | Some s ↦ head_meta (w.heading s) ] ++ head_meta (w.heading w.root))
 
+    -- what a layer says of the names of root prims, if it is there
     abbrev pub root_naming : Text → Option Naming
     root_naming layer = elim (w.roots layer) [ None ↦ None | Some r ↦ Some (children_naming r.names r.order) ]
 
+    -- the names of root prims that the layers of the root stack give, with their reorders
     abbrev pub root_children : List Text
     root_children = names_of (filter_map (λ e. root_naming e.0) (stack l w Root).layers)
 

@@ -1,4 +1,5 @@
 -- A world of layers, as composition sees it: by look-ups alone.
+-- docs/COMPOSITION.md, 'The world'.
 pub use Rattle.prim_view.specs.declared.stack_name.StackName.{StackName}
 pub use Rattle.prim_view.specs.declared.stack_name.StackName.TheVariants.{Root, Asset}
 use Rattle.std.specs.Prelude.{◌==◌, nat_le, length, ℤ, pos, negsuc, int_le, Bool, true, false, List, [], ◌∷◌, Option, Some, None}
@@ -18,9 +19,11 @@ identity = record { offset = pos 0; scale = pos 1 }
 abbrev pub in_range : Offset → Bool
 in_range a = both (int_le (negsuc 999999999) a.offset) (both (int_le a.offset (pos 1000000000)) (both (int_le (pos 1) a.scale) (int_le a.scale (pos 1000000))))
 
+-- the numbers are one
 abbrev pub same_number : ℤ → ℤ → Bool
 same_number a b = both (int_le a b) (int_le b a)
 
+-- the offsets are one: the same shift of times and the same scale
 abbrev pub same_offset : Offset → Offset → Bool
 same_offset a b = both (same_number a.offset b.offset) (same_number a.scale b.scale)
 
@@ -51,6 +54,7 @@ pub record World : Type 0 where
   pub spec : Text → Path → Option Spec
   pub rule : Path → Option Bool
 
+-- the stacks have one name
 abbrev pub same_stack : StackName → StackName → Bool
 same_stack Root Root = true
 same_stack Root (Asset b) = false
@@ -69,11 +73,12 @@ stack_of w name = elim w.session [
   | None ↦ elim (same_text name w.root) [ true ↦ Root | false ↦ Asset name ]
 ]
 
--- the nearest rule on the prim or an ancestor; without one it is loaded
+-- what a load rule says; without one a prim is loaded
 abbrev pub rule_or_loaded : Option Bool → Bool
 rule_or_loaded (Some b) = b
 rule_or_loaded None = true
 
+-- the nearest rule on the prim or an ancestor decides; without one it is loaded
 abbrev pub is_loaded : World → Path → Bool
 is_loaded w p = rule_or_loaded (first_of (λ j. w.rule (up p j)) (levels_of p))
 
@@ -81,10 +86,11 @@ is_loaded w p = rule_or_loaded (first_of (λ j. w.rule (up p j)) (levels_of p))
 abbrev pub path_within : Text → Option Path
 path_within text = elim (nat_le (length text) 4096) [ true ↦ read_path text | false ↦ None ]
 
--- what a default prim's text names: an absolute path, or a root prim by its name
+-- the text begins with `/`
 abbrev pub is_absolute : Text → Bool
 is_absolute [] = false
 is_absolute (c ∷ t) = c == 47
 
+-- what a default prim's text names: an absolute path, or a root prim by its name
 abbrev pub default_target : Text → Option Path
 default_target text = elim (is_absolute text) [ true ↦ path_within text | false ↦ path_within (47 ∷ text) ]

@@ -1,6 +1,6 @@
 // The keys that a prim reads, as closed equations.
 ghost use Rattle.std.specs.Prelude.{◌≡◌, codes, true, [], ◌∷◌};
-ghost use Rattle.sdf_paths.specs.declared.element.Element.TheVariants.{Prim};
+ghost use Rattle.sdf_paths.specs.declared.element.Element.TheVariants.{Prim, Property, Selection};
 ghost use Rattle.composition.specs.Paths.{limits};
 ghost use Rattle.composition.specs.Keys.{reads, same_keys, load, head, arcs, body};
 ghost use Rattle.composition_worlds.specs.WorldClassesAcrossAReference.{world as across_a_reference};
@@ -29,4 +29,14 @@ pub fn a_prim_without_arcs_reads_its_own_specs()
 #[tactic(auto, unfolding(composition::specs::Compose::meaning, composition::specs::Visits::visits))]
 pub fn the_root_reads_heads_and_names()
     ensures { same_keys (reads limits across_a_reference []) (head (codes "root.usda") ∷ body (codes "root.usda") [] ∷ []) ≡ true }
+{}
+
+/// The path of a property is no prim's: it reads nothing.
+pub fn a_property_reads_nothing()
+    ensures { reads limits across_a_reference (Prim (codes "World") ∷ Property (codes "x") ∷ []) ≡ [] }
+{}
+
+/// Nor does a path with a variant selection.
+pub fn a_selection_reads_nothing()
+    ensures { reads limits across_a_reference (Prim (codes "World") ∷ Selection (codes "s") (codes "v") ∷ Prim (codes "char") ∷ []) ≡ [] }
 {}

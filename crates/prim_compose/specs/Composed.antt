@@ -1,4 +1,5 @@
 -- The composed view of a path by parts that do not unfold in goals.
+-- docs/COMPOSITION.md, 'The stage'.
 use Rattle.std.specs.Prelude.{Bool, true, false, List, [], ◌∷◌, map, Option, Some, None}
 use Rattle.std.specs.List.{flat_map}
 use Rattle.std.specs.BTreeMap.{is_at}
@@ -33,6 +34,7 @@ viewed w p i said = view_from limits w p i said
 unfoldable pub root_viewed : World → PrimView
 root_viewed w = root_view limits w
 
+-- the metadata of `/`: that of the session and of the root layer
 unfoldable pub root_metadata : World → MetaEntries
 root_metadata w = root_meta limits w
 
@@ -45,13 +47,15 @@ namings_of (Some r) = naming_edit (children_naming r.names r.order) ∷ []
 unfoldable pub named_by : World → List (Text × Offset) → List Text
 named_by w layers = texts_once (folded_texts (flat_map (λ e. namings_of (w.roots e.0)) layers))
 
--- the views and the faults of the properties of which the specs that count are given
+-- the view of a property of which the specs that count are given
 unfoldable pub property_views : Text → List PropertySaid → List PropertyView
 property_views name ps = property_view limits name ps
 
+-- the faults of a property of which the specs that count are given
 unfoldable pub faults_of_property : Text → List PropertySaid → List Fault
 faults_of_property name ps = property_faults limits name ps
 
+-- the metadata of a property, merged over the specs that count
 unfoldable pub merged_metadata : List PropertySaid → MetaEntries
 merged_metadata ps = merged_all (map (λ p. property_meta p.property) ps)
 

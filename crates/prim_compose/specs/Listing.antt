@@ -1,4 +1,5 @@
 -- The places below a place, and what is composed there.
+-- docs/COMPOSITION.md, 'The stage'.
 use Rattle.std.specs.Prelude.{List, [], ◌∷◌, ◌++◌, map}
 use Rattle.sdf_paths.specs.declared.element.Element.{Element}
 use Rattle.sdf_paths.specs.declared.element.Element.TheVariants.{Prim}

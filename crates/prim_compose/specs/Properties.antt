@@ -1,4 +1,5 @@
 -- The properties of a prim, one after the other.
+-- docs/COMPOSITION.md, 'The stage'.
 use Rattle.std.specs.Prelude.{List, flat_map}
 use Rattle.std.specs.List.{list_any}
 use Rattle.spec_properties.specs.declared.property.Property.{Property}
@@ -32,9 +33,10 @@ abbrev pub viewed_by : Text → Property → Folded → PropertyView
 viewed_by name (Attr own ty custom uniform default samples connections meta) f = view.Attr name ty f.custom uniform f.default f.samples f.targets f.meta
 viewed_by name (Rel own custom targets meta) f = view.Rel name f.custom f.targets f.meta
 
--- the properties on the stage, and the faults of what is said of them
+-- the properties of a prim on which the opinions are given
 unfoldable pub views_on : List Said → List PropertyView
 views_on said = flat_map (λ name. property_views name (counted name said)) (properties_on said)
 
+-- the faults of what is said of those properties
 unfoldable pub faults_on : List Said → List Fault
 faults_on said = flat_map (λ name. faults_of_property name (counted name said)) (properties_on said)

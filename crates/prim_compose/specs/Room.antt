@@ -1,4 +1,5 @@
 -- The room that a path leaves for the names of its children.
+-- docs/COMPOSITION.md, 'Names and fields'.
 use Rattle.std.specs.Prelude.{ℕ, ◌-◌, nat_le, nat_lt, not, Bool, true, false, List, [], ◌∷◌, length, map, filter}
 use Rattle.sdf_paths.specs.Paths.{depth, printed}
 use Rattle.composition.specs.Paths.{Path}
@@ -14,12 +15,14 @@ bytes_left (e ∷ p) = 4096 - length (printed (e ∷ p))
 abbrev pub room_of : Path → ℕ
 room_of p = elim (nat_le 64 (depth p)) [ true ↦ 0 | false ↦ bytes_left p ]
 
+-- a child of this name has a path within the limits
 abbrev pub has_room : ℕ → Text → Bool
 has_room room name = nat_lt (length name) room
 
--- the names that fit, and the faults of those that do not
+-- the names that fit
 abbrev pub listed_in : ℕ → List Text → List Text
 listed_in room names = filter (λ name. has_room room name) names
 
+-- the faults of the names that do not fit
 abbrev pub too_long_in : ℕ → List Text → List Fault
 too_long_in room names = map child_too_long (filter (λ name. not (has_room room name)) names)

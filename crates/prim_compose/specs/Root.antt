@@ -1,4 +1,5 @@
 -- What the stage has at `/`, by parts.
+-- docs/COMPOSITION.md, 'The stage'.
 use Rattle.std.specs.Prelude.{codes, List, [], ◌∷◌, ◌++◌, map, fold, Option, Some, None}
 use Rattle.sdf_paths.specs.Order.{text_cmp}
 use Rattle.sdf_values.specs.declared.value.Value.TheVariants as value
@@ -13,6 +14,7 @@ use Rattle.composition.specs.Views.{PrimView, empty_view, head_meta, root_site}
 use Rattle.composition.specs.World.{World}
 use Rattle.prim_compose.specs.Composed.{faults_once}
 
+-- the key of the default prim among the metadata of `/`
 unfoldable pub default_key : Text
 default_key = codes "defaultPrim"
 
@@ -29,6 +31,7 @@ abbrev pub said_by_session : (Text → List MetaEntries) → Option Text → Lis
 said_by_session said None = []
 said_by_session said (Some session) = said session
 
+-- the metadata of the session layer, if there is one and it is there
 abbrev pub session_tables : World → List MetaEntries
 session_tables w = said_by_session (λ layer. head_meta (w.heading layer)) w.session
 

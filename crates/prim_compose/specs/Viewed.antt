@@ -1,4 +1,5 @@
 -- The view of a prim of the stage, by its index and the opinions on it.
+-- docs/COMPOSITION.md, 'The stage'.
 use Rattle.std.specs.Prelude.{List, ◌++◌, map, Option}
 use Rattle.composition.specs.Faults.{Fault, Index, child_too_long}
 use Rattle.composition.specs.Fields.{listed_children, unlisted_children}
@@ -21,9 +22,11 @@ index_in i = record { choices = choices_in i; sites = sites_in i; faults = fault
 abbrev pub active_names : List Said → List Text
 active_names said = unless_inactive (says_inactive (meta_on said)) (children_on said)
 
+-- the faults of a prim, each text once: of its index, its properties, and the children whose paths pass a limit
 abbrev pub all_faults : Path → List Fault → List Said → List Fault
 all_faults p faults said = faults_once ((faults ++ faults_on said) ++ map child_too_long (unlisted_children limits p (active_names said)))
 
+-- the view of a prim by its index and the opinions at its sites
 abbrev pub seen : Path → Index → List Said → PrimView
 seen p i said = record {
   specifier = specifier_on said;

@@ -1,0 +1,10 @@
+pub mod Added
+pub mod Left
+pub mod Layers
+pub mod Worlds
+pub mod Batches
+pub mod Keys
+pub mod Walks
+pub mod Whole
+pub mod Walked
+pub mod Standing

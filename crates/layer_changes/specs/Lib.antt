@@ -1,0 +1,4 @@
+pub mod PartOrder
+pub mod Changed
+pub mod Parts
+pub mod Covering
