@@ -94,6 +94,80 @@ fn lines_are_answered_up_to_the_end(rt: HostRuntime) -> Result<(), Fail> {
     Ok(())
 }
 
+// The replies behind that of the opening, and the line at the end behind its beginning.
+fn refused(alloc: Global, script: &[u8], step: usize) -> Result<(String, String), Fail> {
+    let files = layers_of(alloc, ROOT)?;
+    let ending = run(alloc, "session root.usda", files, script, step)?;
+    let opening = "published 0: batches 0, prims 1\n";
+    let replies = ending.written.as_str().strip_prefix(opening);
+    let line = ending.line.as_str().strip_prefix("usdstage: script line ");
+    Ok((
+        String::from_str(alloc, replies.unwrap_or("no reply to the opening"))?,
+        String::from_str(alloc, line.unwrap_or("another line"))?,
+    ))
+}
+
+#[test]
+fn lines_that_stand_in_the_wrong_place_are_refused(rt: HostRuntime) -> Result<(), Fail> {
+    let table: [(&[u8], &str); 9] = [
+        (b"begin", "2: Unfinished"),
+        (b"begin\n", "2: Unfinished"),
+        (b"begin\nset @root.usda@ /A.x 2\n\n", "4: Unfinished"),
+        (b"commit\n", "1: BadLine"),
+        (b"begin\nbegin\n", "2: BadLine"),
+        (b"set @root.usda@ /A.x 2\n", "1: BadLine"),
+        (b"begin\npublish\n", "2: BadLine"),
+        (b"begin\ndefault /A.x\n", "2: BadLine"),
+        (b"begin\nopen @root.usda@\n", "2: BadLine"),
+    ];
+    for (script, said) in table {
+        for step in [1, 100_000] {
+            let (replies, line) = refused(rt.alloc(), script, step)?;
+            assert_eq!(rt; replies.as_str(), "");
+            assert_eq!(rt; line.as_str(), said);
+        }
+    }
+    Ok(())
+}
+
+#[test]
+fn lines_that_are_none_are_refused(rt: HostRuntime) -> Result<(), Fail> {
+    let table: [(&[u8], &str); 7] = [
+        (b"begin\nset @root.usda@ /A.x\n", "2: BadLine"),
+        (b"begin\nset @root.usda@ A.x 2\n", "2: BadLine"),
+        (b"/* publish\n", "1: BadLine"),
+        (b"publish publish\n", "1: BadLine"),
+        (b"begin\nset @@ /A.x 2\n", "2: BadLine"),
+        (b"Publish\n", "1: BadLine"),
+        (b"value /A.x inf\n", "1: BadLine"),
+    ];
+    for (script, said) in table {
+        for step in [1, 100_000] {
+            let (replies, line) = refused(rt.alloc(), script, step)?;
+            assert_eq!(rt; replies.as_str(), "");
+            assert_eq!(rt; line.as_str(), said);
+        }
+    }
+    Ok(())
+}
+
+#[test]
+fn lines_before_a_refused_one_are_answered(rt: HostRuntime) -> Result<(), Fail> {
+    let table: [&[u8]; 3] = [
+        b"publish\nnonsense",
+        b"publish\nnonsense\npublish\n",
+        b"publish\n# \xff\n",
+    ];
+    for script in table {
+        for step in [1, 100_000] {
+            let (replies, line) = refused(rt.alloc(), script, step)?;
+            assert_eq!(rt; replies.as_str(), "published 1: batches 0, prims 1\n");
+            assert_eq!(rt; line.as_str(), "2: BadLine");
+        }
+    }
+    Ok(())
+}
+
 // A text so many times, behind its beginning.
 fn repeated(alloc: Global, begin: &str, text: &str, times: usize) -> Result<String, Fail> {
     let mut all = String::from_str(alloc, begin)?;
