@@ -1,0 +1,3 @@
+//! Openings that end without a world.
+mod failing;
+mod refused;
