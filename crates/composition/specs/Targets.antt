@@ -11,7 +11,7 @@ use Rattle.composition.specs.Paths.{Path, Limits, fits, same_path}
 use Rattle.composition.specs.Arcs.{strongest_folded}
 use Rattle.composition.specs.Nodes.{ArcMap}
 use Rattle.composition.specs.Opinions.{Said, is_opinion}
-use Rattle.composition.specs.Values.{PropertySaid, property_path}
+use Rattle.composition.specs.Values.{PropertySaid}
 
 module _ (l : Limits) where
   -- the path, where it is within the limits of paths
@@ -45,7 +45,7 @@ module _ (l : Limits) where
 
   -- the fault of an item without a translation; it names property and target as the layer has them
   abbrev pub target_fault : Text → Said → Path → List TargetFault
-  target_fault name s p = elim (to_stage s p) [ Some q ↦ [] | None ↦ (record { layer = s.layer; property = property_path name s; target = p }) ∷ [] ]
+  target_fault name s p = elim (to_stage s p) [ Some q ↦ [] | None ↦ (record { layer = s.layer; site = s.site.path; name = name; target = p }) ∷ [] ]
 
   -- the connections of an attribute, the targets of a relationship
   abbrev pub edits_of_property : Property → ListOp Path

@@ -3,7 +3,6 @@
 pub use Rattle.prim_view.specs.declared.fault.TimeFault.{TimeFault}
 use Rattle.std.specs.Prelude.{◌^◌, nat_le, Bool, true, false, cond, ℤ, int_le, unsigned_abs, List, [], ◌∷◌, ◌++◌, flat_map, filter, filter_map, Option, Some, None}
 use Rattle.std.specs.List.{list_any}
-use Rattle.sdf_paths.specs.declared.element.Element.TheVariants as element
 use Rattle.spec_properties.specs.Entries.{SampleEntries}
 use Rattle.spec_properties.specs.Properties.{property_at}
 use Rattle.spec_properties.specs.declared.property.Property.{Property}
@@ -156,13 +155,9 @@ deciding_samples (g ∷ gs) =
 abbrev pub deciding_default : List Given → Option Value
 deciding_default gs = first_of (λ g. g.default) gs
 
--- the path of a property at the site of an opinion, as the layer has it
-abbrev pub property_path : Text → Said → Path
-property_path name s = s.site.path ++ element.Property name ∷ []
-
 -- the fault of an opinion of which something is left out, also where a stronger one decides
 abbrev pub time_fault : Text → PropertySaid → List TimeFault
-time_fault name p = cond (given p).left_out ((record { layer = p.said.layer; property = property_path name p.said }) ∷ []) []
+time_fault name p = cond (given p).left_out ((record { layer = p.said.layer; site = p.said.site.path; name = name }) ∷ []) []
 
 -- the faults of all opinions on a property that count, the strongest first
 abbrev pub time_faults : Text → List PropertySaid → List TimeFault

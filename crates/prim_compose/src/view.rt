@@ -162,7 +162,7 @@ fn has_prims_alone(path: &Path) -> bool
 ///
 /// # Errors
 ///
-/// Memory ran out, or a fault names a property whose path would be none.
+/// Memory ran out.
 pub fn compose_prim(alloc: Global, world: &World, path: &Path) -> Result<PrimView, AllocError>
     ensures { IfOk result (λ view. view ≡ entry_at world.now path.now) }
 {

@@ -4,7 +4,6 @@
 mod counting;
 mod gather;
 mod offset;
-mod place;
 mod property;
 mod said;
 mod stacks;
@@ -12,6 +11,5 @@ mod stacks;
 pub use counting::specs_of;
 pub use gather::opinions_on;
 pub use offset::StageOffset;
-pub use place::property_path;
 pub use property::PropertyAt;
 pub use said::SaidAt;

@@ -113,6 +113,14 @@ refusal_of r = []
 abbrev pub place_text : Text → List Element → Text
 place_text layer path = asset_text layer ++ path_text path
 
+-- a property of a prim, by its name
+abbrev pub property_text : List Element → Text → Text
+property_text site name = codes "<" ++ printed site ++ codes "." ++ name ++ codes ">"
+
+-- a layer, and the property of which it says something
+abbrev pub property_place : Text → List Element → Text → Text
+property_place layer site name = asset_text layer ++ property_text site name
+
 -- why, and where the layer says it
 abbrev pub arc_front : ArcFault → Text
 arc_front f = reason_name f.reason ++ codes " " ++ place_text f.layer f.site
@@ -144,10 +152,10 @@ unfoldable pub child_word : Text
 child_word = codes "PathTooLong "
 
 abbrev pub time_text : TimeFault → Text
-time_text f = time_word ++ place_text f.layer f.property
+time_text f = time_word ++ property_place f.layer f.site f.name
 
 abbrev pub target_front : TargetFault → Text
-target_front f = target_word ++ place_text f.layer f.property
+target_front f = target_word ++ property_place f.layer f.site f.name
 
 abbrev pub target_text : TargetFault → Text
 target_text f = target_front f ++ codes " " ++ path_text f.target

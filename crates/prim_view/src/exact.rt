@@ -216,7 +216,7 @@ impl ExactEq for TimeFault {
 fn same_time(a: &TimeFault, b: &TimeFault) -> bool
     ensures { IsTrue result ↔ (a.now ≡ b.now) }
 {
-    same(&a.layer, &b.layer) && same(&a.property, &b.property)
+    same(&a.layer, &b.layer) && same(&a.site, &b.site) && same(&a.name, &b.name)
 }
 
 impl PartialEq for TargetFault {
@@ -251,7 +251,10 @@ impl ExactEq for TargetFault {
 fn same_target(a: &TargetFault, b: &TargetFault) -> bool
     ensures { IsTrue result ↔ (a.now ≡ b.now) }
 {
-    same(&a.layer, &b.layer) && same(&a.property, &b.property) && same(&a.target, &b.target)
+    same(&a.layer, &b.layer)
+        && same(&a.site, &b.site)
+        && same(&a.name, &b.name)
+        && same(&a.target, &b.target)
 }
 
 impl PartialEq for PrimFault {

@@ -103,15 +103,24 @@ pub struct ArcFault {
 /// An attribute some of whose times leave the range of times.
 #[derive(Clone, Debug, Drop)]
 pub struct TimeFault {
+    /// The layer that says it.
     pub layer: AssetId,
-    pub property: Path,
+    /// The path at which the layer says it.
+    pub site: Path,
+    /// The attribute's name. Together with `site` it may be longer than a path may be.
+    pub name: Text,
 }
 
 /// A target or a connection that has no meaning on the stage.
 #[derive(Clone, Debug, Drop)]
 pub struct TargetFault {
+    /// The layer that says it.
     pub layer: AssetId,
-    pub property: Path,
+    /// The path at which the layer says it.
+    pub site: Path,
+    /// The property's name. Together with `site` it may be longer than a path may be.
+    pub name: Text,
+    /// The target as the layer has it.
     pub target: Path,
 }
 

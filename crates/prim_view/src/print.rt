@@ -1,6 +1,6 @@
 //! The texts of faults.
 ghost use Rattle.std.specs.Prelude.{◌≡◌, ◌++◌, false, IfOk, OnOk, codes, string_bytes};
-ghost use Rattle.prim_view.specs.Printing.{path_text, is_zero, is_one, is_identity, unless_identity, offset_text, item_name, item_text, field_name, reason_name, refusal_name, refusal_text, refusal_of, arc_front, arc_back, arc_text, sublayer_reason_name, sublayer_text, place_text, target_word, time_word, child_word, time_text, target_front, target_text, child_text, fault_text};
+ghost use Rattle.prim_view.specs.Printing.{path_text, is_zero, is_one, is_identity, unless_identity, offset_text, item_name, item_text, field_name, reason_name, refusal_name, refusal_text, refusal_of, arc_front, arc_back, arc_text, sublayer_reason_name, sublayer_text, place_text, property_text, property_place, target_word, time_word, child_word, time_text, target_front, target_text, child_text, fault_text};
 ghost use Rattle.sdf_values.specs.Print.{asset_text};
 
 use crate::fault::{
@@ -194,6 +194,29 @@ fn push_place(out: &mut String, layer: &AssetId, path: &Path) -> Result<(), Allo
     push_path(out, path)
 }
 
+fn push_property(out: &mut String, site: &Path, name: &Text) -> Result<(), AllocError>
+    ensures { OnOk result (string_bytes out.new ≡ string_bytes out.old ++ property_text site.now name.now) }
+{
+    let text = site.print()?;
+    out.push_str("<")?;
+    out.push_str(text.as_str())?;
+    out.push_str(".")?;
+    out.push_str(name.as_str())?;
+    out.push_str(">")
+}
+
+fn push_property_place(
+    out: &mut String,
+    layer: &AssetId,
+    site: &Path,
+    name: &Text,
+) -> Result<(), AllocError>
+    ensures { OnOk result (string_bytes out.new ≡ string_bytes out.old ++ property_place layer.now site.now name.now) }
+{
+    push_name(out, layer)?;
+    push_property(out, site, name)
+}
+
 fn push_arc_front(out: &mut String, fault: &ArcFault) -> Result<(), AllocError>
     ensures { OnOk result (string_bytes out.new ≡ string_bytes out.old ++ arc_front fault.now) }
 {
@@ -254,14 +277,14 @@ fn push_time(out: &mut String, fault: &TimeFault) -> Result<(), AllocError>
     ensures { OnOk result (string_bytes out.new ≡ string_bytes out.old ++ time_text fault.now) }
 {
     out.push_str(time_word())?;
-    push_place(out, &fault.layer, &fault.property)
+    push_property_place(out, &fault.layer, &fault.site, &fault.name)
 }
 
 fn push_target_front(out: &mut String, fault: &TargetFault) -> Result<(), AllocError>
     ensures { OnOk result (string_bytes out.new ≡ string_bytes out.old ++ target_front fault.now) }
 {
     out.push_str(target_word())?;
-    push_place(out, &fault.layer, &fault.property)
+    push_property_place(out, &fault.layer, &fault.site, &fault.name)
 }
 
 fn push_target(out: &mut String, fault: &TargetFault) -> Result<(), AllocError>

@@ -12,7 +12,7 @@ use Rattle.composition.specs.Opinions.{Said, is_opinion}
 use Rattle.composition.specs.Paths.{Path, limits}
 use Rattle.composition.specs.Targets.{translated_op, translated_ops, target_fault, target_faults}
 use Rattle.composition.specs.Texts.{Text}
-use Rattle.composition.specs.Values.{PropertySaid, property_path}
+use Rattle.composition.specs.Values.{PropertySaid}
 use Rattle.target_resolve.specs.Translating.{on_stage, is_missing, is_lost, op_on_stage, outside, folded_paths, if_any, edits_of, tried}
 use Rattle.target_resolve.specs.Resolving.{ops_by, targets_by, faults_by, with_op}
 use Rattle.target_resolve.proofs.Moved.{filter_append}
@@ -33,7 +33,7 @@ faults_of name s (p ∷ ps) =
     ∙ (ap (λ (more : List PrimFault). map TargetOutside (target_fault limits name s p) ++ more) (faults_of name s ps) ∙ by_moved (on_stage s.site.maps p))
   where
     by_moved : (o : Option Path)
-        → map TargetOutside (elim o as (λ _. List TargetFault) [ Some q ↦ [] | None ↦ (record { layer = s.layer; property = property_path name s; target = p }) ∷ [] ]) ++ map (outside name s) (filter (is_lost s.site.maps) ps)
+        → map TargetOutside (elim o as (λ _. List TargetFault) [ Some q ↦ [] | None ↦ (record { layer = s.layer; site = s.site.path; name = name; target = p }) ∷ [] ]) ++ map (outside name s) (filter (is_lost s.site.maps) ps)
         ≡ map (outside name s) (cond (is_missing o) (p ∷ filter (is_lost s.site.maps) ps) (filter (is_lost s.site.maps) ps))
     by_moved (Some q) = refl
     by_moved None = refl

@@ -2,7 +2,6 @@
 use Rattle.std.specs.Prelude.{Bool, true, false, List, [], ◌∷◌, ◌++◌, filter_map, option_map, Option, Some, None}
 use Rattle.list_ops.specs.declared.op.ListOp.{ListOp}
 use Rattle.path_maps.specs.Maps.{translated}
-use Rattle.sdf_paths.specs.declared.element.Element.TheVariants.{Property}
 use Rattle.prim_view.specs.declared.fault.PrimFault.{PrimFault}
 use Rattle.prim_view.specs.declared.fault.PrimFault.TheVariants.{TargetOutside}
 use Rattle.spec_properties.specs.declared.property.Property.{Property as PropertySpec}
@@ -46,7 +45,7 @@ op_on_stage maps op = record {
 
 -- the fault of an item without a translation
 abbrev pub outside : Text → Said → Path → PrimFault
-outside name s p = TargetOutside (record { layer = s.layer; property = s.site.path ++ Property name ∷ []; target = p })
+outside name s p = TargetOutside (record { layer = s.layer; site = s.site.path; name = name; target = p })
 
 -- what opinions, given from the strongest to the weakest, make of the empty list
 unfoldable pub folded_paths : List (ListOp Path) → List Path

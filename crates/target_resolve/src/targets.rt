@@ -9,7 +9,7 @@ use crate::edits::{if_any, is_opinion, translated_edits};
 use layer_set::World;
 use list_ops::ListOp;
 use plain_data::{Items, Text, copy};
-use prim_opinions::{PropertyAt, SaidAt, opinions_on, property_path, specs_of};
+use prim_opinions::{PropertyAt, SaidAt, opinions_on, specs_of};
 use prim_view::{PrimFault, Site, TargetFault};
 use sdf_paths::Path;
 use spec_properties::Property;
@@ -43,7 +43,6 @@ fn edits_of(property: &Property) -> &ListOp<Path>
 
 /// Appends a fault for each item of an opinion that has no translation.
 fn push_faults(
-    alloc: Global,
     faults: &mut Items<PrimFault>,
     name: &Text,
     said: &SaidAt<'_, '_>,
@@ -52,10 +51,10 @@ fn push_faults(
     ensures { OnOk result (faults.new ≡ faults.old ++ map (outside name.now said.now) lost.now) }
 {
     for target in lost {
-        let property = property_path(alloc, &said.site().path, name)?;
         faults.push(PrimFault::TargetOutside(TargetFault {
             layer: copy(said.layer())?,
-            property,
+            site: copy(&said.site().path)?,
+            name: copy(name)?,
             target: copy(target)?,
         }))?;
     }
@@ -92,7 +91,7 @@ fn gather(
         let said = opinion.said();
         let there = translated_edits(alloc, said.site().maps.as_slice(), edits)?;
         push_op(&mut ops, edits, there.op)?;
-        push_faults(alloc, &mut faults, name, said, there.lost.as_slice())?;
+        push_faults(&mut faults, name, said, there.lost.as_slice())?;
     }
     Ok(Gathered { ops, faults })
 }
@@ -101,7 +100,7 @@ fn gather(
 ///
 /// # Errors
 ///
-/// Memory ran out, or a fault names a property whose path would be none.
+/// Memory ran out.
 pub fn resolve_targets_by(
     alloc: Global,
     name: &Text,
@@ -119,7 +118,7 @@ pub fn resolve_targets_by(
 ///
 /// # Errors
 ///
-/// Memory ran out, or a fault names a property whose path would be none.
+/// Memory ran out.
 pub fn resolve_targets_of(
     alloc: Global,
     said: &[SaidAt<'_, '_>],
@@ -136,7 +135,7 @@ pub fn resolve_targets_of(
 ///
 /// # Errors
 ///
-/// Memory ran out, or a fault names a property whose path would be none.
+/// Memory ran out.
 pub fn resolve_targets(
     alloc: Global,
     world: &World,

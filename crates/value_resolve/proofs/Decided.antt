@@ -11,7 +11,7 @@ use Rattle.composition.specs.Arcs.{is_empty}
 use Rattle.composition.specs.Fields.{or_else}
 use Rattle.composition.specs.Opinions.{Said}
 use Rattle.composition.specs.Texts.{Text}
-use Rattle.composition.specs.Values.{PropertySaid, Given, given, deciding_default, deciding_samples, time_fault, time_faults, property_path}
+use Rattle.composition.specs.Values.{PropertySaid, Given, given, deciding_default, deciding_samples, time_fault, time_faults}
 use Rattle.value_resolve.specs.declared.decision.Decision.{Decision}
 use Rattle.value_resolve.specs.Deciding.{undecided, decided_next}
 use Rattle.value_resolve.specs.Missing.{is_missing}
@@ -83,7 +83,7 @@ faults_more name ps p =
     ∙ (map-append TimeOutside (time_faults name ps) (time_fault name p ++ [])
     ∙ ap (λ (more : List PrimFault). map TimeOutside (time_faults name ps) ++ more) (ap (map TimeOutside) (append_none (time_fault name p)) ∙ by_left (given p).left_out))
   where
-    by_left : (b : Bool) → map TimeOutside (cond b ((record { layer = p.said.layer; property = property_path name p.said }) ∷ []) []) ≡ fault_if name p.said b
+    by_left : (b : Bool) → map TimeOutside (cond b ((record { layer = p.said.layer; site = p.said.site.path; name = name }) ∷ []) []) ≡ fault_if name p.said b
     by_left true = refl
     by_left false = refl
 

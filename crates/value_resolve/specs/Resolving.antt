@@ -1,6 +1,5 @@
 -- The values of an attribute by its specs.
 use Rattle.std.specs.Prelude.{Bool, List, [], ◌∷◌, ◌++◌, cond, map, Option}
-use Rattle.sdf_paths.specs.declared.element.Element.TheVariants.{Property}
 use Rattle.sdf_values.specs.declared.value.Value.{Value}
 use Rattle.spec_properties.specs.Entries.{SampleEntries}
 use Rattle.prim_view.specs.declared.fault.PrimFault.{PrimFault}
@@ -23,4 +22,4 @@ faults_by name ps = map TimeOutside (time_faults name ps)
 
 -- the fault of one opinion, if something of it is left out
 abbrev pub fault_if : Text → Said → Bool → List PrimFault
-fault_if name s left_out = cond left_out (TimeOutside (record { layer = s.layer; property = s.site.path ++ Property name ∷ [] }) ∷ []) []
+fault_if name s left_out = cond left_out (TimeOutside (record { layer = s.layer; site = s.site.path; name = name }) ∷ []) []

@@ -8,7 +8,7 @@ use crate::decision::Decision;
 use crate::on_stage::given;
 use layer_set::World;
 use plain_data::{Items, Text, copy};
-use prim_opinions::{PropertyAt, SaidAt, opinions_on, property_path, specs_of};
+use prim_opinions::{PropertyAt, SaidAt, opinions_on, specs_of};
 use prim_view::{PrimFault, Site, TimeFault};
 use sdf_values::Value;
 use spec_properties::Samples;
@@ -27,7 +27,6 @@ pub struct AttrValue {
 
 /// Appends the fault of an opinion, if something of it is left out.
 fn push_fault(
-    alloc: Global,
     faults: &mut Items<PrimFault>,
     name: &Text,
     said: &SaidAt<'_, '_>,
@@ -36,10 +35,10 @@ fn push_fault(
     ensures { OnOk result (faults.new ≡ faults.old ++ fault_if name.now said.now left_out) }
 {
     if left_out {
-        let property = property_path(alloc, &said.site().path, name)?;
         faults.push(PrimFault::TimeOutside(TimeFault {
             layer: copy(said.layer())?,
-            property,
+            site: copy(&said.site().path)?,
+            name: copy(name)?,
         }))?;
     }
     Ok(())
@@ -49,7 +48,7 @@ fn push_fault(
 ///
 /// # Errors
 ///
-/// Memory ran out, or a fault names a property whose path would be none.
+/// Memory ran out.
 pub fn resolve_attr_by(
     alloc: Global,
     name: &Text,
@@ -63,7 +62,7 @@ pub fn resolve_attr_by(
     let mut faults = Items::new(alloc);
     for opinion in specs {
         let given = given(alloc, opinion)?;
-        push_fault(alloc, &mut faults, name, opinion.said(), given.left_out)?;
+        push_fault(&mut faults, name, opinion.said(), given.left_out)?;
         decision = decision.and_then(given);
     }
     let Decision {
@@ -82,7 +81,7 @@ pub fn resolve_attr_by(
 ///
 /// # Errors
 ///
-/// Memory ran out, or a fault names a property whose path would be none.
+/// Memory ran out.
 pub fn resolve_attr_of(
     alloc: Global,
     said: &[SaidAt<'_, '_>],
@@ -100,7 +99,7 @@ pub fn resolve_attr_of(
 ///
 /// # Errors
 ///
-/// Memory ran out, or a fault names a property whose path would be none.
+/// Memory ran out.
 pub fn resolve_attr(
     alloc: Global,
     world: &World,
