@@ -16,7 +16,7 @@ use Rattle.session_script.specs.Told.{BothTold}
 use Rattle.session_script.specs.Pieces.{lines_of}
 use Rattle.script_lines.specs.Lines.{line_of}
 use Rattle.session_script.specs.Reading.{Steps, ended, refused, step, Move, goes_on, asks, refuses, move, most_bytes, at_end, steps_from}
-use Rattle.session_script.specs.States.{State, steps_left, AnswersNext, Feeds, FrontIs, TakesLine, EndsScript, stopped_at, behind_line}
+use Rattle.session_script.specs.States.{State, steps_behind, steps_left, AnswersNext, Feeds, FrontIs, TakesLine, EndsScript, stopped_at, behind_line}
 
 pub told_then : (x y z : Option (List ℕ)) (P Q R : List ℕ → List ℕ → Type 0) → BothTold x y P → BothTold y z Q → ((a b c : List ℕ) → P a b → Q b c → R a c) → BothTold x z R
 told_then None y z P Q R p q h = tt
@@ -53,7 +53,7 @@ fed old new (Some a) (Some b) f =
 
 -- ---- the lines in front
 
-none_left : (taken lines : ℕ) (batch : Option (List Op)) → steps_from taken lines batch [] ≡ at_end batch (lines + 1)
+pub none_left : (taken lines : ℕ) (batch : Option (List Op)) → steps_from taken lines batch [] ≡ at_end batch (lines + 1)
 unfolding steps_from
 none_left taken lines batch = refl
 
@@ -62,12 +62,12 @@ unfolding steps_from
 long_line taken lines batch l ls e = rw (e, steps_from) refl
 
 -- what comes of a line by its move
-abbrev moved : Move → ℕ → ℕ → List ℕ → List (List ℕ) → Steps
+abbrev pub moved : Move → ℕ → ℕ → List ℕ → List (List ℕ) → Steps
 moved (goes_on next) taken lines l ls = steps_from (taken + length l) (lines + 1) next ls
 moved (asks s) taken lines l ls = step (lines + 1) s (steps_from (taken + length l) (lines + 1) None ls)
 moved refuses taken lines l ls = refused (lines + 1) BadLine
 
-short_line : (taken lines : ℕ) (batch : Option (List Op)) (l : List ℕ) (ls : List (List ℕ)) (m : Move) → nat_lt most_bytes (taken + length l) ≡ false → move batch (line_of l) ≡ m → steps_from taken lines batch (l ∷ ls) ≡ moved m taken lines l ls
+pub short_line : (taken lines : ℕ) (batch : Option (List Op)) (l : List ℕ) (ls : List (List ℕ)) (m : Move) → nat_lt most_bytes (taken + length l) ≡ false → move batch (line_of l) ≡ m → steps_from taken lines batch (l ∷ ls) ≡ moved m taken lines l ls
 unfolding steps_from
 short_line taken lines batch l ls (goes_on next) e is = rw (e, is, steps_from) refl
 short_line taken lines batch l ls (asks s) e is = rw (e, is, steps_from) refl
@@ -81,7 +81,7 @@ TakesOn (Err (Refused line kind)) old new more = (steps_left old more ≡ refuse
 TakesOn (Err ReadFault) old new more = ⊥
 TakesOn (Err NoMemory) old new more = new ≡ old
 
-taken_len : (len : ℕ) (l : List ℕ) → len ≤ length l → length (take len l) ≡ len
+pub taken_len : (len : ℕ) (l : List ℕ) → len ≤ length l → length (take len l) ≡ len
 taken_len len l within = omega (arith, length-take len l)
 
 front_line : (len : ℕ) (s : State) (more : List ℕ) (m : Move) → s.stopped ≡ None → len ≤ length s.held → s.taken + len ≤ 16777216

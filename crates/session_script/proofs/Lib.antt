@@ -1,3 +1,5 @@
 pub mod Pieces
 pub mod Feeds
 pub mod Going
+pub mod Passing
+pub mod Whole

@@ -24,9 +24,13 @@ pub record State : Type 0 where
   pub line : ℕ
   pub stopped : Option (ℕ × ScriptKind)
 
+-- the steps of these lines, where so much was read of a script before them
+abbrev pub steps_behind : State → List (List ℕ) → Steps
+steps_behind s lines = elim s.stopped [ Some at ↦ refused at.0 at.1 | None ↦ steps_from s.taken s.lines s.batch lines ]
+
 -- the steps that are left, where the source has these bytes left
 abbrev pub steps_left : State → List ℕ → Steps
-steps_left s left = elim s.stopped [ Some at ↦ refused at.0 at.1 | None ↦ steps_from s.taken s.lines s.batch (lines_of (s.held ++ left)) ]
+steps_left s left = steps_behind s (lines_of (s.held ++ left))
 
 -- what a call answers, of the steps that were left before and are left after it, and of the line that it ended
 abbrev pub AnswersNext : Result (Option Step) ScriptFault → ℕ → Steps → Steps → Type 0
@@ -86,6 +90,18 @@ EndsScript (Ok (Some s)) old new = ⊥
 EndsScript (Err (Refused line kind)) old new = (ops : List Op) × (old.batch ≡ Some ops) × (line ≡ old.lines + 1) × (kind ≡ Unfinished) × (new ≡ stopped_at old Unfinished)
 EndsScript (Err ReadFault) old new = ⊥
 EndsScript (Err NoMemory) old new = ⊥
+
+-- These lines were taken: they are the first of those that were left, and the others are left after them.
+abbrev pub AreTaken : List (List ℕ) → State → State → Option (List ℕ) → Option (List ℕ) → Type 0
+AreTaken ls old new before after = BothTold before after (λ a b. lines_of (old.held ++ a) ≡ ls ++ lines_of (new.held ++ b))
+
+-- The lines that a call took: whatever lines follow them, these are their steps. At a fault of the source all whole lines were taken.
+abbrev pub Passes : Result (Option Step) ScriptFault → State → State → Option (List ℕ) → Option (List ℕ) → Type 0
+Passes (Ok (Some s)) old new before after = (ls : List (List ℕ)) × AreTaken ls old new before after × ((rs : List (List ℕ)) → steps_behind old (ls ++ rs) ≡ step new.line s (steps_behind new rs))
+Passes (Ok None) old new before after = Unit {0}
+Passes (Err (Refused n kind)) old new before after = Unit {0}
+Passes (Err ReadFault) old new before after = (ls : List (List ℕ)) × AreTaken ls old new before after × ((rs : List (List ℕ)) → steps_behind old (ls ++ rs) ≡ steps_behind new rs) × (has_feed new.held ≡ false)
+Passes (Err NoMemory) old new before after = Unit {0}
 
 -- how the counts of a script go on: only a step has a line, and each takes bytes
 abbrev pub Counts : Result (Option Step) ScriptFault → State → State → Type 0

@@ -1,6 +1,6 @@
 //! The line in front of a script, read from its source.
 
-ghost use Rattle.std.specs.Prelude.{◌≡◌, ◌+◌, ◌-◌, ◌<◌, ◌≤◌, ◌++◌, List, ℕ, length, drop, take, false, true, Ok, Err, IfOk, OnErr, IfSome, IfNone, slice_index, if◌then◌else◌, nat_lt};
+ghost use Rattle.std.specs.Prelude.{◌≡◌, ◌+◌, ◌-◌, ◌<◌, ◌≤◌, ◌++◌, List, ℕ, length, drop, take, false, true, Ok, Err, IfOk, IfErr, OnErr, IfSome, IfNone, slice_index, if◌then◌else◌, nat_lt};
 ghost use Rattle.std.specs.Io.KnownBytes.{Consumes, IsAtEnd, Keeps};
 ghost use Rattle.io_edges.specs.Causes.{Rose};
 ghost use Rattle.session_script.specs.States.{has_feed, IsScanned};
@@ -87,6 +87,8 @@ pub fn read_front<S: Source>(
     ensures later { S.faults source.old ≤ S.faults source.new }
     ensures cause { result ≡ Err ScriptFault.ReadFault → Rose (S.faults source.old) (S.faults source.new) }
     ensures faults { IsReadError result }
+    // At a fault no whole line is left of what was read.
+    ensures none { IfErr result (λ _. has_feed (drop start bytes.new.items) ≡ false) }
 {
     loop {
         if let Some(at) = find_feed(bytes, *scanned) {

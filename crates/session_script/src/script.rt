@@ -1,6 +1,6 @@
 //! The script, step by step.
 
-ghost use Rattle.std.specs.Prelude.{◌≡◌, ◌+◌, ◌<◌, ◌≤◌, ◌++◌, [], List, ℕ, length, drop, take, true, false, Ok, Err, None, Some, IfOk, IsSome};
+ghost use Rattle.std.specs.Prelude.{◌≡◌, ◌+◌, ◌<◌, ◌≤◌, ◌++◌, [], List, ℕ, length, drop, take, true, false, Ok, Err, None, Some, IfErr, IfOk, IsSome};
 ghost use Rattle.io_edges.specs.Causes.{Rose};
 ghost use Rattle.session_script.specs.Fronts.{IsReadError};
 
@@ -53,7 +53,7 @@ fn part_of(bytes: &[u8], start: usize, len: usize) -> &[u8]
 
 impl Script {
     ghost use Rattle.session_script.specs.Told.{BothTold};
-    ghost use Rattle.session_script.specs.States.{AnswersNext, Counts, EndsScript, Feeds, FrontIs, TakesLine, stopped_at, steps_left};
+    ghost use Rattle.session_script.specs.States.{AnswersNext, Counts, EndsScript, Feeds, FrontIs, Passes, TakesLine, has_feed, stopped_at, steps_left};
     ghost use Rattle.session_script.specs.Reading.{move};
     ghost use Rattle.script_lines.specs.Lines.{line_of};
 
@@ -88,6 +88,7 @@ impl Script {
         ensures later { S.faults source.old ≤ S.faults source.new }
         ensures cause { result ≡ Err ScriptFault.ReadFault → Rose (S.faults source.old) (S.faults source.new) }
         ensures faults { IsReadError result }
+        ensures none { IfErr result (λ _. has_feed self.new.held ≡ false) }
     {
         read_front(&mut self.bytes, self.start, &mut self.scanned, source)
     }
@@ -146,6 +147,8 @@ impl Script {
     pub fn next<S: Source>(&mut self, source: &mut S) -> Result<Option<Step>, ScriptFault>
         // The answer is the first of the steps that were left, and the others are left after it: however the source cuts the bytes, they are the steps of all its bytes.
         ensures answer { BothTold (S.left source.old) (S.left source.new) (λ a b. AnswersNext result self.new.line (steps_left self.old a) (steps_left self.new b)) }
+        // The lines that it took for a step, or up to a fault of the source, whatever follows them.
+        ensures lines { Passes result self.old self.new (S.left source.old) (S.left source.new) }
         ensures end { result ≡ Ok None → BothTold (S.left source.old) (S.left source.new) (λ _ b. b ≡ []) }
         ensures counts { Counts result self.old self.new }
         ensures again { IsSome self.old.stopped → (self.new ≡ self.old) × (source.new ≡ source.old) }

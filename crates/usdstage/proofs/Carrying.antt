@@ -27,11 +27,11 @@ pub onto_onto : (a b : List ℕ) (c : Course) → onto a (onto b c) ≡ onto (a 
 onto_onto a b c = ap (λ (l : List ℕ). record { text = l; due = c.due }) (sym (append_assoc a b c.text))
 
 module _ (held : Text → Held) (size : Text → ℕ) where
-  carried-ended : (s : Session) (b : ℕ) → carried held size s b ended ≡ nothing Done
+  pub carried-ended : (s : Session) (b : ℕ) → carried held size s b ended ≡ nothing Done
   unfolding carried
   carried-ended s b = refl
 
-  carried-refused : (s : Session) (b line : ℕ) (kind : ScriptKind) → carried held size s b (reading.refused line kind) ≡ nothing (ScriptRefused line kind)
+  pub carried-refused : (s : Session) (b line : ℕ) (kind : ScriptKind) → carried held size s b (reading.refused line kind) ≡ nothing (ScriptRefused line kind)
   unfolding carried
   carried-refused s b line kind = refl
 
@@ -64,7 +64,7 @@ module _ (held : Text → Held) (size : Text → ℕ) where
       (r.written, cut (carried held size start b0 all) status r.written k ((carried held size now b left).text, sym (text_of start now b0 b all left x y r)), r.appends)
 
   -- one step more, whose reply was written whole
-  reached_more : (start now next : Session) (b0 b total : ℕ) (all before left : Steps) (line : ℕ) (s : Step) (reply : List ℕ) (x y z : Option (List ℕ)) → Reached start now b0 b all before x y → before ≡ step line s left
+  pub reached_more : (start now next : Session) (b0 b total : ℕ) (all before left : Steps) (line : ℕ) (s : Step) (reply : List ℕ) (x y z : Option (List ℕ)) → Reached start now b0 b all before x y → before ≡ step line s left
       → turn held size now b s ≡ Ok (record { reply = reply; session = next; bytes = total }) → Appends y z reply → Reached start next b0 total all left x z
   reached_more start now next b0 b total all before left line s reply x y z r e turns wrote =
       let here : carried held size now b before ≡ onto reply (carried held size next total left) = ap (carried held size now b) e ∙ carried-step now b line s left ∙ ap (by_turn (λ t k. carried held size t k left)) turns in
@@ -198,6 +198,12 @@ module _ (held : Text → Held) (size : Text → ℕ) where
       → EndsWith (carried held size (opening world) bytes (steps_of script)) status y z → EndsWith (session_course held size world bytes script) status x z
   opened_then world bytes script status x y z few first ends =
       behind (session_course held size world bytes script) (carried held size (opening world) bytes (steps_of script)) (opening_text world) status x y z (opened world bytes script few) first ends
+
+  -- the reply to the opening was written, and then the replies to the lines of a script
+  pub opened_replies : (world : WorldData) (bytes : ℕ) (script : List ℕ) (x y z : Option (List ℕ)) → length (stage_after world []) ≤ most_paths → Appends x y (opening_text world)
+      → Appends y z (carried held size (opening world) bytes (steps_of script)).text → Appends x z (session_course held size world bytes script).text
+  opened_replies world bytes script x y z few first then =
+      subst (λ (c : Course). Appends x z c.text) (sym (opened world bytes script few)) (appends_then x y z (opening_text world) (carried held size (opening world) bytes (steps_of script)).text first then)
 
   -- ---- what a reply makes of a run
 

@@ -13,16 +13,18 @@ use Rattle.layer_load.specs.declared.load.Loaded.{Loaded}
 use Rattle.layer_set.specs.Worlds.{WorldData}
 use Rattle.layer_set.specs.declared.held.Held.{Held}
 use Rattle.session_script.specs.Reading.{steps_of}
+use Rattle.session_script.specs.Told.{BothTold}
+use Rattle.session_script.proofs.Going.{told_weaker}
 use Rattle.stage_session.specs.Sessions.{Session as SessionState, stage_after, most_paths, opening, opening_text}
 use Rattle.std.specs.Prelude.{length, ◌≤◌}
 use Rattle.usdstage.specs.Course.{Course, nothing, unopened, flat_course, session_course, world_course, opened_course, carried, course}
-use Rattle.usdstage.specs.Outcome.{ByFiles, Ends, EndsAsDue, EndsWith, IsScript}
+use Rattle.usdstage.specs.Outcome.{ByFiles, Ends, EndsAsDue, EndsWith, IsScript, RepliesToLines}
 use Rattle.usdstage.specs.declared.status.Status.{Status}
-use Rattle.usdstage.specs.declared.status.Status.TheVariants.{ReadFault, WriteFault, NoMemory, Usage}
+use Rattle.usdstage.specs.declared.status.Status.TheVariants.{ReadFault, WriteFault, RootRefused, WorldTooLarge, NoMemory, Usage}
 use Rattle.usdstage.specs.declared.words.Command.{Command}
 use Rattle.usdstage.specs.declared.words.Verb.{Verb}
 use Rattle.usdstage.specs.declared.words.Verb.TheVariants as verbs
-use Rattle.usdstage.proofs.Carrying.{opened_then}
+use Rattle.usdstage.proofs.Carrying.{opened_then, opened_replies}
 use Rattle.usdstage.proofs.Files.{by_files, then_files}
 use Rattle.usdstage.proofs.Outcomes.{cut_at_once, ends_with_nothing, due_by}
 
@@ -48,6 +50,14 @@ session_told told left a b c world bytes session status is few first o =
 pub session_ended : (told : Option Files) (left a b : Option (List ℕ)) (world : WorldData) (bytes : ℕ) (status : Status) → ((bytes : ℕ) (held : Text → Held) (size : Text → ℕ) (script : List ℕ) → EndsWith (session_course held size world bytes script) status a b)
     → ByFiles told (λ held size. IfSome left (λ all. EndsWith (session_course held size world bytes all) status a b))
 session_ended told left a b world bytes status h = by_files told _ (λ held size. some_all left _ (λ all. h bytes held size all))
+
+-- the replies behind the one to the opening
+pub session_replies : (told : Option Files) (p q a b c : Option (List ℕ)) (world : WorldData) (bytes : ℕ) (session : SessionState) → session ≡ opening world → length (stage_after world []) ≤ most_paths → Appends a b (opening_text world)
+    → ByFiles told (λ held size. BothTold p q (λ all left. RepliesToLines (λ lines. carried held size session bytes (steps_of lines)) all left b c))
+    → ByFiles told (λ held size. BothTold p q (λ all left. RepliesToLines (λ lines. session_course held size world bytes lines) all left a c))
+session_replies told p q a b c world bytes session is few first o =
+    then_files told _ _ o (λ held size k. told_weaker p q _ _ k (λ all left r.
+    (r.0, r.1, opened_replies held size world bytes r.0 a b c few first (subst (λ (s : SessionState). Appends b c (carried held size s bytes (steps_of r.0)).text) is r.2))))
 
 -- ---- the opening of a world
 
@@ -89,6 +99,23 @@ opened_session (Some f) command left a b loaded status o verb e = λ held read s
     let here = rw o.fit at o.answers in
     let c : course held (taken_at f) (Some command) s ≡ session_course held (taken_at f) loaded.world loaded.bytes s = opened_is held (taken_at f) command s (Ok loaded) (here held read) ∙ ap (λ (v : Verb). world_course held (taken_at f) v loaded s) verb in
     subst (λ (x : Course). EndsWith x status a b) (sym c) (some_is left s _ (reads command left s verb k) (e held read))
+
+pub command_replies : (told : Option Files) (command : Command) (p q a b : Option (List ℕ)) (loaded : Loaded) → Opens told most_names command.root command.session (Ok loaded) → command.verb ≡ verbs.Session
+    → ByFiles told (λ held size. BothTold p q (λ all left. RepliesToLines (λ lines. session_course held size loaded.world loaded.bytes lines) all left a b))
+    → ByFiles told (λ held size. BothTold p q (λ all left. RepliesToLines (λ lines. course held size (Some command) lines) all left a b))
+command_replies None command p q a b loaded o verb k = tt
+command_replies (Some f) command p q a b loaded o verb k = λ held read.
+    let here = rw o.fit at o.answers in
+    told_weaker p q _ _ (k held read) (λ all left r.
+    let c : course held (taken_at f) (Some command) r.0 ≡ session_course held (taken_at f) loaded.world loaded.bytes r.0 = opened_is held (taken_at f) command r.0 (Ok loaded) (here held read) ∙ ap (λ (v : Verb). world_course held (taken_at f) v loaded r.0) verb in
+    (r.0, r.1, subst (λ (x : Course). Appends a b x.text) (sym c) r.2))
+
+-- a run that was not opened ended with a fault of the files
+pub unopened_by_files : (fault : LoadFault) (status : Status) → status ≡ unopened fault → status ≡ ReadFault → fault ≡ load.ReadFault
+unopened_by_files load.ReadFault status is e = refl
+unopened_by_files (load.RootRefused name refusal) status is e = absurd (let f : RootRefused name refusal ≡ ReadFault = sym is ∙ e in cc)
+unopened_by_files load.WorldTooLarge status is e = absurd (let f : WorldTooLarge ≡ ReadFault = sym is ∙ e in cc)
+unopened_by_files load.NoMemory status is e = absurd (let f : NoMemory ≡ ReadFault = sym is ∙ e in cc)
 
 -- ---- the whole run
 

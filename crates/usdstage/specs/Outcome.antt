@@ -4,6 +4,7 @@ use Rattle.std.specs.Io.KnownBytes.{Appends}
 use Rattle.composition.specs.Texts.{Text}
 use Rattle.layer_load.specs.Files.{Files, AreRead, taken_at}
 use Rattle.layer_set.specs.declared.held.Held.{Held}
+use Rattle.session_script.specs.Cuts.{AreWholeLines}
 use Rattle.stage_session.specs.Sessions.{Session}
 use Rattle.usdstage.specs.Command.{command_of}
 use Rattle.usdstage.specs.Course.{Course, Turn, course}
@@ -35,6 +36,10 @@ Ends c NoMemory written = IsFront c written
 -- something was written with which the run ends so
 abbrev pub EndsWith : Course → Status → Option (List ℕ) → Option (List ℕ) → Type 0
 EndsWith c status before after = (written : List ℕ) × Ends c status written × Appends before after written
+
+-- What was written are the replies of a course to all whole lines that were read of a script, of which so much is left.
+abbrev pub RepliesToLines : (List ℕ → Course) → List ℕ → List ℕ → Option (List ℕ) → Option (List ℕ) → Type 0
+RepliesToLines c all left before after = (whole : List ℕ) × AreWholeLines all left whole × Appends before after (c whole).text
 
 -- the fact of what stands at each name, and of the bytes fetched for it, where the files are told
 abbrev pub ByFiles : Option Files → ((Text → Held) → (Text → ℕ) → Type 0) → Type 0

@@ -10,7 +10,7 @@ ghost use Rattle.session_script.specs.Reading.{steps_of};
 ghost use Rattle.stage_session.specs.Sessions.{most_paths, opening, opening_text, stage_after};
 ghost use Rattle.usdstage.specs.Command.{command_of};
 ghost use Rattle.usdstage.specs.Course.{nothing, onto, unopened, turn, flat_course, session_course, carried, course};
-ghost use Rattle.usdstage.specs.Outcome.{ByFiles, Carries, Ends, EndsAsDue, EndsWith, IsFront, IsScript, Takes};
+ghost use Rattle.usdstage.specs.Outcome.{ByFiles, Carries, Ends, EndsAsDue, EndsWith, IsFront, IsScript, RepliesToLines, Takes};
 ghost use Rattle.usdstage.specs.declared.words.Verb.{Verb as SaidVerb};
 ghost use Rattle.usdstage.specs.declared.words.Verb.TheVariants as verbs;
 
@@ -182,6 +182,8 @@ fn run_script<F: LayerFiles, S: Source, K: Sink>(
     ensures outcome { ByFiles (F.files files.old) (λ held size. IfSome (S.left script.old) (λ all. EndsWith (carried held size session bytes (steps_of all)) result (K.taken out.old) (K.taken out.new))) }
     ensures end { result ≡ Status.Done → BothTold (S.left script.old) (S.left script.new) (λ _ b. b ≡ []) }
     ensures read_fault { result ≡ Status.ReadFault → Rose (F.faults files.old) (F.faults files.new) ⊎ Rose (S.faults script.old) (S.faults script.new) }
+    ensures script_fault { result ≡ Status.ReadFault → (Rose (F.faults files.old) (F.faults files.new) → ⊥) → ByFiles (F.files files.old) (λ held size. BothTold (S.left script.old) (S.left script.new)
+        (λ all left. RepliesToLines (λ lines. carried held size session bytes (steps_of lines)) all left (K.taken out.old) (K.taken out.new))) }
     ensures write_fault { result ≡ Status.WriteFault → Rose (K.faults out.old) (K.faults out.new) }
     ensures kinds { result ≢ Status.Usage }
 {
@@ -236,6 +238,8 @@ fn run_session<F: LayerFiles, S: Source, K: Sink>(
     ensures outcome { ByFiles (F.files files.old) (λ held size. IfSome (S.left script.old) (λ all. EndsWith (session_course held size loaded.world loaded.bytes all) result (K.taken out.old) (K.taken out.new))) }
     ensures end { result ≡ Status.Done → BothTold (S.left script.old) (S.left script.new) (λ _ b. b ≡ []) }
     ensures read_fault { result ≡ Status.ReadFault → Rose (F.faults files.old) (F.faults files.new) ⊎ Rose (S.faults script.old) (S.faults script.new) }
+    ensures script_fault { result ≡ Status.ReadFault → (Rose (F.faults files.old) (F.faults files.new) → ⊥) → ByFiles (F.files files.old) (λ held size. BothTold (S.left script.old) (S.left script.new)
+        (λ all left. RepliesToLines (λ lines. session_course held size loaded.world loaded.bytes lines) all left (K.taken out.old) (K.taken out.new))) }
     ensures write_fault { result ≡ Status.WriteFault → Rose (K.faults out.old) (K.faults out.new) }
     ensures kinds { result ≢ Status.Usage }
 {
@@ -257,6 +261,8 @@ fn run_command<F: LayerFiles, S: Source, K: Sink>(
     ensures outcome { ByFiles (F.files files.old) (λ held size. (s : List ℕ) → IsScript (Some command) (S.left script.old) s → EndsWith (course held size (Some command) s) result (K.taken out.old) (K.taken out.new)) }
     ensures end { command.verb ≡ verbs.Session → result ≡ Status.Done → BothTold (S.left script.old) (S.left script.new) (λ _ left. left ≡ []) }
     ensures read_fault { result ≡ Status.ReadFault → Rose (F.faults files.old) (F.faults files.new) ⊎ Rose (S.faults script.old) (S.faults script.new) }
+    ensures script_fault { result ≡ Status.ReadFault → (Rose (F.faults files.old) (F.faults files.new) → ⊥) → ByFiles (F.files files.old) (λ held size. BothTold (S.left script.old) (S.left script.new)
+        (λ all left. RepliesToLines (λ lines. course held size (Some command) lines) all left (K.taken out.old) (K.taken out.new))) }
     ensures write_fault { result ≡ Status.WriteFault → Rose (K.faults out.old) (K.faults out.new) }
     ensures kinds { result ≢ Status.Usage }
 {
@@ -298,6 +304,9 @@ pub fn run_tool<R, F: LayerFiles, S: Source, K: Sink, G: Gate + Sync>(
     ensures end { IfSome (command_of (map string_bytes words.now)) (λ c. c.verb ≡ verbs.Session → result ≡ Status.Done
         → BothTold (S.left script.old) (S.left script.new) (λ _ left. left ≡ [])) }
     ensures read_fault { result ≡ Status.ReadFault → Rose (F.faults files.old) (F.faults files.new) ⊎ Rose (S.faults script.old) (S.faults script.new) }
+    // Where reading the script fails, the replies to all whole lines that were read of it before were written.
+    ensures script_fault { result ≡ Status.ReadFault → (Rose (F.faults files.old) (F.faults files.new) → ⊥) → ByFiles (F.files files.old) (λ held size. BothTold (S.left script.old) (S.left script.new)
+        (λ all left. RepliesToLines (λ lines. course held size (command_of (map string_bytes words.now)) lines) all left (K.taken out.old) (K.taken out.new))) }
     ensures write_fault { result ≡ Status.WriteFault → Rose (K.faults out.old) (K.faults out.new) }
     // Where nothing fails, the run ends as it is due by the words, the files and the script, unless memory runs out.
     ensures complete { ByFiles (F.files files.old) (λ held size. (s : List ℕ) → IsScript (command_of (map string_bytes words.now)) (S.left script.old) s

@@ -1,8 +1,9 @@
 use Rattle.std.proofs.Common.{◌≡◌, ◌≤◌, ◌<◌, ◌-◌, ◌∙◌, sym, ap, arith, refl, false, true, drop, length, List, ℕ, subst}
+use Rattle.std.proofs.lemmas.Result.{err_from_is_err_and}
 use Rattle.std.specs.Io.KnownBytes.{Consumes, IsAtEnd, Keeps}
 use Rattle.session_script.specs.States.{has_feed, IsScanned}
 use Rattle.session_script.specs.Fronts.{ReadsMore, IsFront, Grows, IsReadError}
-use Rattle.session_script.proofs.Feeds.{front_feed, front_long, front_last, front_end, scan_all, scan_more, more_goes_on}
+use Rattle.session_script.proofs.Feeds.{held_scanned, front_feed, front_long, front_last, front_end, scan_all, scan_more, more_goes_on}
 use Rattle.session_script.proofs.front.read_front.Goals as goal
 
 pub returns-in-Some-clause-front : goal.returns-in-Some-clause-front
@@ -61,3 +62,10 @@ loop-at-preserved g c =
       grows = more_goes_on c.args.bytes.now.items c.loop-at.bytes.items c.read_more.new.bytes.items _ _ _ m.0 c.loop-at.invariant.grows m.2 m.3;
       later = omega (arith, c.loop-at.invariant.later, c.in_ok-read_more.ensures.later);
     }
+
+pub returns-in_err-read_more-clause-none : goal.returns-in_err-read_more-clause-none
+returns-in_err-read_more-clause-none g c =
+    let none = rw c.deref.ensures.value at c.in_default.ensures.none in
+    let scan = scan_all c.args.start c.loop-at.scanned c.loop-at.bytes.items c.loop-at.invariant.scan none in
+    let p = err_from_is_err_and c.from_residual.result c.from_residual.ensures.1 in
+    rw (p.1, c.in_err-read_more.ensures.more.0) (held_scanned c.args.start c.loop-at.bytes.items scan)

@@ -3,8 +3,9 @@ use Rattle.session_script.specs.declared.faults.ScriptFault.TheVariants as fault
 use Rattle.usdstage.specs.declared.status.Status.TheVariants as status
 use Rattle.usdstage.specs.Course.{turn}
 use Rattle.usdstage.specs.Outcome.{Carries}
-use Rattle.usdstage.proofs.Carrying.{gives_none, goes_on, stops}
-use Rattle.usdstage.proofs.Files.{then_files, both_files, same_files, heard_on, heard_end}
+use Rattle.usdstage.proofs.Carrying.{gives_none, goes_on, starts, stops}
+use Rattle.usdstage.proofs.Follows.{follows_none, follows_on, fault_writes}
+use Rattle.usdstage.proofs.Files.{by_files, then_files, both_files, same_files, heard_here, heard_on, heard_end}
 use Rattle.usdstage.proofs.tool.run_script.Goals as goal
 
 pub returns-in-Ok-None-clause-outcome : goal.returns-in-Ok-None-clause-outcome
@@ -18,11 +19,25 @@ returns-in-Ok-None-clause-end g c =
     let n = rw c.in-Ok-None.field-0-is at c.in-Ok-None.ensures.end in
     λ e. heard_end (g.S.Source.left c.args.script.now) (g.S.Source.left c.loop-steps.script) (g.S.Source.left c.next.new.source) c.loop-steps.invariant.heard (n refl)
 
+pub loop-steps-init : goal.loop-steps-init
+loop-steps-init g c = record {
+  follows = by_files (g.F.LayerFiles.files c.args.files.now) _ (λ held size. follows_none held size c.args.session c.args.bytes _ (g.S.Source.left c.args.script.now) (g.K.Sink.taken c.args.out.now) c.new-steps.ensures);
+  told = by_files (g.F.LayerFiles.files c.args.files.now) _ (λ held size. starts held size c.args.session c.args.bytes _ (g.S.Source.left c.args.script.now) (g.K.Sink.taken c.args.out.now) c.new-steps.ensures);
+  heard = heard_here (g.S.Source.left c.args.script.now);
+  same = refl;
+  files_later = omega arith;
+  read_later = omega arith;
+  write_later = omega arith;
+}
+
 pub loop-steps-preserved : goal.loop-steps-preserved
 loop-steps-preserved g c =
     let i = c.loop-steps.invariant in
     let n = rw c.in-Ok-Some.field-0-is at c.in-Ok-Some.ensures.answer in
+    let l = rw c.in-Ok-Some.field-0-is at c.in-Ok-Some.ensures.lines in
     record {
+      follows = both_files (g.F.LayerFiles.files c.args.files.now) _ _ _ i.follows (same_files (g.F.LayerFiles.files c.args.files.now) (g.F.LayerFiles.files c.loop-steps.files) (λ held size. Carries (Ok c.in-Ok.total) c.carry_out.new.session (turn held size c.loop-steps.session c.loop-steps.bytes c.in-Ok-Some.step) (g.K.Sink.taken c.loop-steps.out) (g.K.Sink.taken c.carry_out.new.out)) i.same c.in-Ok.ensures.carried)
+          (λ held size have carried. follows_on held size c.args.session c.loop-steps.session c.carry_out.new.session c.args.bytes c.loop-steps.bytes c.in-Ok.total c.loop-steps.steps c.next.new.self c.in-Ok-Some.step (g.S.Source.left c.args.script.now) (g.S.Source.left c.loop-steps.script) (g.S.Source.left c.next.new.source) (g.K.Sink.taken c.args.out.now) (g.K.Sink.taken c.loop-steps.out) (g.K.Sink.taken c.carry_out.new.out) have l carried);
       told = both_files (g.F.LayerFiles.files c.args.files.now) _ _ _ i.told (same_files (g.F.LayerFiles.files c.args.files.now) (g.F.LayerFiles.files c.loop-steps.files) (λ held size. Carries (Ok c.in-Ok.total) c.carry_out.new.session (turn held size c.loop-steps.session c.loop-steps.bytes c.in-Ok-Some.step) (g.K.Sink.taken c.loop-steps.out) (g.K.Sink.taken c.carry_out.new.out)) i.same c.in-Ok.ensures.carried)
           (λ held size have carried. goes_on held size c.args.session c.loop-steps.session c.carry_out.new.session c.args.bytes c.loop-steps.bytes c.in-Ok.total c.loop-steps.steps c.next.new.self c.in-Ok-Some.step (g.S.Source.left c.args.script.now) (g.S.Source.left c.loop-steps.script) (g.S.Source.left c.next.new.source) (g.K.Sink.taken c.args.out.now) (g.K.Sink.taken c.loop-steps.out) (g.K.Sink.taken c.carry_out.new.out) have n carried);
       heard = heard_on (g.S.Source.left c.args.script.now) (g.S.Source.left c.loop-steps.script) (g.S.Source.left c.next.new.source) _ i.heard n;
@@ -60,3 +75,13 @@ returns-in-Err-NoMemory-clause-outcome g c =
     let n = rw c.in-Err-NoMemory.field-0-is at c.in-Err-NoMemory.ensures.answer in
     then_files (g.F.LayerFiles.files c.args.files.now) _ _ c.loop-steps.invariant.told
     (λ held size have. gives_none held size c.args.session c.loop-steps.session c.args.bytes c.loop-steps.bytes c.loop-steps.steps c.next.new.self (Err faults.NoMemory) status.NoMemory (g.S.Source.left c.args.script.now) (g.S.Source.left c.loop-steps.script) (g.S.Source.left c.next.new.source) (g.K.Sink.taken c.args.out.now) (g.K.Sink.taken c.loop-steps.out) refl have n)
+
+pub returns-in-Err-ReadFault-clause-script_fault : goal.returns-in-Err-ReadFault-clause-script_fault
+returns-in-Err-ReadFault-clause-script_fault g c =
+    let l = rw c.in-Err-ReadFault.field-0-is at c.in-Err-ReadFault.ensures.lines in
+    let n = rw c.in-Err-ReadFault.field-0-is at c.in-Err-ReadFault.ensures.counts in
+    λ e k. then_files (g.F.LayerFiles.files c.args.files.now) _ _ c.loop-steps.invariant.follows
+    (λ held size have. fault_writes held size c.args.session c.loop-steps.session c.args.bytes c.loop-steps.bytes c.loop-steps.steps c.next.new.self (g.S.Source.left c.args.script.now) (g.S.Source.left c.loop-steps.script) (g.S.Source.left c.next.new.source) (g.K.Sink.taken c.args.out.now) (g.K.Sink.taken c.loop-steps.out) have l n.1)
+
+pub returns-in-Err-clause-script_fault : goal.returns-in-Err-clause-script_fault
+returns-in-Err-clause-script_fault g c = λ e k. absurd (k (omega (arith, c.loop-steps.invariant.files_later, c.in-Err.ensures.read_fault (ap Err e))))

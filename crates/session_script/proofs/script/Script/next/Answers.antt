@@ -3,6 +3,7 @@ use Rattle.std.proofs.lemmas.Result.{err_from_is_err_and}
 use Rattle.session_script.specs.declared.faults.ScriptFault.TheVariants.{Refused}
 use Rattle.session_script.specs.declared.faults.ScriptKind.TheVariants.{TooLong}
 use Rattle.session_script.specs.States.{State}
+use Rattle.session_script.proofs.Passing.{passed_none, passed_line, passed_step, passed_fault, end_passes, refusal_passes}
 use Rattle.session_script.proofs.Going.{answered, goes_further, still_unrefused, ends, too_long, stops, takes, answer_of_take}
 use Rattle.session_script.proofs.script.Script.next.Goals as goal
 
@@ -54,6 +55,7 @@ loop-self-preserved g c =
     let none = still_unrefused c.loop-self.self c.next_front.new.self _ _ i.goes_on n.feeds in
     let took = rw c.in_default-2.is at c.in_ok-step-in-Line.ensures in
     record {
+      passed = passed_line c.in-Line.len c.args.self.now c.loop-self.self c.next_front.new.self c.take_front.new.self _ _ _ none i.passed n.feeds f took;
       told = goes_further c.args.self.now c.loop-self.self c.next_front.new.self c.take_front.new.self _ _ _ _ i.told n.feeds f.3
           (λ b q. takes (Ok None) c.in-Line.len c.next_front.new.self c.take_front.new.self b none f.1 f.2 q took);
       goes_on = ap (λ (s : State). s.stopped) took.2 ∙ none;
@@ -61,3 +63,26 @@ loop-self-preserved g c =
       taken = omega (arith, ap (λ (s : State). s.taken) took.2, ap (λ (s : State). s.taken) n.feeds.1, i.taken);
       later = omega (arith, n.later, i.later);
     }
+
+pub returns-in-End-clause-lines : goal.returns-in-End-clause-lines
+returns-in-End-clause-lines g c = end_passes c.end.result c.next_front.new.self c.args.self.now c.end.new.self _ _ c.end.ensures
+
+pub returns-in_err-next_front-clause-lines : goal.returns-in_err-next_front-clause-lines
+returns-in_err-next_front-clause-lines g c =
+    let p = err_from_is_err_and c.from_residual.result c.from_residual.ensures.1 in
+    let n = c.in_err-next_front.ensures in
+    rw (p.1 ∙ ap Err p.2) (passed_fault c.in_err-next_front.field-0.0 c.args.self.now c.loop-self.self c.next_front.new.self _ _ _ c.loop-self.invariant.passed n.feeds n.none)
+
+pub returns-in_err-step-in-Line-clause-lines : goal.returns-in_err-step-in-Line-clause-lines
+returns-in_err-step-in-Line-clause-lines g c =
+    let p = err_from_is_err_and c.from_residual-in_err-step-in-Line.result c.from_residual-in_err-step-in-Line.ensures.1 in
+    refusal_passes c.from_residual-in_err-step-in-Line.result c.in_err-step-in-Line.field-0.0 c.in-Line.len _ c.next_front.new.self c.args.self.now c.take_front.new.self _ _ (p.1 ∙ ap Err p.2) c.in_err-step-in-Line.ensures
+
+pub returns-in-Some-2-clause-lines : goal.returns-in-Some-2-clause-lines
+returns-in-Some-2-clause-lines g c =
+    let i = c.loop-self.invariant in
+    let n = c.in_ok-next_front.ensures in
+    let f = rw c.in-Line.is at n.front in
+    let none = still_unrefused c.loop-self.self c.next_front.new.self _ _ i.goes_on n.feeds in
+    let took = rw c.in-Some-2.is at c.in_ok-step-in-Line.ensures in
+    passed_step c.in-Line.len c.in-Some-2.step c.args.self.now c.loop-self.self c.next_front.new.self c.take_front.new.self _ _ _ none i.passed n.feeds f took
