@@ -101,6 +101,29 @@ def check_limits(folder):
     found += differs("262,143 prims", run(folder, ["session", "root.usda"]), 0, b"published 0: batches 0, prims 262143\n", b"")
     write(folder, {"root": prims + 'def "one_more" {}\n'})
     found += differs("262,144 prims", run(folder, ["session", "root.usda"]), 7, b"", b"usdstage: more than 262144 paths\n")
+    return found + check_bytes(folder, differs)
+
+
+def commented(length):
+    """A layer of this many bytes that says nothing: comments up to the last line feed."""
+    line = b"#" + 62 * b"-" + b"\n"
+    body = length - len(FIRST)
+    lines, rest = divmod(body, len(line))
+    if rest == 0:
+        lines, rest = lines - 1, len(line)
+    return FIRST.encode() + lines * line + b"#" * (rest - 1) + b"\n"
+
+
+def check_bytes(folder, differs):
+    """Openings that fetch the most bytes, 268,435,456, and one more: a root layer with three layers of the most bytes of a layer and one of the rest."""
+    root = FIRST.encode() + b"(subLayers = [@a.usda@, @b.usda@, @c.usda@, @d.usda@])\n"
+    most = 67108864
+    found = []
+    for more, status, begin, said in ((0, 0, b"published 0: batches 0, prims 0\nfaults /: 0\n", b""), (1, 8, b"", b"usdstage: too many layers or bytes\n")):
+        for name, data in (("root", root), ("a", commented(most)), ("b", commented(most)), ("c", commented(most)), ("d", commented(most - len(root) + more))):
+            with open(os.path.join(folder, name + ".usda"), "wb") as file:
+                file.write(data)
+        found += differs(f"268,435,456 bytes and {more} more", run(folder, ["session", "root.usda"], "faults /\n"), status, begin, said)
     return found
 
 
@@ -118,7 +141,7 @@ def main():
         found = check_limits(folder)
     print("".join(f"{difference}\n" for difference in found), end="")
     failed += len(found)
-    print(f"scenes: {len(SCENES) + 5 - failed} passed, {failed} failed")
+    print(f"scenes: {len(SCENES) + 7 - failed} passed, {failed} failed")
     sys.exit(1 if failed else 0)
 
 

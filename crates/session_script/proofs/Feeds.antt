@@ -1,21 +1,19 @@
 -- Lines of bytes that come in pieces.
-use Rattle.std.proofs.Common.{◌≡◌, ℕ, zero, suc, ◌+◌, ◌-◌, ◌<◌, ◌≤◌, Bool, true, false, cond, ◌||◌, List, [], ◌∷◌, ◌++◌, length, take, drop, get_or, Option, Some, None, refl, ap, sym, ◌∙◌, subst, arith, append_assoc, append-nil}
-use Rattle.std.specs.Prelude.{IfSome, ◌==◌}
-use Rattle.std.specs.List.{list_any}
+use Rattle.std.proofs.Common.{◌≡◌, ℕ, ◌+◌, ◌-◌, ◌<◌, ◌≤◌, Bool, true, false, cond, ◌||◌, List, [], ◌∷◌, ◌++◌, length, take, drop, get_or, Option, Some, None, refl, ap, sym, ◌∙◌, arith, append_assoc, append-nil}
+use Rattle.std.specs.Prelude.{◌==◌}
 use Rattle.std.specs.Io.KnownBytes.{Consumes, IsAtEnd, Keeps}
-use Rattle.std.proofs.lemmas.List.{take_all, length-drop, get_or-drop, drop-drop, length-take, take-append-drop, length-append, take-append-le, drop-append-le}
+use Rattle.std.proofs.lemmas.List.{take_all, length-drop, drop-drop, length-take, take-append-drop, length-append, take-append-le, drop-append-le}
 use Rattle.std.proofs.Math.ListN.{drop_of_length-le}
 use Rattle.std.proofs.Math.Seq.{take-add}
 use Rattle.std.proofs.lemmas.Bool.{eqb-true, ltb-true, ltb-false}
 use Rattle.std.specs.Prelude.{nat_lt}
-use Rattle.std.proofs.Math.Seq.{take-suc, drop-cons}
 use Rattle.std.proofs.KnownBytes.{Consumes-trans}
 use Rattle.session_script.specs.Pieces.{onto, lines_of}
 use Rattle.session_script.specs.Told.{BothTold}
 use Rattle.session_script.specs.States.{has_feed, IsScanned}
 use Rattle.session_script.specs.Fronts.{IsFront, Grows}
 use Rattle.session_script.specs.declared.front.Front.TheVariants.{Line, TooLong, End}
-use Rattle.session_script.proofs.Pieces.{glue, glue-push, glue-first, take_next}
+use Rattle.session_script.proofs.Pieces.{glue, glue-first, take_next}
 
 false_of : (b : Bool) → (b ≡ true → ⊥) → b ≡ false
 false_of true h = absurd (h refl)

@@ -1,22 +1,19 @@
 -- The steps of a script, as it is read.
-use Rattle.std.proofs.Common.{◌≡◌, ℕ, ◌+◌, ◌<◌, ◌≤◌, Bool, true, false, List, [], ◌∷◌, ◌++◌, length, take, drop, Option, Some, None, Result, Ok, Err, refl, ap, sym, ◌∙◌, subst, arith, append_assoc, append-nil}
+use Rattle.std.proofs.Common.{◌≡◌, ℕ, ◌+◌, ◌<◌, ◌≤◌, true, false, List, [], ◌∷◌, ◌++◌, length, take, drop, Option, Some, None, Result, Ok, Err, refl, ap, sym, ◌∙◌, subst, arith, append_assoc}
 use Rattle.std.specs.Prelude.{nat_lt}
-use Rattle.std.specs.Io.KnownBytes.{Consumes}
 use Rattle.std.proofs.lemmas.Bool.{lt-ltb, le-ltb}
 use Rattle.std.proofs.lemmas.List.{length-take}
 use Rattle.layer_edit.specs.declared.op.Op.{Op}
 use Rattle.session_script.specs.declared.steps.Step.{Step}
 use Rattle.session_script.specs.declared.faults.ScriptKind.{ScriptKind}
-use Rattle.session_script.specs.declared.faults.ScriptKind.TheVariants.{BadLine, Unfinished, TooLong}
+use Rattle.session_script.specs.declared.faults.ScriptKind.TheVariants.{BadLine, TooLong}
 use Rattle.session_script.specs.declared.faults.ScriptFault.{ScriptFault}
 use Rattle.session_script.specs.declared.faults.ScriptFault.TheVariants.{Refused, ReadFault, NoMemory}
-use Rattle.session_script.specs.declared.front.Front.{Front}
-use Rattle.session_script.specs.declared.front.Front.TheVariants as front
 use Rattle.session_script.specs.Told.{BothTold}
 use Rattle.session_script.specs.Pieces.{lines_of}
 use Rattle.script_lines.specs.Lines.{line_of}
 use Rattle.session_script.specs.Reading.{Steps, ended, refused, step, Move, goes_on, asks, refuses, move, most_bytes, at_end, steps_from}
-use Rattle.session_script.specs.States.{State, steps_behind, steps_left, AnswersNext, Feeds, FrontIs, TakesLine, EndsScript, stopped_at, behind_line}
+use Rattle.session_script.specs.States.{State, steps_left, AnswersNext, Feeds, TakesLine, EndsScript, stopped_at, behind_line}
 
 pub told_then : (x y z : Option (List ℕ)) (P Q R : List ℕ → List ℕ → Type 0) → BothTold x y P → BothTold y z Q → ((a b c : List ℕ) → P a b → Q b c → R a c) → BothTold x z R
 told_then None y z P Q R p q h = tt

@@ -1,5 +1,5 @@
 -- The lines that a script took, whatever lines follow them.
-use Rattle.std.proofs.Common.{◌≡◌, ℕ, ◌+◌, ◌≤◌, Bool, false, List, [], ◌∷◌, ◌++◌, length, take, drop, Option, Some, None, Result, Ok, Err, refl, ap, sym, ◌∙◌, arith, append_assoc}
+use Rattle.std.proofs.Common.{◌≡◌, ℕ, ◌+◌, ◌≤◌, false, List, [], ◌∷◌, ◌++◌, length, take, drop, Option, Some, None, Result, Ok, Err, refl, ap, sym, ◌∙◌, arith, append_assoc}
 use Rattle.std.specs.Prelude.{nat_lt}
 use Rattle.std.proofs.lemmas.Bool.{le-ltb}
 use Rattle.layer_edit.specs.declared.op.Op.{Op}
@@ -10,9 +10,9 @@ use Rattle.session_script.specs.declared.front.Front.TheVariants as front
 use Rattle.session_script.specs.Told.{BothTold}
 use Rattle.session_script.specs.Pieces.{lines_of}
 use Rattle.script_lines.specs.Lines.{line_of}
-use Rattle.session_script.specs.Reading.{Steps, step, Move, goes_on, asks, refuses, move, most_bytes, steps_from}
+use Rattle.session_script.specs.Reading.{step, Move, goes_on, asks, move, most_bytes, steps_from}
 use Rattle.session_script.specs.States.{State, steps_behind, Feeds, FrontIs, TakesLine, EndsScript, AreTaken, Passes, has_feed, behind_line}
-use Rattle.session_script.proofs.Going.{moved, short_line, taken_len, told_then, told_also}
+use Rattle.session_script.proofs.Going.{moved, short_line, taken_len, told_then}
 
 -- lines were taken between two states, and their steps went by
 abbrev pub Passed : State → State → Option (List ℕ) → Option (List ℕ) → Type 0
@@ -30,10 +30,12 @@ held_is loop mid (Some b) (Some c) f = ap (λ (s : State). s.held ++ c) f.1 ∙ 
 
 -- more bytes are held, and no line was taken
 pub passed_fed : (first loop mid : State) (x y z : Option (List ℕ)) → Passed first loop x y → Feeds loop mid y z → Passed first mid x z
-passed_fed first loop mid x y z (ls, taken, same) f =
-    (ls, told_then x y z (λ a b. lines_of (first.held ++ a) ≡ ls ++ lines_of (loop.held ++ b)) (λ b c. mid.held ++ c ≡ loop.held ++ b) _ taken (held_is loop mid y z f)
-    (λ a b c e h. e ∙ ap (λ (l : List ℕ). ls ++ lines_of l) (sym h)),
-    λ rs. same rs ∙ sym (ap (λ (s : State). steps_behind s rs) f.1))
+passed_fed first loop mid x y z (ls, taken, same) f = (
+  ls,
+  told_then x y z (λ a b. lines_of (first.held ++ a) ≡ ls ++ lines_of (loop.held ++ b)) (λ b c. mid.held ++ c ≡ loop.held ++ b) _ taken (held_is loop mid y z f)
+      (λ a b c e h. e ∙ ap (λ (l : List ℕ). ls ++ lines_of l) (sym h)),
+  λ rs. same rs ∙ sym (ap (λ (s : State). steps_behind s rs) f.1),
+)
 
 -- the steps of a line in front, by its move, whatever lines follow it
 line_steps : (len : ℕ) (s : State) (m : Move) (rs : List (List ℕ)) → s.stopped ≡ None → len ≤ length s.held → s.taken + len ≤ 16777216 → move s.batch (line_of (take len s.held)) ≡ m
@@ -70,9 +72,11 @@ pub passed_line : (len : ℕ) (first loop mid new : State) (x y z : Option (List
     → TakesLine (Ok None) len mid new (move mid.batch (line_of (take len mid.held))) → Passed first new x z
 passed_line len first loop mid new x y z unrefused passed f (some, within, short, ahead) (next, is, e) =
     let m = passed_fed first loop mid x y z passed f in
-    let l = take len mid.held in
-    (m.0 ++ l ∷ [], line_more first mid new len mid.line next m.0 x y z m.1 ahead (heard first loop passed.0 x y passed.1) e,
-    λ rs. ap (steps_behind first) (append_assoc m.0 (l ∷ []) rs) ∙ m.2 (l ∷ rs) ∙ line_steps len mid (goes_on next) rs unrefused within short is ∙ sym (steps_after len mid.line next mid new rs unrefused within e))
+    let l = take len mid.held in (
+      m.0 ++ l ∷ [],
+      line_more first mid new len mid.line next m.0 x y z m.1 ahead (heard first loop passed.0 x y passed.1) e,
+      λ rs. ap (steps_behind first) (append_assoc m.0 (l ∷ []) rs) ∙ m.2 (l ∷ rs) ∙ line_steps len mid (goes_on next) rs unrefused within short is ∙ sym (steps_after len mid.line next mid new rs unrefused within e),
+    )
 
 -- a line that gives a step
 pub passed_step : (len : ℕ) (s : Step) (first loop mid new : State) (x y z : Option (List ℕ)) → mid.stopped ≡ None → Passed first loop x y → Feeds loop mid y z → FrontIs (front.Line len) mid y z
@@ -80,10 +84,12 @@ pub passed_step : (len : ℕ) (s : Step) (first loop mid new : State) (x y z : O
 passed_step len s first loop mid new x y z unrefused passed f (some, within, short, ahead) (is, e) =
     let m = passed_fed first loop mid x y z passed f in
     let l = take len mid.held in
-    let n : new.line ≡ mid.lines + 1 = ap (λ (t : State). t.line) e in
-    (m.0 ++ l ∷ [], line_more first mid new len (mid.lines + 1) None m.0 x y z m.1 ahead (heard first loop passed.0 x y passed.1) e,
-    λ rs. ap (steps_behind first) (append_assoc m.0 (l ∷ []) rs) ∙ m.2 (l ∷ rs) ∙ line_steps len mid (asks s) rs unrefused within short is
-    ∙ ap (λ (k : ℕ). step k s (steps_from (mid.taken + length l) (mid.lines + 1) None rs)) (sym n) ∙ ap (step new.line s) (sym (steps_after len (mid.lines + 1) None mid new rs unrefused within e)))
+    let n : new.line ≡ mid.lines + 1 = ap (λ (t : State). t.line) e in (
+      m.0 ++ l ∷ [],
+      line_more first mid new len (mid.lines + 1) None m.0 x y z m.1 ahead (heard first loop passed.0 x y passed.1) e,
+      λ rs. ap (steps_behind first) (append_assoc m.0 (l ∷ []) rs) ∙ m.2 (l ∷ rs) ∙ line_steps len mid (asks s) rs unrefused within short is
+          ∙ ap (λ (k : ℕ). step k s (steps_from (mid.taken + length l) (mid.lines + 1) None rs)) (sym n) ∙ ap (step new.line s) (sym (steps_after len (mid.lines + 1) None mid new rs unrefused within e)),
+    )
 
 -- a fault of the source
 pub passed_fault : (e : ScriptFault) (first loop mid : State) (x y z : Option (List ℕ)) → Passed first loop x y → Feeds loop mid y z → has_feed mid.held ≡ false → Passes (Err e) first mid x z

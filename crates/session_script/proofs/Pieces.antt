@@ -1,8 +1,8 @@
 -- Texts that are cut while they are walked over.
-use Rattle.std.proofs.Common.{◌≡◌, ℕ, ◌+◌, ◌-◌, ◌<◌, ◌≤◌, ◌==◌, ◌||◌, List, [], ◌∷◌, ◌++◌, length, take, drop, get_or, map, Bool, true, false, cond, refl, ap, sym, ◌∙◌, subst, arith, append_assoc, append-nil, add-one, suc}
+use Rattle.std.proofs.Common.{◌≡◌, ℕ, ◌+◌, ◌-◌, ◌<◌, ◌≤◌, ◌==◌, List, [], ◌∷◌, ◌++◌, length, take, drop, get_or, true, false, refl, ap, sym, ◌∙◌, arith, append_assoc, append-nil, suc}
 use Rattle.std.proofs.Math.Seq.{take-suc}
 use Rattle.std.proofs.lemmas.List.{at_drop_more, at_drop_all, take_all, length-drop, get_or-drop}
-use Rattle.session_script.specs.Pieces.{onto, lines_of, pieces_of}
+use Rattle.session_script.specs.Pieces.{onto, pieces_of}
 
 -- bytes before the first piece
 abbrev pub glue : List ℕ → List (List ℕ) → List (List ℕ)

@@ -40,6 +40,7 @@ front_more c cs l ls ms below e = by_test (c == 10) refl (sym (by_first c cs) �
     only : (more : List (List ℕ)) → (c == 10) ≡ false → [] ≡ more ++ ms → lines_of (c ∷ concat more) ≡ (c ∷ []) ∷ more
     only [] other g = by_first c [] ∙ rw other (ap (onto c) none_are)
     only (m ∷ more) other g = absurd cc
+
     by_lines : (rest : List (List ℕ)) → lines_of cs ≡ rest → (c == 10) ≡ false → onto c rest ≡ l ∷ (ls ++ ms) → lines_of (l ++ concat ls) ≡ l ∷ ls
     by_lines [] is other f =
         let a : c ∷ [] ≡ l = heads (c ∷ []) l [] (ls ++ ms) f in
@@ -50,6 +51,7 @@ front_more c cs l ls ms below e = by_test (c == 10) refl (sym (by_first c cs) �
         let b : ps ≡ ls ++ ms = tails (c ∷ p) l ps (ls ++ ms) f in
         let known : lines_of (concat (p ∷ ls)) ≡ p ∷ ls = below (p ∷ ls) ms (is ∙ ap (λ (k : List (List ℕ)). p ∷ k) b) in
         subst (λ (k : List ℕ). lines_of (k ++ concat ls) ≡ k ∷ ls) a (by_first c (p ++ concat ls) ∙ rw other (ap (onto c) known))
+
     by_test : (b : Bool) → (c == 10) ≡ b → cond b ((c ∷ []) ∷ lines_of cs) (onto c (lines_of cs)) ≡ l ∷ (ls ++ ms) → lines_of (l ++ concat ls) ≡ l ∷ ls
     by_test true is f =
         let a : c ∷ [] ≡ l = heads (c ∷ []) l (lines_of cs) (ls ++ ms) f in

@@ -1,5 +1,5 @@
 -- A text cut into pieces.
-use Rattle.std.specs.Prelude.{ℕ, ◌==◌, Bool, true, false, List, [], ◌∷◌, if◌then◌else◌}
+use Rattle.std.specs.Prelude.{ℕ, ◌==◌, List, [], ◌∷◌, if◌then◌else◌}
 
 -- a byte before the first piece
 abbrev pub onto : ℕ → List (List ℕ) → List (List ℕ)

@@ -1,5 +1,5 @@
 -- The replies to the steps of a script, as they are written.
-use Rattle.std.proofs.Common.{◌≡◌, ℕ, ◌≤◌, ◌<◌, Bool, true, false, ◌⊎◌, inl, inr, List, [], ◌++◌, length, take, drop, Option, Some, None, Result, Ok, Err, refl, ap, sym, subst, ◌∙◌, append_assoc}
+use Rattle.std.proofs.Common.{◌≡◌, ℕ, ◌≤◌, ◌<◌, Bool, true, false, inl, inr, List, [], ◌++◌, length, take, drop, Option, Some, None, Result, Ok, Err, refl, ap, sym, subst, ◌∙◌, append_assoc}
 use Rattle.std.specs.Prelude.{IfSome}
 use Rattle.std.specs.Io.KnownBytes.{Appends}
 use Rattle.std.proofs.lemmas.List.{append-nil, take-append-drop}
@@ -16,10 +16,10 @@ use Rattle.session_script.specs.declared.faults.ScriptKind.{ScriptKind}
 use Rattle.session_script.specs.declared.steps.Step.{Step}
 use Rattle.stage_session.specs.Sessions.{Session, stage_after, most_paths, opening, opening_text}
 use Rattle.usdstage.specs.Course.{Course, Turn, nothing, onto, by_turn, turn, carried, session_course}
-use Rattle.usdstage.specs.Outcome.{Carries, Ends, EndsWith, IsFront, Takes, WritesFront}
+use Rattle.usdstage.specs.Outcome.{Carries, Ends, EndsWith, Takes, WritesFront}
 use Rattle.usdstage.specs.declared.status.Status.{Status}
 use Rattle.usdstage.specs.declared.status.Status.TheVariants.{Done, Usage, ReadFault, WriteFault, RootRefused, ScriptRefused, StageFull, WorldTooLarge, NoMemory}
-use Rattle.usdstage.proofs.Outcomes.{IsCut, appends_none, appends_then, cut, cut_at_once, whole, ends_with_nothing, not_full, full}
+use Rattle.usdstage.proofs.Outcomes.{IsCut, appends_none, appends_then, cut, whole, ends_with_nothing, not_full, full}
 
 -- ---- courses
 

@@ -1,5 +1,5 @@
 -- What is known where the files are told.
-use Rattle.std.proofs.Common.{◌≡◌, ◌∙◌, ℕ, ◌+◌, ◌<◌, ◌≤◌, Bool, true, false, List, [], Option, Some, None, Result, Ok, Err, refl, ap, subst, sym, arith}
+use Rattle.std.proofs.Common.{◌≡◌, ◌∙◌, ℕ, ◌+◌, ◌<◌, ◌≤◌, Bool, true, false, List, [], Option, Some, None, Result, Ok, Err, refl, ap, subst}
 use Rattle.std.proofs.lemmas.Bool.{lt-ltb, le-ltb}
 use Rattle.std.specs.Prelude.{nat_lt, length}
 use Rattle.asset_names.specs.Anchoring.{kind_of}
@@ -11,13 +11,13 @@ use Rattle.layer_load.proofs.Reading.{one_stands}
 use Rattle.usda_reader.specs.Laws.{TextsHaveOneAnswer}
 use Rattle.session_script.specs.Told.{BothTold}
 use Rattle.session_script.specs.declared.steps.Step.TheVariants as steps
-use Rattle.stage_session.specs.Sessions.{Session, batch_reply, after_batch, opening_of, is_full, most_paths, next_stage, publish_reply, after_publish}
+use Rattle.stage_session.specs.Sessions.{Session, batch_reply, after_batch, opening_of, most_paths, next_stage, publish_reply, after_publish}
 use Rattle.usdstage.specs.Course.{Turn, turned, turn, unopened}
 use Rattle.usdstage.specs.declared.status.Status.{Status}
 use Rattle.usdstage.specs.declared.status.Status.TheVariants.{StageFull, WorldTooLarge}
 use Rattle.usdstage.proofs.Outcomes.{not_full, full}
 use Rattle.composition.specs.Texts.{Text}
-use Rattle.layer_load.specs.Files.{Files, AreRead, taken_at}
+use Rattle.layer_load.specs.Files.{Files, taken_at}
 use Rattle.layer_set.specs.declared.held.Held.{Held}
 use Rattle.usdstage.specs.Outcome.{ByFiles, Takes}
 

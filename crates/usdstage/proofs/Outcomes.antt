@@ -1,6 +1,5 @@
 -- How a run ends, by what was written.
-use Rattle.std.proofs.Common.{◌≡◌, ℕ, ◌+◌, ◌<◌, ◌≤◌, Bool, true, false, ◌⊎◌, inl, inr, List, [], ◌++◌, length, take, drop, Option, Some, None, refl, ap, sym, ◌∙◌, append_assoc, arith}
-use Rattle.std.specs.Prelude.{nat_lt}
+use Rattle.std.proofs.Common.{◌≡◌, ℕ, ◌+◌, ◌<◌, ◌≤◌, Bool, true, false, inl, inr, List, [], ◌++◌, length, take, drop, Option, Some, None, refl, ap, sym, ◌∙◌, append_assoc}
 use Rattle.std.specs.Io.KnownBytes.{Appends}
 use Rattle.std.proofs.lemmas.Bool.{lt-ltb, le-ltb}
 use Rattle.std.proofs.lemmas.List.{append-nil, take-append-drop}
@@ -9,8 +8,8 @@ use Rattle.layer_set.specs.Worlds.{WorldData}
 use Rattle.stage_questions.specs.Answers.{flat_text}
 use Rattle.stage_session.specs.Sessions.{is_full, most_paths, stage_after}
 use Rattle.stage_query.specs.Answers.{Stage}
-use Rattle.usdstage.specs.Course.{Course, nothing, onto, flat_course}
-use Rattle.usdstage.specs.Outcome.{Ends, EndsWith, IsFront, IsWhole, EndsAsDue}
+use Rattle.usdstage.specs.Course.{Course, nothing, flat_course}
+use Rattle.usdstage.specs.Outcome.{Ends, EndsWith, IsFront, EndsAsDue}
 use Rattle.usdstage.specs.declared.status.Status.{Status}
 use Rattle.usdstage.specs.declared.status.Status.TheVariants.{Done, Usage, ReadFault, WriteFault, RootRefused, ScriptRefused, StageFull, WorldTooLarge, NoMemory}
 

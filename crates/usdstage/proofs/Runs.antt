@@ -1,11 +1,11 @@
 -- A run by what its parts answer.
-use Rattle.std.proofs.Common.{◌≡◌, ◌∙◌, ℕ, List, [], Option, Some, None, Result, Ok, Err, refl, ap, subst, sym, inl, inr, arith, ◌⊎◌}
+use Rattle.std.proofs.Common.{◌≡◌, ◌∙◌, ℕ, List, [], Option, Some, None, Ok, Err, refl, ap, subst, sym, inl, inr, arith, ◌⊎◌}
 use Rattle.std.specs.Prelude.{IfSome}
 use Rattle.std.specs.Io.KnownBytes.{Appends}
 use Rattle.composition.specs.Texts.{Text}
 use Rattle.io_edges.specs.Causes.{Rose}
 use Rattle.layer_load.specs.Answers.{Opens}
-use Rattle.layer_load.specs.Files.{Files, AreRead, taken_at}
+use Rattle.layer_load.specs.Files.{Files, taken_at}
 use Rattle.layer_load.specs.Opening.{Ending, most_names, opened}
 use Rattle.layer_load.specs.declared.fault.LoadFault.{LoadFault}
 use Rattle.layer_load.specs.declared.fault.LoadFault.TheVariants as load
@@ -17,8 +17,8 @@ use Rattle.session_script.specs.Told.{BothTold}
 use Rattle.session_script.proofs.Going.{told_weaker}
 use Rattle.stage_session.specs.Sessions.{Session as SessionState, stage_after, most_paths, opening, opening_text}
 use Rattle.std.specs.Prelude.{length, ◌≤◌}
-use Rattle.usdstage.specs.Course.{Course, nothing, unopened, flat_course, session_course, world_course, opened_course, carried, course}
-use Rattle.usdstage.specs.Outcome.{ByFiles, Ends, EndsAsDue, EndsWith, IsScript, RepliesToLines}
+use Rattle.usdstage.specs.Course.{Course, unopened, flat_course, session_course, world_course, opened_course, carried, course}
+use Rattle.usdstage.specs.Outcome.{ByFiles, EndsAsDue, EndsWith, IsScript, RepliesToLines}
 use Rattle.usdstage.specs.declared.status.Status.{Status}
 use Rattle.usdstage.specs.declared.status.Status.TheVariants.{ReadFault, WriteFault, RootRefused, WorldTooLarge, NoMemory, Usage}
 use Rattle.usdstage.specs.declared.words.Command.{Command}
@@ -52,12 +52,18 @@ pub session_ended : (told : Option Files) (left a b : Option (List ℕ)) (world 
 session_ended told left a b world bytes status h = by_files told _ (λ held size. some_all left _ (λ all. h bytes held size all))
 
 -- the replies behind the one to the opening
+replies_behind : (held : Text → Held) (size : Text → ℕ) (all left : List ℕ) (a b c : Option (List ℕ)) (world : WorldData) (bytes : ℕ) (session : SessionState) → session ≡ opening world → length (stage_after world []) ≤ most_paths
+    → Appends a b (opening_text world) → RepliesToLines (λ lines. carried held size session bytes (steps_of lines)) all left b c → RepliesToLines (λ lines. session_course held size world bytes lines) all left a c
+replies_behind held size all left a b c world bytes session is few first (whole, cut, wrote) =
+    (whole, cut, opened_replies held size world bytes whole a b c few first (subst (λ (s : SessionState). Appends b c (carried held size s bytes (steps_of whole)).text) is wrote))
+
 pub session_replies : (told : Option Files) (p q a b c : Option (List ℕ)) (world : WorldData) (bytes : ℕ) (session : SessionState) → session ≡ opening world → length (stage_after world []) ≤ most_paths → Appends a b (opening_text world)
     → ByFiles told (λ held size. BothTold p q (λ all left. RepliesToLines (λ lines. carried held size session bytes (steps_of lines)) all left b c))
     → ByFiles told (λ held size. BothTold p q (λ all left. RepliesToLines (λ lines. session_course held size world bytes lines) all left a c))
 session_replies told p q a b c world bytes session is few first o =
-    then_files told _ _ o (λ held size k. told_weaker p q _ _ k (λ all left r.
-    (r.0, r.1, opened_replies held size world bytes r.0 a b c few first (subst (λ (s : SessionState). Appends b c (carried held size s bytes (steps_of r.0)).text) is r.2))))
+    then_files told (λ held size. BothTold p q (λ all left. RepliesToLines (λ lines. carried held size session bytes (steps_of lines)) all left b c)) (λ held size. BothTold p q (λ all left. RepliesToLines (λ lines. session_course held size world bytes lines) all left a c)) o
+    (λ held size k. told_weaker p q (λ all left. RepliesToLines (λ lines. carried held size session bytes (steps_of lines)) all left b c) (λ all left. RepliesToLines (λ lines. session_course held size world bytes lines) all left a c) k
+    (λ all left r. replies_behind held size all left a b c world bytes session is few first r))
 
 -- ---- the opening of a world
 

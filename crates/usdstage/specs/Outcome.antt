@@ -1,13 +1,12 @@
 -- What was answered and written, by the course of the run.
-use Rattle.std.specs.Prelude.{◌≡◌, ℕ, ◌⊎◌, List, [], ◌++◌, take, Option, Some, None, Result, Ok, Err, IfSome}
+use Rattle.std.specs.Prelude.{◌≡◌, ℕ, ◌⊎◌, List, ◌++◌, take, Option, Some, None, Result, Ok, Err, IfSome}
 use Rattle.std.specs.Io.KnownBytes.{Appends}
 use Rattle.composition.specs.Texts.{Text}
 use Rattle.layer_load.specs.Files.{Files, AreRead, taken_at}
 use Rattle.layer_set.specs.declared.held.Held.{Held}
 use Rattle.session_script.specs.Cuts.{AreWholeLines}
 use Rattle.stage_session.specs.Sessions.{Session}
-use Rattle.usdstage.specs.Command.{command_of}
-use Rattle.usdstage.specs.Course.{Course, Turn, course}
+use Rattle.usdstage.specs.Course.{Course, Turn}
 use Rattle.usdstage.specs.declared.words.Command.{Command}
 use Rattle.usdstage.specs.declared.words.Verb.TheVariants as verbs
 use Rattle.usdstage.specs.declared.status.Status.{Status}

@@ -1,4 +1,3 @@
-use Rattle.std.proofs.Common.{rules, arith, refl}
 use Rattle.session_script.proofs.Feeds.{no_feed_more}
 use Rattle.session_script.proofs.front.find_feed.Goals as goal
 

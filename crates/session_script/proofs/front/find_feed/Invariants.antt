@@ -1,4 +1,4 @@
-use Rattle.std.proofs.Common.{◌≡◌, ◌≤◌, ◌-◌, take, drop, false}
+use Rattle.std.proofs.Common.{◌≡◌, ◌-◌, take, drop, false}
 use Rattle.session_script.specs.States.{has_feed}
 use Rattle.session_script.proofs.front.find_feed.Given as goal
 

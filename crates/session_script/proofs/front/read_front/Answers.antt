@@ -1,9 +1,6 @@
-use Rattle.std.proofs.Common.{◌≡◌, ◌≤◌, ◌<◌, ◌-◌, ◌∙◌, sym, ap, arith, refl, false, true, drop, length, List, ℕ, subst}
+use Rattle.std.proofs.Common.{◌≡◌, ◌≤◌, ◌<◌, ap, arith, length}
 use Rattle.std.proofs.lemmas.Result.{err_from_is_err_and}
-use Rattle.std.specs.Io.KnownBytes.{Consumes, IsAtEnd, Keeps}
-use Rattle.session_script.specs.States.{has_feed, IsScanned}
-use Rattle.session_script.specs.Fronts.{ReadsMore, IsFront, Grows, IsReadError}
-use Rattle.session_script.proofs.Feeds.{held_scanned, front_feed, front_long, front_last, front_end, scan_all, scan_more, more_goes_on}
+use Rattle.session_script.proofs.Feeds.{held_scanned, front_feed, front_long, front_last, scan_all, scan_more, more_goes_on}
 use Rattle.session_script.proofs.front.read_front.Goals as goal
 
 pub returns-in-Some-clause-front : goal.returns-in-Some-clause-front

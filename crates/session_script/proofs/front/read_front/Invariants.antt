@@ -1,4 +1,4 @@
-use Rattle.std.proofs.Common.{◌+◌, ◌-◌, ◌≤◌, length}
+use Rattle.std.proofs.Common.{◌-◌, ◌≤◌, length}
 use Rattle.session_script.specs.States.{IsScanned}
 use Rattle.session_script.specs.Fronts.{Grows}
 use Rattle.session_script.proofs.front.read_front.Given as goal

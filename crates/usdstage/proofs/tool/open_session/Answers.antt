@@ -1,4 +1,3 @@
-use Rattle.std.proofs.Common.{take}
 use Rattle.usdstage.specs.declared.status.Status.TheVariants as status
 use Rattle.usdstage.proofs.Carrying.{opened_cut}
 use Rattle.usdstage.proofs.tool.open_session.Goals as goal

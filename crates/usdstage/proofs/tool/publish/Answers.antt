@@ -1,5 +1,4 @@
-use Rattle.std.proofs.Common.{◌≡◌, ◌∙◌, sym, ap, refl, Ok, Err}
-use Rattle.compose_api.specs.declared.refused.StageRefused.TheVariants as StageRefused
+use Rattle.std.proofs.Common.{◌∙◌, ap, refl, Err}
 use Rattle.usdstage.proofs.Files.{publishes, publishes_not}
 use Rattle.usdstage.proofs.tool.publish.Goals as goal
 

@@ -1,4 +1,4 @@
-use Rattle.std.proofs.Common.{◌≡◌, ◌∙◌, refl, ap, sym, inl, inr, arith, Ok, Err, None, Some}
+use Rattle.std.proofs.Common.{◌∙◌, refl, ap, arith, Ok, Err, None}
 use Rattle.session_script.specs.declared.faults.ScriptFault.TheVariants as faults
 use Rattle.usdstage.specs.declared.status.Status.TheVariants as status
 use Rattle.usdstage.specs.Course.{turn}

@@ -1,6 +1,4 @@
-use Rattle.std.proofs.Common.{◌≡◌, ◌∙◌, sym, ap, map, List, ℕ, Some, None}
-use Rattle.std.specs.Prelude.{string_bytes}
-use Rattle.usdstage.specs.Command.{command_of}
+use Rattle.std.proofs.Common.{Some}
 use Rattle.usdstage.specs.Course.{course}
 use Rattle.usdstage.specs.Outcome.{IsScript}
 use Rattle.usdstage.proofs.Runs.{completes}

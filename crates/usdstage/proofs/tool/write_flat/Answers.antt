@@ -1,4 +1,3 @@
-use Rattle.std.proofs.Common.{refl}
 use Rattle.usdstage.specs.declared.status.Status.TheVariants as status
 use Rattle.usdstage.proofs.Outcomes.{flat_cut}
 use Rattle.usdstage.proofs.tool.write_flat.Goals as goal

@@ -1,9 +1,9 @@
-use Rattle.std.proofs.Common.{◌≡◌, ◌∙◌, ◌≤◌, ap, sym, refl, arith, Err, Ok, Some, None, List, ℕ, rules}
+use Rattle.std.proofs.Common.{◌≡◌, ◌∙◌, ap, refl, arith, Err, Ok, Some, None}
 use Rattle.std.proofs.lemmas.Result.{err_from_is_err_and}
 use Rattle.session_script.specs.declared.faults.ScriptFault.TheVariants.{Refused}
 use Rattle.session_script.specs.declared.faults.ScriptKind.TheVariants.{TooLong}
 use Rattle.session_script.specs.States.{State}
-use Rattle.session_script.proofs.Passing.{passed_none, passed_line, passed_step, passed_fault, end_passes, refusal_passes}
+use Rattle.session_script.proofs.Passing.{passed_line, passed_step, passed_fault, end_passes, refusal_passes}
 use Rattle.session_script.proofs.Going.{answered, goes_further, still_unrefused, ends, too_long, stops, takes, answer_of_take}
 use Rattle.session_script.proofs.script.Script.next.Goals as goal
 

@@ -1,0 +1,110 @@
+//! The answer to a call.
+
+use crate::edits::{push_apply_call, push_batch_call};
+use crate::fault::CallFault;
+use crate::fields::push_fields_call;
+use crate::indexes::{push_index_call, push_site_call, push_sites_call};
+use crate::layers::{push_layer_call, push_loaded_call, push_names_call, push_rule_call};
+use crate::opening::{Opened, Opening};
+use crate::stacks::{push_arcs_call, push_reads_call, push_sets_call, push_stack_call};
+use crate::stages::{push_ask_call, push_flatten_call};
+use crate::table::Row;
+use crate::values::{push_targets_call, push_value_call};
+use crate::views::push_view_call;
+use crate::words::first_word;
+use layer_set::World;
+use std::alloc::{AllocError, Global};
+
+// Calls on what stands in a world.
+fn push_layers(
+    alloc: Global,
+    out: &mut String,
+    world: &World,
+    word: &str,
+    words: &str,
+) -> Result<(), CallFault> {
+    match word {
+        "layer" => push_layer_call(alloc, out, world, words),
+        "names" => Ok(push_names_call(out, world)?),
+        "rule" => push_rule_call(alloc, out, world, words),
+        "loaded" => push_loaded_call(alloc, out, world, words),
+        _ => Err(CallFault::Bad),
+    }
+}
+
+// Calls on stacks, and those above.
+fn push_stacks(
+    alloc: Global,
+    out: &mut String,
+    world: &World,
+    word: &str,
+    words: &str,
+) -> Result<(), CallFault> {
+    match word {
+        "stack" => push_stack_call(alloc, out, world, words),
+        "arcs" => push_arcs_call(alloc, out, world, words),
+        "reads" => push_reads_call(alloc, out, world, words),
+        "sets" => push_sets_call(alloc, out, world, words),
+        _ => push_layers(alloc, out, world, word, words),
+    }
+}
+
+// Calls on a prim, and those above.
+fn push_prims(
+    alloc: Global,
+    out: &mut String,
+    world: &World,
+    word: &str,
+    words: &str,
+) -> Result<(), CallFault> {
+    match word {
+        "index" => push_index_call(alloc, out, world, words),
+        "sites" => push_sites_call(alloc, out, world, words),
+        "site" => push_site_call(alloc, out, world, words),
+        "value" => push_value_call(alloc, out, world, words),
+        "targets" => push_targets_call(alloc, out, world, words),
+        "fields" => push_fields_call(alloc, out, world, words),
+        "view" => push_view_call(alloc, out, world, words),
+        _ => push_stacks(alloc, out, world, word, words),
+    }
+}
+
+// The calls on a world.
+fn push_call(
+    alloc: Global,
+    out: &mut String,
+    opened: &mut Opened,
+    row: &Row,
+) -> Result<(), CallFault> {
+    let (word, words) = first_word(row.call.as_str());
+    match word {
+        "apply" => push_apply_call(alloc, out, opened, row.given.as_str()),
+        "batch" => push_batch_call(alloc, out, opened, row.given.as_str()),
+        "ask" => push_ask_call(alloc, out, opened, words),
+        "flatten" => push_flatten_call(alloc, out, opened),
+        _ => push_prims(alloc, out, &opened.world, word, words),
+    }
+}
+
+// The answer to a call on a world that was opened.
+fn answered(alloc: Global, opened: &mut Opened, row: &Row) -> Result<String, AllocError> {
+    let mut out = String::new(alloc);
+    match push_call(alloc, &mut out, opened, row) {
+        Ok(()) => {}
+        Err(CallFault::Bad) => out.push_str("no such call\n")?,
+        Err(CallFault::NoMemory) => return Err(AllocError),
+    }
+    Ok(out)
+}
+
+/// The lines with which a call is answered, each with its line feed.
+pub(crate) fn answer(
+    alloc: Global,
+    opening: &mut Opening,
+    row: &Row,
+) -> Result<String, AllocError> {
+    match opening {
+        Opening::World(opened) => answered(alloc, opened, row),
+        Opening::Refused(text) => String::from_str(alloc, text.as_str()),
+    }
+}

@@ -1,0 +1,115 @@
+//! Batches of edits.
+
+use crate::fault::CallFault;
+use crate::opening::Opened;
+use crate::stacks::push_key;
+use crate::stages::push_bytes;
+use change_core::EditReply;
+use layer_changes::{Applied, apply};
+use layer_edit::{Batch, EditFault, EditRefused, Op};
+use layer_set::Key;
+use plain_data::Items;
+use script_lines::{Line, read_line};
+use stage_questions::push_edit_reply;
+use std::alloc::{AllocError, Global};
+
+/// How the reply to a batch begins that is refused.
+const REFUSED: &str = "batch refused: op ";
+
+// The operations of lines.
+fn ops_of(alloc: Global, lines: &str) -> Result<Items<Op>, CallFault> {
+    let mut ops = Items::new(alloc);
+    for line in lines.split('\n') {
+        match read_line(alloc, line.as_bytes())? {
+            Some(Line::Change(op)) => ops.push(op)?,
+            Some(Line::Blank) => {}
+            _ => return Err(CallFault::Bad),
+        }
+    }
+    Ok(ops)
+}
+
+// The batch of lines.
+fn batch_of(alloc: Global, lines: &str) -> Result<Batch, CallFault> {
+    let ops = ops_of(alloc, lines)?;
+    Batch::of(ops).ok_or(CallFault::Bad)
+}
+
+// Appends a line for each key.
+fn push_changed(out: &mut String, keys: &[Key]) -> Result<(), AllocError> {
+    if keys.is_empty() {
+        return out.push_str("nothing changed\n");
+    }
+    for key in keys {
+        out.push_str("changed ")?;
+        push_key(out, key)?;
+        out.push_str("\n")?;
+    }
+    Ok(())
+}
+
+// Appends which operation is refused, and why.
+fn push_refused(
+    alloc: Global,
+    out: &mut String,
+    op: u32,
+    fault: EditFault,
+) -> Result<(), AllocError> {
+    let mut reply = Vec::new(alloc);
+    push_edit_reply(alloc, &mut reply, &EditReply::Refused { op, fault })?;
+    let mut text = String::new(alloc);
+    push_bytes(alloc, &mut text, reply.as_slice())?;
+    out.push_str("refused ")?;
+    match text.as_str().strip_prefix(REFUSED) {
+        Some(rest) => out.push_str(rest),
+        None => out.push_str(text.as_str()),
+    }
+}
+
+// Tries a batch: the keys that it changes, or nothing where it is refused, and then why is appended. An accepted batch makes the world a new one.
+fn try_batch(
+    alloc: Global,
+    out: &mut String,
+    opened: &mut Opened,
+    lines: &str,
+) -> Result<Option<Items<Key>>, CallFault> {
+    let batch = batch_of(alloc, lines)?;
+    match apply(alloc, &opened.world, &batch) {
+        Ok(Applied { world, changed }) => {
+            opened.world = world;
+            opened.stage = None;
+            Ok(Some(changed))
+        }
+        Err(EditRefused::Op { op, fault }) => {
+            push_refused(alloc, out, op, fault)?;
+            Ok(None)
+        }
+        Err(EditRefused::NoMemory) => Err(CallFault::NoMemory),
+    }
+}
+
+/// `apply`: the keys that change, or why the batch is refused.
+pub(crate) fn push_apply_call(
+    alloc: Global,
+    out: &mut String,
+    opened: &mut Opened,
+    lines: &str,
+) -> Result<(), CallFault> {
+    if let Some(keys) = try_batch(alloc, out, opened, lines)? {
+        push_changed(out, keys.as_slice())?;
+    }
+    Ok(())
+}
+
+/// `batch`: whether the batch is accepted, or why it is refused.
+pub(crate) fn push_batch_call(
+    alloc: Global,
+    out: &mut String,
+    opened: &mut Opened,
+    lines: &str,
+) -> Result<(), CallFault> {
+    if try_batch(alloc, out, opened, lines)?.is_some() {
+        out.push_str("accepted\n")?;
+    }
+    Ok(())
+}

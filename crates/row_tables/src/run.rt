@@ -1,0 +1,123 @@
+//! The rows of a table, each compared with what it wants.
+
+use crate::answer::answer;
+use crate::fault::CallFault;
+use crate::opening::{Opening, open};
+use crate::table::{Case, Row, Table};
+use std::alloc::{AllocError, Global};
+use std::fmt::Write;
+
+/// How many rows there are, and how many of them differ from what they want.
+#[derive(Clone, Copy, Debug)]
+pub(crate) struct Count {
+    pub rows: u64,
+    pub differ: u64,
+}
+
+impl Count {
+    /// These and others.
+    pub(crate) fn and(self, other: Count) -> Count {
+        Count {
+            rows: self.rows.saturating_add(other.rows),
+            differ: self.differ.saturating_add(other.differ),
+        }
+    }
+
+    // One row.
+    fn one(differs: bool) -> Count {
+        Count {
+            rows: 1,
+            differ: u64::from(differs),
+        }
+    }
+}
+
+// Appends lines, each behind a mark.
+fn push_marked(out: &mut String, mark: &str, lines: &str) -> Result<(), AllocError> {
+    for line in lines.lines() {
+        out.push_str(mark)?;
+        out.push_str(line)?;
+        out.push_str("\n")?;
+    }
+    Ok(())
+}
+
+// Appends a row that differs, with what was answered and what is wanted.
+fn push_row(out: &mut String, name: &str, row: &Row, got: &str) -> Result<(), AllocError> {
+    let line = row.line;
+    let call = row.call.as_str();
+    writeln!(out, "{name} {line}: ? {call}")?;
+    push_marked(out, "+", got)?;
+    push_marked(out, "=", row.wanted.as_str())
+}
+
+// Makes the call of a row.
+fn run_row(
+    alloc: Global,
+    name: &str,
+    opening: &mut Opening,
+    row: &Row,
+    out: &mut String,
+) -> Result<Count, AllocError> {
+    let got = answer(alloc, opening, row)?;
+    let differs = got.as_str() != row.wanted.as_str();
+    if differs {
+        push_row(out, name, row, got.as_str())?;
+    }
+    Ok(Count::one(differs))
+}
+
+// Opens a world; where no world has such a session layer, that is its answer.
+fn opened(alloc: Global, case: Case) -> Result<(Opening, Vec<Row>), AllocError> {
+    let Case {
+        session,
+        files,
+        rows,
+    } = case;
+    match open(alloc, &session, files) {
+        Ok(opening) => Ok((opening, rows)),
+        Err(CallFault::Bad) => {
+            let text = String::from_str(alloc, "no name of a session layer\n")?;
+            Ok((Opening::Refused(text), rows))
+        }
+        Err(CallFault::NoMemory) => Err(AllocError),
+    }
+}
+
+// Makes the calls on a world.
+fn run_case(alloc: Global, name: &str, case: Case, out: &mut String) -> Result<Count, AllocError> {
+    let mut all = Count { rows: 0, differ: 0 };
+    if case.rows.is_empty() {
+        return Ok(all);
+    }
+    let (mut opening, rows) = opened(alloc, case)?;
+    for row in rows.as_slice() {
+        all = all.and(run_row(alloc, name, &mut opening, row, out)?);
+    }
+    Ok(all)
+}
+
+// Appends each line that no table has at its place; it counts as a row that differs.
+fn push_strange(out: &mut String, name: &str, strange: &[usize]) -> Result<Count, AllocError> {
+    let mut all = Count { rows: 0, differ: 0 };
+    for line in strange {
+        writeln!(out, "{name} {line}: no line of a table")?;
+        all = all.and(Count::one(true));
+    }
+    Ok(all)
+}
+
+/// Makes the calls of a table, and appends the rows that differ.
+pub(crate) fn run_table(
+    alloc: Global,
+    name: &str,
+    table: Table,
+    out: &mut String,
+) -> Result<Count, AllocError> {
+    let Table { cases, strange } = table;
+    let mut all = push_strange(out, name, strange.as_slice())?;
+    for case in cases {
+        all = all.and(run_case(alloc, name, case, out)?);
+    }
+    Ok(all)
+}
