@@ -108,7 +108,23 @@ def check_limits(folder):
     found += differs("262,143 prims", run(folder, ["session", "root.usda"]), 0, b"published 0: batches 0, prims 262143\n", b"")
     write(folder, {"root": prims + 'def "one_more" {}\n'})
     found += differs("262,144 prims", run(folder, ["session", "root.usda"]), 7, b"", b"usdstage: more than 262144 paths\n")
-    return found + check_bytes(folder, differs)
+    return found + check_bytes(folder, differs) + check_scripts(folder, differs)
+
+
+def check_scripts(folder, differs):
+    """Scripts that are refused on an empty layer, and a root layer that is gone when it is opened again."""
+    write(folder, {"root": ""})
+    first = b"published 0: batches 0, prims 0\n"
+    found = differs("a line that is none", run(folder, ["session", "root.usda"], "publish\nnonsense\n"), 6,
+                    first + b"published 1: batches 0, prims 0\n", b"usdstage: script line 2: BadLine\n")
+    found += differs("a batch without an end", run(folder, ["session", "root.usda"], "begin"), 6, first, b"usdstage: script line 2: Unfinished\n")
+    program = subprocess.Popen([os.path.join(TOP, "usdstage"), "session", "root.usda"], cwd=folder, stdin=subprocess.PIPE, stdout=subprocess.PIPE)
+    opened = program.stdout.readline()
+    os.remove(os.path.join(folder, "root.usda"))
+    rest, _ = program.communicate(b"open @root.usda@\n", timeout=600)
+    if (program.returncode, opened, rest) != (0, first, b"batch refused: op 1 RootLayer\n"):
+        found.append(f"a root layer that is gone: status {program.returncode}, written {opened + rest}")
+    return found
 
 
 def commented(length):
@@ -148,7 +164,7 @@ def main():
         found = check_limits(folder)
     print("".join(f"{difference}\n" for difference in found), end="")
     failed += len(found)
-    print(f"scenes: {len(SCENES) + 7 - failed} passed, {failed} failed")
+    print(f"scenes: {len(SCENES) + 10 - failed} passed, {failed} failed")
     sys.exit(1 if failed else 0)
 
 

@@ -205,6 +205,10 @@ module _ (held : Text → Held) (size : Text → ℕ) where
   opened_replies world bytes script x y z few first then =
       subst (λ (c : Course). Appends x z c.text) (sym (opened world bytes script few)) (appends_then x y z (opening_text world) (carried held size (opening world) bytes (steps_of script)).text first then)
 
+  -- the run ends as it does behind the reply to the opening
+  pub opened_due : (world : WorldData) (bytes : ℕ) (script : List ℕ) → length (stage_after world []) ≤ most_paths → (session_course held size world bytes script).due ≡ (carried held size (opening world) bytes (steps_of script)).due
+  opened_due world bytes script few = ap (λ (c : Course). c.due) (opened world bytes script few)
+
   -- ---- what a reply makes of a run
 
   -- a reply that was written whole, or its front

@@ -11,12 +11,13 @@ use Rattle.session_script.specs.Reading.{Steps, at_end, steps_from, steps_of}
 use Rattle.session_script.specs.States.{State, Passes, steps_behind}
 use Rattle.session_script.specs.Told.{BothTold}
 use Rattle.session_script.specs.declared.faults.ScriptFault.TheVariants.{ReadFault as ScriptReadFault}
+use Rattle.session_script.specs.declared.faults.ScriptKind.TheVariants.{Unfinished}
 use Rattle.session_script.specs.declared.steps.Step.{Step}
 use Rattle.session_script.proofs.Going.{none_left, told_then}
 use Rattle.session_script.proofs.Whole.{front_lines, whole_lines}
 use Rattle.stage_session.specs.Sessions.{Session}
 use Rattle.usdstage.specs.Course.{Course, turn, carried}
-use Rattle.usdstage.specs.Outcome.{Carries, RepliesToLines}
+use Rattle.usdstage.specs.Outcome.{Carries, GoesOn, RepliesToLines}
 use Rattle.usdstage.proofs.Carrying.{Reached, carried-ended, carried-refused, reached_more}
 use Rattle.usdstage.proofs.Outcomes.{appends_none}
 
@@ -53,6 +54,15 @@ module _ (held : Text → Held) (size : Text → ℕ) where
       by_batch None = ap (λ (c : Course). c.text) (carried-ended held size now b)
       by_batch (Some ops) = ap (λ (c : Course). c.text) (carried-refused held size now b (s.lines + 1) _)
 
+  -- where no line follows, the run goes on
+  goes_on_there : (now : Session) (b : ℕ) (s : State) → s.stopped ≡ None → GoesOn (carried held size now b (steps_behind s [])).due
+  goes_on_there now b s e =
+      rw e (subst (λ (x : Steps). GoesOn (carried held size now b x).due) (sym (none_left s.taken s.lines s.batch)) (by_batch s.batch))
+    where
+      by_batch : (batch : Option (List Op)) → GoesOn (carried held size now b (at_end batch (s.lines + 1))).due
+      by_batch None = subst (λ (c : Course). GoesOn c.due) (sym (carried-ended held size now b)) tt
+      by_batch (Some ops) = subst (λ (c : Course). GoesOn c.due) (sym (carried-refused held size now b (s.lines + 1) Unfinished)) refl
+
   -- a fault of the source: what was written are the replies to the whole lines that were read
   pub fault_writes : (start now : Session) (b0 b : ℕ) (old new : State) (p q r x y : Option (List ℕ)) → Follows start now b0 b old p q x y → Passes (Err ScriptReadFault) old new q r → new.stopped ≡ None
       → BothTold p r (λ all left. RepliesToLines (λ lines. carried held size start b0 (steps_of lines)) all left x y)
@@ -61,7 +71,9 @@ module _ (held : Text → Held) (size : Text → ℕ) where
       let here : (carried held size now b (steps_behind old (ls ++ []))).text ≡ [] = ap (λ (t : Steps). (carried held size now b t).text) (passes []) ∙ nothing_more now b new going in
       let text : (carried held size start b0 (steps_from 0 0 None (f.lines ++ (ls ++ [])))).text ≡ ready.written =
       ap (λ (c : Course). c.text) ready.same ∙ ap (λ (l : List ℕ). ready.written ++ l) here ∙ append-nil ready.written in
+      let due : GoesOn (carried held size start b0 (steps_from 0 0 None (f.lines ++ (ls ++ [])))).due =
+      subst (λ (c : Course). GoesOn c.due) (sym ready.same) (subst (λ (t : Steps). GoesOn (carried held size now b t).due) (sym (passes [])) (goes_on_there now b new going)) in
       told_then p q r (λ all rest. lines_of all ≡ f.lines ++ lines_of (old.held ++ rest)) (λ rest more. lines_of (old.held ++ rest) ≡ ls ++ lines_of (new.held ++ more)) _ f.front taken (λ a u c e h.
       let cut : lines_of a ≡ (f.lines ++ ls) ++ lines_of (new.held ++ c) = e ∙ ap (λ (l : List (List ℕ)). f.lines ++ l) h ∙ sym (append_assoc f.lines ls (lines_of (new.held ++ c))) in
       let lines : lines_of (concat (f.lines ++ ls)) ≡ f.lines ++ (ls ++ []) = front_lines a (f.lines ++ ls) (lines_of (new.held ++ c)) cut ∙ ap (λ (l : List (List ℕ)). f.lines ++ l) (sym (append-nil ls)) in
-      (concat (f.lines ++ ls), whole_lines a c new.held (f.lines ++ ls) cut none, subst (Appends x y) (sym (ap (λ (l : List (List ℕ)). (carried held size start b0 (steps_from 0 0 None l)).text) lines ∙ text)) ready.appends))
+      (concat (f.lines ++ ls), whole_lines a c new.held (f.lines ++ ls) cut none, subst (Appends x y) (sym (ap (λ (l : List (List ℕ)). (carried held size start b0 (steps_from 0 0 None l)).text) lines ∙ text)) ready.appends, subst (λ (l : List (List ℕ)). GoesOn (carried held size start b0 (steps_from 0 0 None l)).due) (sym lines) due))

@@ -18,13 +18,13 @@ use Rattle.session_script.proofs.Going.{told_weaker}
 use Rattle.stage_session.specs.Sessions.{Session as SessionState, stage_after, most_paths, opening, opening_text}
 use Rattle.std.specs.Prelude.{length, ◌≤◌}
 use Rattle.usdstage.specs.Course.{Course, unopened, flat_course, session_course, world_course, opened_course, carried, course}
-use Rattle.usdstage.specs.Outcome.{ByFiles, EndsAsDue, EndsWith, IsScript, RepliesToLines}
+use Rattle.usdstage.specs.Outcome.{ByFiles, EndsAsDue, EndsWith, IsScript, GoesOn, RepliesToLines}
 use Rattle.usdstage.specs.declared.status.Status.{Status}
 use Rattle.usdstage.specs.declared.status.Status.TheVariants.{ReadFault, WriteFault, RootRefused, WorldTooLarge, NoMemory, Usage}
 use Rattle.usdstage.specs.declared.words.Command.{Command}
 use Rattle.usdstage.specs.declared.words.Verb.{Verb}
 use Rattle.usdstage.specs.declared.words.Verb.TheVariants as verbs
-use Rattle.usdstage.proofs.Carrying.{opened_then, opened_replies}
+use Rattle.usdstage.proofs.Carrying.{opened_then, opened_replies, opened_due}
 use Rattle.usdstage.proofs.Files.{by_files, then_files}
 use Rattle.usdstage.proofs.Outcomes.{cut_at_once, ends_with_nothing, due_by}
 
@@ -54,8 +54,12 @@ session_ended told left a b world bytes status h = by_files told _ (λ held size
 -- the replies behind the one to the opening
 replies_behind : (held : Text → Held) (size : Text → ℕ) (all left : List ℕ) (a b c : Option (List ℕ)) (world : WorldData) (bytes : ℕ) (session : SessionState) → session ≡ opening world → length (stage_after world []) ≤ most_paths
     → Appends a b (opening_text world) → RepliesToLines (λ lines. carried held size session bytes (steps_of lines)) all left b c → RepliesToLines (λ lines. session_course held size world bytes lines) all left a c
-replies_behind held size all left a b c world bytes session is few first (whole, cut, wrote) =
-    (whole, cut, opened_replies held size world bytes whole a b c few first (subst (λ (s : SessionState). Appends b c (carried held size s bytes (steps_of whole)).text) is wrote))
+replies_behind held size all left a b c world bytes session is few first (whole, cut, wrote, on) = (
+  whole,
+  cut,
+  opened_replies held size world bytes whole a b c few first (subst (λ (s : SessionState). Appends b c (carried held size s bytes (steps_of whole)).text) is wrote),
+  subst GoesOn (sym (opened_due held size world bytes whole few)) (subst (λ (s : SessionState). GoesOn (carried held size s bytes (steps_of whole)).due) is on),
+)
 
 pub session_replies : (told : Option Files) (p q a b c : Option (List ℕ)) (world : WorldData) (bytes : ℕ) (session : SessionState) → session ≡ opening world → length (stage_after world []) ≤ most_paths → Appends a b (opening_text world)
     → ByFiles told (λ held size. BothTold p q (λ all left. RepliesToLines (λ lines. carried held size session bytes (steps_of lines)) all left b c))
@@ -114,7 +118,7 @@ command_replies (Some f) command p q a b loaded o verb k = λ held read.
     let here = rw o.fit at o.answers in
     told_weaker p q _ _ (k held read) (λ all left r.
     let c : course held (taken_at f) (Some command) r.0 ≡ session_course held (taken_at f) loaded.world loaded.bytes r.0 = opened_is held (taken_at f) command r.0 (Ok loaded) (here held read) ∙ ap (λ (v : Verb). world_course held (taken_at f) v loaded r.0) verb in
-    (r.0, r.1, subst (λ (x : Course). Appends a b x.text) (sym c) r.2))
+    (r.0, r.1, subst (λ (x : Course). Appends a b x.text) (sym c) r.2, subst (λ (x : Course). GoesOn x.due) (sym c) r.3))
 
 -- a run that was not opened ended with a fault of the files
 pub unopened_by_files : (fault : LoadFault) (status : Status) → status ≡ unopened fault → status ≡ ReadFault → fault ≡ load.ReadFault

@@ -5,6 +5,7 @@ use Rattle.composition.specs.Texts.{Text}
 use Rattle.layer_load.specs.Files.{Files, AreRead, taken_at}
 use Rattle.layer_set.specs.declared.held.Held.{Held}
 use Rattle.session_script.specs.Cuts.{AreWholeLines}
+use Rattle.session_script.specs.declared.faults.ScriptKind.TheVariants.{Unfinished}
 use Rattle.stage_session.specs.Sessions.{Session}
 use Rattle.usdstage.specs.Course.{Course, Turn}
 use Rattle.usdstage.specs.declared.words.Command.{Command}
@@ -36,9 +37,21 @@ Ends c NoMemory written = IsFront c written
 abbrev pub EndsWith : Course → Status → Option (List ℕ) → Option (List ℕ) → Type 0
 EndsWith c status before after = (written : List ℕ) × Ends c status written × Appends before after written
 
--- What was written are the replies of a course to all whole lines that were read of a script, of which so much is left.
+-- a run that more lines go on: its lines are at their end, in a batch or outside
+abbrev pub GoesOn : Status → Type 0
+GoesOn Done = Unit {0}
+GoesOn (ScriptRefused line kind) = kind ≡ Unfinished
+GoesOn Usage = ⊥
+GoesOn ReadFault = ⊥
+GoesOn WriteFault = ⊥
+GoesOn (RootRefused name refusal) = ⊥
+GoesOn StageFull = ⊥
+GoesOn WorldTooLarge = ⊥
+GoesOn NoMemory = ⊥
+
+-- What was written are the replies of a course to all whole lines that were read of a script, of which so much is left; none of them ends the run.
 abbrev pub RepliesToLines : (List ℕ → Course) → List ℕ → List ℕ → Option (List ℕ) → Option (List ℕ) → Type 0
-RepliesToLines c all left before after = (whole : List ℕ) × AreWholeLines all left whole × Appends before after (c whole).text
+RepliesToLines c all left before after = (whole : List ℕ) × AreWholeLines all left whole × Appends before after (c whole).text × GoesOn (c whole).due
 
 -- the fact of what stands at each name, and of the bytes fetched for it, where the files are told
 abbrev pub ByFiles : Option Files → ((Text → Held) → (Text → ℕ) → Type 0) → Type 0
