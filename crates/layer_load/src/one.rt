@@ -1,5 +1,6 @@
 // One layer from its file.
-ghost use Rattle.std.specs.Prelude.{◌≡◌, ◌+◌, ◌<◌, ◌≤◌, Err, length, MatchResult};
+ghost use Rattle.std.specs.Prelude.{◌≡◌, ◌≢◌, ◌+◌, ◌<◌, ◌≤◌, Err, length, MatchResult};
+ghost use Rattle.asset_names.specs.Anchoring.{kind_of};
 ghost use Rattle.io_edges.specs.Causes.{Rose};
 ghost use Rattle.layer_set.specs.declared.held.Held.{Held as SaidHeld};
 ghost use Rattle.layer_load.specs.Files.{Says, unread};
@@ -115,6 +116,7 @@ pub fn load_one<F: LayerFiles>(
     ensures answers { AnswersOne (F.files files.old) id.now before result }
     ensures same { F.files files.new ≡ F.files files.old }
     ensures later { F.faults files.old ≤ F.faults files.new }
+    ensures unfetched { kind_of id.now ≢ NameKind.Plain → files.new ≡ files.old }
     ensures cause { result ≡ Err LoadFault.ReadFault → Rose (F.faults files.old) (F.faults files.new) }
 {
     match id.name_kind() {

@@ -14,4 +14,6 @@ mod one;
 #[cfg(test)]
 mod opened;
 #[cfg(test)]
+mod stacks;
+#[cfg(test)]
 mod told;

@@ -7,7 +7,7 @@ use crate::stages::push_bytes;
 use change_core::EditReply;
 use layer_changes::{Applied, apply};
 use layer_edit::{Batch, EditFault, EditRefused, Op};
-use layer_set::Key;
+use layer_set::{Held, Key};
 use plain_data::Items;
 use script_lines::{Line, read_line};
 use stage_questions::push_edit_reply;
@@ -16,12 +16,16 @@ use std::alloc::{AllocError, Global};
 /// How the reply to a batch begins that is refused.
 const REFUSED: &str = "batch refused: op ";
 
-// The operations of lines.
+// The operations of lines; `open` stands for a layer whose file is gone.
 fn ops_of(alloc: Global, lines: &str) -> Result<Items<Op>, CallFault> {
     let mut ops = Items::new(alloc);
     for line in lines.split('\n') {
         match read_line(alloc, line.as_bytes())? {
             Some(Line::Change(op)) => ops.push(op)?,
+            Some(Line::Open(id)) => ops.push(Op::PutLayer {
+                id,
+                held: Held::Absent,
+            })?,
             Some(Line::Blank) => {}
             _ => return Err(CallFault::Bad),
         }

@@ -5,14 +5,15 @@ use Rattle.std.specs.Io.KnownBytes.{Consumes, IsAtEnd, Keeps}
 use Rattle.std.proofs.lemmas.List.{take_all, length-drop, drop-drop, length-take, take-append-drop, length-append, take-append-le, drop-append-le}
 use Rattle.std.proofs.Math.ListN.{drop_of_length-le}
 use Rattle.std.proofs.Math.Seq.{take-add}
-use Rattle.std.proofs.lemmas.Bool.{eqb-true, ltb-true, ltb-false}
+use Rattle.std.proofs.lemmas.Bool.{eqb-true, eqb-false, ltb-true, ltb-false}
 use Rattle.std.specs.Prelude.{nat_lt}
 use Rattle.std.proofs.KnownBytes.{Consumes-trans}
-use Rattle.session_script.specs.Pieces.{onto, lines_of}
-use Rattle.session_script.specs.Told.{BothTold}
+use Rattle.session_script.specs.Pieces.{onto, lines_of, IsFed}
+use Rattle.session_script.specs.Told.{BothTold, Heeds}
 use Rattle.session_script.specs.States.{has_feed, IsScanned}
 use Rattle.session_script.specs.Fronts.{IsFront, Grows}
 use Rattle.session_script.specs.declared.front.Front.TheVariants.{Line, TooLong, End}
+use Rattle.session_script.proofs.Going.{told_then}
 use Rattle.session_script.proofs.Pieces.{glue, glue-first, take_next}
 
 false_of : (b : Bool) → (b ≡ true → ⊥) → b ≡ false
@@ -114,6 +115,11 @@ scan_more start scanned old piece new s e = rw e (record {
 pub held_scanned : (start : ℕ) (bytes : List ℕ) → IsScanned start (length bytes) bytes → has_feed (drop start bytes) ≡ false
 held_scanned start bytes s = rw (all_rest start bytes) at s.no_feed
 
+line_fed : (start at : ℕ) (bytes : List ℕ) → start ≤ at → at < length bytes → get_or bytes at 0 ≡ 10 → IsFed (take (at + 1 - start) (drop start bytes))
+line_fed start at bytes before within feed =
+    let xs = take (at - start) (drop start bytes) in
+    (xs, take_next bytes start at before within ∙ ap (λ (x : ℕ). xs ++ x ∷ []) feed)
+
 line_front : (start at : ℕ) (bytes more : List ℕ) → start ≤ at → at < length bytes → get_or bytes at 0 ≡ 10 → has_feed (take (at - start) (drop start bytes)) ≡ false
     → lines_of (drop start bytes ++ more) ≡ take (at + 1 - start) (drop start bytes) ∷ lines_of (drop (at + 1) bytes ++ more)
 line_front start at bytes more before within feed none =
@@ -132,27 +138,27 @@ told None after piece P c h = tt
 told (Some a) None piece P c h = absurd c
 told (Some a) (Some more) piece P c h = h more
 
-by_test : (b : Bool) (start end : ℕ) (bytes piece : List ℕ) (before after : Option (List ℕ)) → nat_lt 16777216 end ≡ b → start < end → end ≤ length bytes → Consumes before after piece
+by_test : (b ended : Bool) (start end : ℕ) (bytes piece : List ℕ) (before after : Option (List ℕ)) → nat_lt 16777216 end ≡ b → start < end → end ≤ length bytes → Consumes before after piece
     → ((more : List ℕ) → lines_of (drop start bytes ++ more) ≡ take (end - start) (drop start bytes) ∷ lines_of (drop end bytes ++ more))
-    → IsFront (cond b TooLong (Line (end - start))) start bytes before after
-by_test true start end bytes piece before after long some within c line =
+    → IsFed (take (end - start) (drop start bytes)) → IsFront (cond b TooLong (Line (end - start))) start bytes ended before after
+by_test true ended start end bytes piece before after long some within c line fed =
     told before after piece _ c (λ more. (take (end - start) (drop start bytes), lines_of (drop end bytes ++ more), line more, omega (arith, ltb-true 16777216 end long, length-take (end - start) (drop start bytes), length-drop start bytes)))
-by_test false start end bytes piece before after short some within c line =
+by_test false ended start end bytes piece before after short some within c line fed =
     let e : start + (end - start) ≡ end = omega arith in
-    (omega arith, omega (arith, e), omega (arith, e, ltb-false 16777216 end short), told before after piece _ c (λ more. line more ∙ ap (λ (k : ℕ). take (end - start) (drop start bytes) ∷ lines_of (drop k bytes ++ more)) (sym e)))
+    (omega arith, omega (arith, e), omega (arith, e, ltb-false 16777216 end short), told before after piece _ c (λ more. line more ∙ ap (λ (k : ℕ). take (end - start) (drop start bytes) ∷ lines_of (drop k bytes ++ more)) (sym e)), λ yet. fed)
 
 -- a line that ends at a line feed
-pub front_feed : (start scanned at : ℕ) (bytes piece : List ℕ) (before after : Option (List ℕ)) → IsScanned start scanned bytes → scanned ≤ at → at < length bytes → get_or bytes at 0 ≡ 10
-    → has_feed (take (at - scanned) (drop scanned bytes)) ≡ false → Consumes before after piece → IsFront (cond (nat_lt 16777216 (at + 1)) TooLong (Line (at + 1 - start))) start bytes before after
-front_feed start scanned at bytes piece before after s b within feed none c =
+pub front_feed : (start scanned at : ℕ) (ended : Bool) (bytes piece : List ℕ) (before after : Option (List ℕ)) → IsScanned start scanned bytes → scanned ≤ at → at < length bytes → get_or bytes at 0 ≡ 10
+    → has_feed (take (at - scanned) (drop scanned bytes)) ≡ false → Consumes before after piece → IsFront (cond (nat_lt 16777216 (at + 1)) TooLong (Line (at + 1 - start))) start bytes ended before after
+front_feed start scanned at ended bytes piece before after s b within feed none c =
     let first : start ≤ at = omega (arith, s.before) in
-    by_test (nat_lt 16777216 (at + 1)) start (at + 1) bytes piece before after refl (omega arith) (omega arith) c
-    (λ more. line_front start at bytes more first within feed (scan_to start scanned at bytes s b (omega arith) none))
+    by_test (nat_lt 16777216 (at + 1)) ended start (at + 1) bytes piece before after refl (omega arith) (omega arith) c
+    (λ more. line_front start at bytes more first within feed (scan_to start scanned at bytes s b (omega arith) none)) (line_fed start at bytes first within feed)
 
 -- a line that is too long, whatever follows
-pub front_long : (start : ℕ) (bytes piece : List ℕ) (before after : Option (List ℕ)) → IsScanned start (length bytes) bytes → start ≤ 16777216 → 16777216 < length bytes → Consumes before after piece
-    → IsFront TooLong start bytes before after
-front_long start bytes piece before after s short long c =
+pub front_long : (start : ℕ) (ended : Bool) (bytes piece : List ℕ) (before after : Option (List ℕ)) → IsScanned start (length bytes) bytes → start ≤ 16777216 → 16777216 < length bytes → Consumes before after piece
+    → IsFront TooLong start bytes ended before after
+front_long start ended bytes piece before after s short long c =
     let d = drop start bytes in
     let len : length d ≡ length bytes - start = length-drop start bytes in
     told before after piece _ c (λ more. let r = lines-long d more (omega arith) (held_scanned start bytes s) in (r.0, r.1, r.2, omega (arith, r.3)))
@@ -170,9 +176,9 @@ weaken (Some a) None P Q p h = absurd p
 weaken (Some a) (Some more) P Q p h = h more p
 
 -- a last line without a line feed, where the source is at its end
-pub front_last : (start : ℕ) (bytes piece : List ℕ) (before mid after : Option (List ℕ)) → IsScanned start (length bytes) bytes → start < length bytes → length bytes ≤ 16777216 → Consumes before mid piece → IsAtEnd mid → Keeps mid after
-    → IsFront (Line (length bytes - start)) start bytes before after
-front_last start bytes piece before mid after s some short c end kept =
+front_last : (start : ℕ) (bytes piece : List ℕ) (before : Option (List ℕ)) → IsScanned start (length bytes) bytes → start < length bytes → length bytes ≤ 16777216 → Consumes before (Some []) piece
+    → IsFront (Line (length bytes - start)) start bytes true before (Some [])
+front_last start bytes piece before s some short c =
     let d = drop start bytes in
     let len : length d ≡ length bytes - start = length-drop start bytes in
     let e : start + (length bytes - start) ≡ length bytes = omega arith in
@@ -181,12 +187,54 @@ front_last start bytes piece before mid after s some short c end kept =
       omega arith,
       omega (arith, e),
       omega (arith, e),
-      weaken before after (λ (more : List ℕ). more ≡ []) _ (at_end before mid after piece c end kept)
+      weaken before (Some []) (λ (more : List ℕ). more ≡ []) _ (at_end before (Some []) (Some []) piece c refl refl)
           (λ more nothing. rw (nothing, none, all_rest start bytes) (ap lines_of (append-nil d) ∙ line ∙ ap (λ (ls : List (List ℕ)). d ∷ ls) (sym lines-nil))),
+      λ yet. absurd cc,
     )
 
-pub front_end : (start : ℕ) (bytes piece : List ℕ) (before mid after : Option (List ℕ)) → length bytes ≤ start → Consumes before mid piece → IsAtEnd mid → Keeps mid after → IsFront End start bytes before after
-front_end start bytes piece before mid after none c end kept = (drop_of_length-le bytes none, at_end before mid after piece c end kept)
+front_end : (start : ℕ) (bytes piece : List ℕ) (before : Option (List ℕ)) → length bytes ≤ start → Consumes before (Some []) piece → IsFront End start bytes true before (Some [])
+front_end start bytes piece before none c = (drop_of_length-le bytes none, at_end before (Some []) (Some []) piece c refl refl, refl)
+
+-- what is in front where the source told its end
+pub front_rest : (start : ℕ) (bytes piece : List ℕ) (before : Option (List ℕ)) → IsScanned start (length bytes) bytes → length bytes ≤ 16777216 → Consumes before (Some []) piece
+    → IsFront (cond (length bytes - start == 0) End (Line (length bytes - start))) start bytes true before (Some [])
+front_rest start bytes piece before s short c = by_rest (length bytes - start == 0) refl
+  where
+    by_rest : (b : Bool) → (length bytes - start == 0) ≡ b → IsFront (cond b End (Line (length bytes - start))) start bytes true before (Some [])
+    by_rest true e = let none : length bytes - start ≡ 0 = eqb-true (length bytes - start) 0 e in front_end start bytes piece before (omega (arith, none)) c
+    by_rest false e = front_last start bytes piece before s (some_of (length bytes - start) e) short c
+      where
+        some_of : (n : ℕ) → (n == 0) ≡ false → start < length bytes
+        some_of n f = omega (arith, eqb-false (length bytes - start) 0 e)
+
+-- bytes that were told, and then the end
+pub to_end : (before mid : Option (List ℕ)) (piece : List ℕ) → Consumes before mid piece → IsAtEnd mid → Consumes before (Some []) piece
+to_end None mid piece c e = tt
+to_end (Some a) None piece c e = absurd c
+to_end (Some a) (Some xs) piece c e = c ∙ ap (λ (l : List ℕ). piece ++ l) e
+
+-- a source that told its end has nothing left
+pub heeds_end : (before mid after : Option (List ℕ)) (piece : List ℕ) → Consumes before mid piece → IsAtEnd mid → Keeps mid after → Heeds false true before after
+heeds_end before mid after piece c e k = at_end before mid after piece c e k
+
+-- what it told says nothing of its end
+pub heeds_more : (before after : Option (List ℕ)) (piece : List ℕ) → Consumes before after piece → Heeds false false before after
+heeds_more None after piece c = tt
+heeds_more (Some a) None piece c = absurd c
+heeds_more (Some a) (Some xs) piece c = tt
+
+-- an end that was told is not forgotten
+pub kept_end : (a b : Bool) (x y : Option (List ℕ)) → Heeds a b x y → a ≡ true → b ≡ true
+kept_end true b x y h e = h.0
+kept_end false b x y h e = absurd (let k = e in cc)
+
+pub heeds_then : (a b c : Bool) (x y z : Option (List ℕ)) → Heeds a b x y → Heeds b c y z → Heeds a c x z
+heeds_then true true c x y z h k = (k.0, k.1 ∙ h.1)
+heeds_then true false c x y z h k = absurd (let e = h.0 in cc)
+heeds_then false true true x y z h k = rw k.1 h
+heeds_then false true false x y z h k = absurd (let e = k.0 in cc)
+heeds_then false false true x y z h k = told_then x y z (λ _ _. Unit {0}) (λ _ left. left ≡ []) _ h k (λ a b c p q. q)
+heeds_then false false false x y z h k = told_then x y z (λ _ _. Unit {0}) (λ _ _. Unit {0}) _ h k (λ a b c p q. tt)
 
 -- what was read before, and a piece more
 pub more_goes_on : (first old new : List ℕ) (a b c : Option (List ℕ)) (piece : List ℕ) → Grows first old a b → new ≡ old ++ piece → Consumes b c piece → Grows first new a c

@@ -43,8 +43,7 @@ pub fed : (old new : State) (before after : Option (List ℕ)) → Feeds old new
 fed old new None after f = tt
 fed old new (Some a) None f = absurd f.2
 fed old new (Some a) (Some b) f =
-    let e : new.held ++ b ≡ old.held ++ a = ap (λ (s : State). s.held ++ b) f.1 ∙ append_assoc old.held f.0 b ∙ ap (λ (l : List ℕ). old.held ++ l) (sym f.2) in
-    let s : steps_left new b ≡ steps_left (record old { held = old.held ++ f.0 }) b = ap (λ (s : State). steps_left s b) f.1 in
+    let s : steps_left new b ≡ steps_left (record old { held = old.held ++ f.0; ended = new.ended }) b = ap (λ (s : State). steps_left s b) f.1 in
     let same : (old.held ++ f.0) ++ b ≡ old.held ++ a = append_assoc old.held f.0 b ∙ ap (λ (l : List ℕ). old.held ++ l) (sym f.2) in
     s ∙ ap (λ (l : List ℕ). elim old.stopped [ Some at ↦ refused at.0 at.1 | None ↦ steps_from old.taken old.lines old.batch (lines_of l) ]) same
 

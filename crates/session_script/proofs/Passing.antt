@@ -1,6 +1,7 @@
 -- The lines that a script took, whatever lines follow them.
 use Rattle.std.proofs.Common.{◌≡◌, ℕ, ◌+◌, ◌≤◌, false, List, [], ◌∷◌, ◌++◌, length, take, drop, Option, Some, None, Result, Ok, Err, refl, ap, sym, ◌∙◌, arith, append_assoc}
 use Rattle.std.specs.Prelude.{nat_lt}
+use Rattle.std.specs.List.{concat}
 use Rattle.std.proofs.lemmas.Bool.{le-ltb}
 use Rattle.layer_edit.specs.declared.op.Op.{Op}
 use Rattle.session_script.specs.declared.steps.Step.{Step}
@@ -8,19 +9,21 @@ use Rattle.session_script.specs.declared.faults.ScriptFault.{ScriptFault}
 use Rattle.session_script.specs.declared.faults.ScriptFault.TheVariants.{Refused, ReadFault, NoMemory}
 use Rattle.session_script.specs.declared.front.Front.TheVariants as front
 use Rattle.session_script.specs.Told.{BothTold}
-use Rattle.session_script.specs.Pieces.{lines_of}
+use Rattle.session_script.specs.Pieces.{lines_of, IsFed}
 use Rattle.script_lines.specs.Lines.{line_of}
 use Rattle.session_script.specs.Reading.{step, Move, goes_on, asks, move, most_bytes, steps_from}
-use Rattle.session_script.specs.States.{State, steps_behind, Feeds, FrontIs, TakesLine, EndsScript, AreTaken, Passes, has_feed, behind_line}
+use Rattle.session_script.specs.States.{State, steps_behind, Feeds, FrontIs, TakesLine, EndsScript, AreTaken, AreWhole, Passes, has_feed, behind_line}
 use Rattle.session_script.proofs.Going.{moved, short_line, taken_len, told_then}
+use Rattle.session_script.proofs.Whole.{fed_append, longer_by}
 
--- lines were taken between two states, and their steps went by
+-- lines were taken between two states, and their steps went by; while the source has not told its end, each has its line feed
 abbrev pub Passed : State → State → Option (List ℕ) → Option (List ℕ) → Type 0
-Passed old new before after = (ls : List (List ℕ)) × AreTaken ls old new before after × ((rs : List (List ℕ)) → steps_behind old (ls ++ rs) ≡ steps_behind new rs)
+Passed old new before after = (ls : List (List ℕ)) × AreTaken ls old new before after × ((rs : List (List ℕ)) → steps_behind old (ls ++ rs) ≡ steps_behind new rs) × AreWhole ls old new
+    × (new.taken ≡ old.taken + length (concat ls))
 
 pub passed_none : (s : State) (x : Option (List ℕ)) → Passed s s x x
-passed_none s None = ([], tt, λ rs. refl)
-passed_none s (Some a) = ([], refl, λ rs. refl)
+passed_none s None = ([], tt, λ rs. refl, λ yet. (yet, tt), omega arith)
+passed_none s (Some a) = ([], refl, λ rs. refl, λ yet. (yet, tt), omega arith)
 
 -- the bytes that were read are held
 held_is : (loop mid : State) (y z : Option (List ℕ)) → Feeds loop mid y z → BothTold y z (λ b c. mid.held ++ c ≡ loop.held ++ b)
@@ -30,11 +33,13 @@ held_is loop mid (Some b) (Some c) f = ap (λ (s : State). s.held ++ c) f.1 ∙ 
 
 -- more bytes are held, and no line was taken
 pub passed_fed : (first loop mid : State) (x y z : Option (List ℕ)) → Passed first loop x y → Feeds loop mid y z → Passed first mid x z
-passed_fed first loop mid x y z (ls, taken, same) f = (
+passed_fed first loop mid x y z (ls, taken, same, whole, count) f = (
   ls,
   told_then x y z (λ a b. lines_of (first.held ++ a) ≡ ls ++ lines_of (loop.held ++ b)) (λ b c. mid.held ++ c ≡ loop.held ++ b) _ taken (held_is loop mid y z f)
       (λ a b c e h. e ∙ ap (λ (l : List ℕ). ls ++ lines_of l) (sym h)),
   λ rs. same rs ∙ sym (ap (λ (s : State). steps_behind s rs) f.1),
+  λ yet. whole (f.3 yet),
+  ap (λ (s : State). s.taken) f.1 ∙ count,
 )
 
 -- the steps of a line in front, by its move, whatever lines follow it
@@ -67,21 +72,35 @@ heard first loop ls None y t = tt
 heard first loop ls (Some a) None t = absurd t
 heard first loop ls (Some a) (Some b) t = tt
 
+-- one line more, which has its line feed
+one_more : (len line : ℕ) (batch : Option (List Op)) (ls : List (List ℕ)) (first mid new : State) → AreWhole ls first mid → (mid.ended ≡ false → IsFed (take len mid.held)) → new ≡ behind_line mid len batch line
+    → AreWhole (ls ++ take len mid.held ∷ []) first new
+one_more len line batch ls first mid new whole fed e yet =
+    let here : mid.ended ≡ false = sym (ap (λ (s : State). s.ended) e) ∙ yet in
+    let w = whole here in
+    (w.0, fed_append ls (take len mid.held ∷ []) w.1 (fed here, tt))
+
+counts_on : (len line : ℕ) (batch : Option (List Op)) (ls : List (List ℕ)) (first mid new : State) → len ≤ length mid.held → mid.taken ≡ first.taken + length (concat ls) → new ≡ behind_line mid len batch line
+    → new.taken ≡ first.taken + length (concat (ls ++ take len mid.held ∷ []))
+counts_on len line batch ls first mid new within count e = omega (arith, ap (λ (s : State). s.taken) e, count, longer_by ls (take len mid.held), taken_len len mid.held within)
+
 -- a line that gives no step
 pub passed_line : (len : ℕ) (first loop mid new : State) (x y z : Option (List ℕ)) → mid.stopped ≡ None → Passed first loop x y → Feeds loop mid y z → FrontIs (front.Line len) mid y z
     → TakesLine (Ok None) len mid new (move mid.batch (line_of (take len mid.held))) → Passed first new x z
-passed_line len first loop mid new x y z unrefused passed f (some, within, short, ahead) (next, is, e) =
+passed_line len first loop mid new x y z unrefused passed f (some, within, short, ahead, fed) (next, is, e) =
     let m = passed_fed first loop mid x y z passed f in
     let l = take len mid.held in (
       m.0 ++ l ∷ [],
       line_more first mid new len mid.line next m.0 x y z m.1 ahead (heard first loop passed.0 x y passed.1) e,
       λ rs. ap (steps_behind first) (append_assoc m.0 (l ∷ []) rs) ∙ m.2 (l ∷ rs) ∙ line_steps len mid (goes_on next) rs unrefused within short is ∙ sym (steps_after len mid.line next mid new rs unrefused within e),
+      one_more len mid.line next m.0 first mid new m.3 fed e,
+      counts_on len mid.line next m.0 first mid new within m.4 e,
     )
 
 -- a line that gives a step
 pub passed_step : (len : ℕ) (s : Step) (first loop mid new : State) (x y z : Option (List ℕ)) → mid.stopped ≡ None → Passed first loop x y → Feeds loop mid y z → FrontIs (front.Line len) mid y z
     → TakesLine (Ok (Some s)) len mid new (move mid.batch (line_of (take len mid.held))) → Passes (Ok (Some s)) first new x z
-passed_step len s first loop mid new x y z unrefused passed f (some, within, short, ahead) (is, e) =
+passed_step len s first loop mid new x y z unrefused passed f (some, within, short, ahead, fed) (is, e) =
     let m = passed_fed first loop mid x y z passed f in
     let l = take len mid.held in
     let n : new.line ≡ mid.lines + 1 = ap (λ (t : State). t.line) e in (
@@ -89,13 +108,15 @@ passed_step len s first loop mid new x y z unrefused passed f (some, within, sho
       line_more first mid new len (mid.lines + 1) None m.0 x y z m.1 ahead (heard first loop passed.0 x y passed.1) e,
       λ rs. ap (steps_behind first) (append_assoc m.0 (l ∷ []) rs) ∙ m.2 (l ∷ rs) ∙ line_steps len mid (asks s) rs unrefused within short is
           ∙ ap (λ (k : ℕ). step k s (steps_from (mid.taken + length l) (mid.lines + 1) None rs)) (sym n) ∙ ap (step new.line s) (sym (steps_after len (mid.lines + 1) None mid new rs unrefused within e)),
+      one_more len (mid.lines + 1) None m.0 first mid new m.3 fed e,
+      counts_on len (mid.lines + 1) None m.0 first mid new within m.4 e,
     )
 
 -- a fault of the source
-pub passed_fault : (e : ScriptFault) (first loop mid : State) (x y z : Option (List ℕ)) → Passed first loop x y → Feeds loop mid y z → has_feed mid.held ≡ false → Passes (Err e) first mid x z
-passed_fault (Refused n kind) first loop mid x y z passed f none = tt
-passed_fault NoMemory first loop mid x y z passed f none = tt
-passed_fault ReadFault first loop mid x y z passed f none = let m = passed_fed first loop mid x y z passed f in (m.0, m.1, m.2, none)
+pub passed_fault : (e : ScriptFault) (first loop mid : State) (x y z : Option (List ℕ)) → Passed first loop x y → Feeds loop mid y z → has_feed mid.held ≡ false → mid.ended ≡ false → mid.taken + length mid.held ≤ 16777216 → Passes (Err e) first mid x z
+passed_fault (Refused n kind) first loop mid x y z passed f none yet few = tt
+passed_fault NoMemory first loop mid x y z passed f none yet few = tt
+passed_fault ReadFault first loop mid x y z passed f none yet few = let m = passed_fed first loop mid x y z passed f in (m.0, m.1, m.2, m.3, m.4, yet, none, few)
 
 -- what is no step and no fault of the source tells nothing of lines
 pub end_passes : (r : Result (Option Step) ScriptFault) (s first new : State) (x z : Option (List ℕ)) → EndsScript r s new → Passes r first new x z

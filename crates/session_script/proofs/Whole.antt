@@ -1,8 +1,9 @@
 -- Whole lines of a text.
-use Rattle.std.proofs.Common.{◌≡◌, ℕ, ◌==◌, Bool, true, false, cond, List, [], ◌∷◌, ◌++◌, refl, ap, sym, subst, ◌∙◌}
+use Rattle.std.proofs.Common.{◌≡◌, ℕ, ◌+◌, ◌≤◌, ◌==◌, length, arith, Bool, true, false, cond, List, [], ◌∷◌, ◌++◌, ◌⊎◌, inl, inr, refl, ap, sym, subst, ◌∙◌, append-nil, append_assoc}
 use Rattle.std.specs.List.{concat}
+use Rattle.std.proofs.lemmas.List.{length-append}
 use Rattle.std.proofs.lemmas.List.Folds.{concat-append}
-use Rattle.session_script.specs.Pieces.{onto, lines_of}
+use Rattle.session_script.specs.Pieces.{onto, lines_of, IsFed, AreFed}
 use Rattle.session_script.specs.Cuts.{AreWholeLines}
 use Rattle.session_script.specs.States.{has_feed}
 
@@ -65,11 +66,33 @@ front_lines text [] ms e = none_are
 front_lines [] (l ∷ ls) ms e = absurd (let f : [] ≡ l ∷ (ls ++ ms) = sym none_are ∙ e in cc)
 front_lines (c ∷ cs) (l ∷ ls) ms e = front_more c cs l ls ms (λ ks ns h. front_lines cs ks ns h) e
 
+pub fed_append : (xs ys : List (List ℕ)) → AreFed xs → AreFed ys → AreFed (xs ++ ys)
+fed_append [] ys f g = g
+fed_append (x ∷ xs) ys f g = (f.0, fed_append xs ys f.1 g)
+
+-- lines with their line feeds are a text that has its last one
+fed_join : (ls : List (List ℕ)) → AreFed ls → (concat ls ≡ []) ⊎ IsFed (concat ls)
+fed_join [] f = inl refl
+fed_join (l ∷ ls) f = by_rest (fed_join ls f.1)
+  where
+    by_rest : (concat ls ≡ []) ⊎ IsFed (concat ls) → (l ++ concat ls ≡ []) ⊎ IsFed (l ++ concat ls)
+    by_rest (inl none) = inr (f.0.0, ap (λ (k : List ℕ). l ++ k) none ∙ append-nil l ∙ f.0.1)
+    by_rest (inr (front, e)) = inr (l ++ front, ap (λ (k : List ℕ). l ++ k) e ∙ sym (append_assoc l front (10 ∷ [])))
+
+-- one line more
+pub longer_by : (ls : List (List ℕ)) (l : List ℕ) → length (concat (ls ++ l ∷ [])) ≡ length (concat ls) + length l
+longer_by ls l = ap length (concat-append ls (l ∷ [])) ∙ length-append (concat ls) (l ++ []) ∙ ap (λ (k : List ℕ). length (concat ls) + length k) (append-nil l)
+
+pub longer_by_all : (ls ms : List (List ℕ)) → length (concat (ls ++ ms)) ≡ length (concat ls) + length (concat ms)
+longer_by_all ls ms = ap length (concat-append ls ms) ∙ length-append (concat ls) (concat ms)
+
 -- lines that were taken of a text, with bytes behind them that have no line feed
-pub whole_lines : (all left rest : List ℕ) (ls : List (List ℕ)) → lines_of all ≡ ls ++ lines_of (rest ++ left) → has_feed rest ≡ false → AreWholeLines all left (concat ls)
-whole_lines all left rest ls e none = record {
+pub whole_lines : (all left rest : List ℕ) (ls : List (List ℕ)) → lines_of all ≡ ls ++ lines_of (rest ++ left) → AreFed ls → has_feed rest ≡ false → length (concat ls) + length rest ≤ 16777216 → AreWholeLines all left (concat ls)
+whole_lines all left rest ls e fed none few = record {
   rest = rest;
   bytes = sym (lines_join all) ∙ ap concat e ∙ concat-append ls (lines_of (rest ++ left)) ∙ ap (λ (l : List ℕ). concat ls ++ l) (lines_join (rest ++ left));
   lines = e ∙ ap (λ (k : List (List ℕ)). k ++ lines_of (rest ++ left)) (sym (front_lines all ls (lines_of (rest ++ left)) e));
+  fed = fed_join ls fed;
   no_feed = none;
+  few = omega (arith, few, length-append (concat ls) rest);
 }

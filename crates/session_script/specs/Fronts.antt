@@ -6,7 +6,7 @@ use Rattle.session_script.specs.declared.faults.ScriptFault.TheVariants.{Refused
 use Rattle.session_script.specs.declared.front.Front.{Front}
 use Rattle.session_script.specs.declared.front.Front.TheVariants.{Line, TooLong, End}
 use Rattle.session_script.specs.Told.{BothTold}
-use Rattle.session_script.specs.Pieces.{lines_of}
+use Rattle.session_script.specs.Pieces.{lines_of, IsFed}
 
 -- some bytes more, that the source told; or none, at its end or at a fault
 abbrev pub ReadsMore : Result Bool ScriptFault → List ℕ → List ℕ → Option (List ℕ) → Option (List ℕ) → Type 0
@@ -14,12 +14,14 @@ ReadsMore (Ok true) old new before after = (piece : List ℕ) × (0 < length pie
 ReadsMore (Ok false) old new before after = (new ≡ old) × IsAtEnd before × Keeps before after
 ReadsMore (Err e) old new before after = (new ≡ old) × Keeps before after
 
--- what stands in front of the bytes behind the start, where the source told these bytes before and after
-abbrev pub IsFront : Front → ℕ → List ℕ → Option (List ℕ) → Option (List ℕ) → Type 0
-IsFront (Line len) start bytes before after = (0 < len) × (start + len ≤ length bytes) × (start + len ≤ 16777216)
+-- What stands in front of the bytes behind the start, where the source told these bytes before and after. A line may lack its line
+-- feed only where the source told its end.
+abbrev pub IsFront : Front → ℕ → List ℕ → Bool → Option (List ℕ) → Option (List ℕ) → Type 0
+IsFront (Line len) start bytes ended before after = (0 < len) × (start + len ≤ length bytes) × (start + len ≤ 16777216)
     × BothTold before after (λ _ more. lines_of (drop start bytes ++ more) ≡ take len (drop start bytes) ∷ lines_of (drop (start + len) bytes ++ more))
-IsFront TooLong start bytes before after = BothTold before after (λ _ more. (l : List ℕ) × (ls : List (List ℕ)) × (lines_of (drop start bytes ++ more) ≡ l ∷ ls) × (16777216 < start + length l))
-IsFront End start bytes before after = (drop start bytes ≡ []) × BothTold before after (λ _ more. more ≡ [])
+    × (ended ≡ false → IsFed (take len (drop start bytes)))
+IsFront TooLong start bytes ended before after = BothTold before after (λ _ more. (l : List ℕ) × (ls : List (List ℕ)) × (lines_of (drop start bytes ++ more) ≡ l ∷ ls) × (16777216 < start + length l))
+IsFront End start bytes ended before after = (drop start bytes ≡ []) × BothTold before after (λ _ more. more ≡ []) × (ended ≡ true)
 
 -- some bytes more, or none, that the source told
 abbrev pub Grows : List ℕ → List ℕ → Option (List ℕ) → Option (List ℕ) → Type 0

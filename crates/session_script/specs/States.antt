@@ -1,9 +1,9 @@
 -- What is known of a script that is being read, and what its calls do.
-use Rattle.std.specs.Prelude.{◌≡◌, ℕ, ◌+◌, ◌-◌, ◌<◌, ◌≤◌, ◌==◌, Bool, false, List, [], ◌∷◌, ◌++◌, length, take, drop, Option, Some, None, Result, Ok, Err}
+use Rattle.std.specs.Prelude.{◌≡◌, ℕ, ◌+◌, ◌-◌, ◌<◌, ◌≤◌, ◌==◌, Bool, true, false, List, [], ◌∷◌, ◌++◌, length, take, drop, Option, Some, None, Result, Ok, Err}
 use Rattle.std.specs.Io.KnownBytes.{Consumes}
 use Rattle.session_script.specs.declared.front.Front.{Front}
 use Rattle.session_script.specs.declared.front.Front.TheVariants.{Line, TooLong, End}
-use Rattle.std.specs.List.{list_any}
+use Rattle.std.specs.List.{concat, list_any}
 use Rattle.layer_edit.specs.declared.op.Op.{Op}
 use Rattle.session_script.specs.declared.steps.Step.{Step}
 use Rattle.session_script.specs.declared.faults.ScriptKind.{ScriptKind}
@@ -11,14 +11,15 @@ use Rattle.session_script.specs.declared.faults.ScriptKind.TheVariants.{BadLine,
 use Rattle.session_script.specs.declared.faults.ScriptFault.{ScriptFault}
 use Rattle.session_script.specs.declared.faults.ScriptFault.TheVariants.{Refused, ReadFault, NoMemory}
 use Rattle.session_script.specs.Told.{BothTold}
-use Rattle.session_script.specs.Pieces.{lines_of}
+use Rattle.session_script.specs.Pieces.{lines_of, IsFed, AreFed}
 use Rattle.session_script.specs.Reading.{Steps, ended, refused, step, Move, goes_on, asks, refuses, steps_from}
 
--- A script of which a part was read: as many bytes and lines as were taken, the bytes behind them that are held, the operations
--- of the batch that is open, the line that ended the last step, and the line that was refused.
+-- A script of which a part was read: as many bytes and lines as were taken, the bytes behind them that are held, whether the source
+-- told its end, the operations of the batch that is open, the line that ended the last step, and the line that was refused.
 pub record State : Type 0 where
   pub taken : ℕ
   pub held : List ℕ
+  pub ended : Bool
   pub lines : ℕ
   pub batch : Option (List Op)
   pub line : ℕ
@@ -56,16 +57,17 @@ pub record IsKept (start scanned lines : ℕ) (bytes : List ℕ) : Type 0 where
   pub short : start ≤ 16777216
   pub few : lines ≤ start
 
--- some bytes more are held, that the source told, and nothing else changed
+-- some bytes more are held, that the source told, or it told its end, and nothing else changed
 abbrev pub Feeds : State → State → Option (List ℕ) → Option (List ℕ) → Type 0
-Feeds old new before after = (piece : List ℕ) × (new ≡ record old { held = old.held ++ piece }) × Consumes before after piece
+Feeds old new before after = (piece : List ℕ) × (new ≡ record old { held = old.held ++ piece; ended = new.ended }) × Consumes before after piece × (new.ended ≡ false → old.ended ≡ false)
 
 -- what stands in front of what is held, where the source told these bytes before and after
 abbrev pub FrontIs : Front → State → Option (List ℕ) → Option (List ℕ) → Type 0
 FrontIs (Line len) s before after = (0 < len) × (len ≤ length s.held) × (s.taken + len ≤ 16777216)
     × BothTold before after (λ _ more. lines_of (s.held ++ more) ≡ take len s.held ∷ lines_of (drop len s.held ++ more))
+    × (s.ended ≡ false → IsFed (take len s.held))
 FrontIs TooLong s before after = BothTold before after (λ _ more. (l : List ℕ) × (ls : List (List ℕ)) × (lines_of (s.held ++ more) ≡ l ∷ ls) × (16777216 < s.taken + length l))
-FrontIs End s before after = (s.held ≡ []) × BothTold before after (λ _ more. more ≡ [])
+FrontIs End s before after = (s.held ≡ []) × BothTold before after (λ _ more. more ≡ []) × (s.ended ≡ true)
 
 -- the line behind those that were taken is refused
 abbrev pub stopped_at : State → ScriptKind → State
@@ -73,7 +75,7 @@ stopped_at s kind = record s { stopped = Some (s.lines + 1, kind) }
 
 -- one line of so many bytes is taken
 abbrev pub behind_line : State → ℕ → Option (List Op) → ℕ → State
-behind_line s len batch line = record { taken = s.taken + len; held = drop len s.held; lines = s.lines + 1; batch = batch; line = line; stopped = s.stopped }
+behind_line s len batch line = record { taken = s.taken + len; held = drop len s.held; ended = s.ended; lines = s.lines + 1; batch = batch; line = line; stopped = s.stopped }
 
 -- what taking a line of so many bytes does, by the move that it is
 abbrev pub TakesLine : Result (Option Step) ScriptFault → ℕ → State → State → Move → Type 0
@@ -95,12 +97,19 @@ EndsScript (Err NoMemory) old new = ⊥
 abbrev pub AreTaken : List (List ℕ) → State → State → Option (List ℕ) → Option (List ℕ) → Type 0
 AreTaken ls old new before after = BothTold before after (λ a b. lines_of (old.held ++ a) ≡ ls ++ lines_of (new.held ++ b))
 
--- The lines that a call took: whatever lines follow them, these are their steps. At a fault of the source all whole lines were taken.
+-- Where the source has not told its end, each line that was taken has its line feed.
+abbrev pub AreWhole : List (List ℕ) → State → State → Type 0
+AreWhole ls old new = new.ended ≡ false → (old.ended ≡ false) × AreFed ls
+
+-- The lines that a call took: whatever lines follow them, these are their steps. At a fault of the source, which has not told its end,
+-- all whole lines were taken.
 abbrev pub Passes : Result (Option Step) ScriptFault → State → State → Option (List ℕ) → Option (List ℕ) → Type 0
-Passes (Ok (Some s)) old new before after = (ls : List (List ℕ)) × AreTaken ls old new before after × ((rs : List (List ℕ)) → steps_behind old (ls ++ rs) ≡ step new.line s (steps_behind new rs))
+Passes (Ok (Some s)) old new before after = (ls : List (List ℕ)) × AreTaken ls old new before after × ((rs : List (List ℕ)) → steps_behind old (ls ++ rs) ≡ step new.line s (steps_behind new rs)) × AreWhole ls old new
+    × (new.taken ≡ old.taken + length (concat ls))
 Passes (Ok None) old new before after = Unit {0}
 Passes (Err (Refused n kind)) old new before after = Unit {0}
-Passes (Err ReadFault) old new before after = (ls : List (List ℕ)) × AreTaken ls old new before after × ((rs : List (List ℕ)) → steps_behind old (ls ++ rs) ≡ steps_behind new rs) × (has_feed new.held ≡ false)
+Passes (Err ReadFault) old new before after = (ls : List (List ℕ)) × AreTaken ls old new before after × ((rs : List (List ℕ)) → steps_behind old (ls ++ rs) ≡ steps_behind new rs) × AreWhole ls old new
+    × (new.taken ≡ old.taken + length (concat ls)) × (new.ended ≡ false) × (has_feed new.held ≡ false) × (new.taken + length new.held ≤ 16777216)
 Passes (Err NoMemory) old new before after = Unit {0}
 
 -- how the counts of a script go on: only a step has a line, and each takes bytes

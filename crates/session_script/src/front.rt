@@ -1,10 +1,11 @@
 //! The line in front of a script, read from its source.
 
-ghost use Rattle.std.specs.Prelude.{◌≡◌, ◌+◌, ◌-◌, ◌<◌, ◌≤◌, ◌++◌, List, ℕ, length, drop, take, false, true, Ok, Err, IfOk, IfErr, OnErr, IfSome, IfNone, slice_index, if◌then◌else◌, nat_lt};
+ghost use Rattle.std.specs.Prelude.{◌≡◌, ◌+◌, ◌-◌, ◌<◌, ◌≤◌, ◌++◌, List, ℕ, length, drop, take, false, true, Ok, Err, IfOk, IfErr, OnErr, IfSome, IfNone, slice_index, if◌then◌else◌, nat_lt, ◌==◌};
 ghost use Rattle.std.specs.Io.KnownBytes.{Consumes, IsAtEnd, Keeps};
 ghost use Rattle.io_edges.specs.Causes.{Rose};
 ghost use Rattle.session_script.specs.States.{has_feed, IsScanned};
 ghost use Rattle.session_script.specs.Fronts.{ReadsMore, IsFront, Grows, IsReadError};
+ghost use Rattle.session_script.specs.Told.{coming, Heeds};
 
 use crate::faults::ScriptFault;
 use io_edges::{Got, Source};
@@ -71,24 +72,41 @@ fn line_to(start: usize, end: usize) -> Front
     }
 }
 
+// What is in front where so many bytes are held without a line feed, and the source is at its end.
+fn last_front(len: usize) -> Front
+    ensures { result ≡ (if len == 0 then Front.End else Front.Line len) }
+{
+    if len == 0 {
+        Front::End
+    } else {
+        Front::Line(len)
+    }
+}
+
 /// The line in front of the bytes behind the start, of which those up to `scanned` have no line feed. It reads from the
-/// source only where these bytes have no whole line. A fault leaves what was read before it.
+/// source only where these bytes have no whole line, and not again once the source told its end, which `ended` remembers.
+/// A fault leaves what was read before it.
 pub fn read_front<S: Source>(
     bytes: &mut Vec<u8>,
     start: usize,
     scanned: &mut usize,
+    ended: &mut bool,
     source: &mut S,
 ) -> Result<Front, ScriptFault>
     requires scan { IsScanned start scanned.old bytes.old.items }
     requires short { start ≤ 16777216 }
     ensures scan { IsScanned start scanned.new bytes.new.items }
-    ensures more { Grows bytes.old.items bytes.new.items (S.left source.old) (S.left source.new) }
-    ensures front { IfOk result (λ f. IsFront f start bytes.new.items (S.left source.old) (S.left source.new)) }
+    ensures more { Grows bytes.old.items bytes.new.items (coming ended.old (S.left source.old)) (coming ended.new (S.left source.new)) }
+    ensures front { IfOk result (λ f. IsFront f start bytes.new.items ended.new (coming ended.old (S.left source.old)) (coming ended.new (S.left source.new))) }
+    ensures heeds { Heeds ended.old ended.new (S.left source.old) (S.left source.new) }
+    ensures quiet { ended.old ≡ true → source.new ≡ source.old }
     ensures later { S.faults source.old ≤ S.faults source.new }
     ensures cause { result ≡ Err ScriptFault.ReadFault → Rose (S.faults source.old) (S.faults source.new) }
     ensures faults { IsReadError result }
-    // At a fault no whole line is left of what was read.
-    ensures none { IfErr result (λ _. has_feed (drop start bytes.new.items) ≡ false) }
+    // The source is read only where no whole line is held.
+    ensures held { has_feed (drop start bytes.old.items) ≡ true → source.new ≡ source.old }
+    // At a fault no whole line is left of what was read, the source has not told its end, and a script may have more bytes.
+    ensures none { IfErr result (λ _. (has_feed (drop start bytes.new.items) ≡ false) × (ended.new ≡ false) × (length bytes.new.items ≤ 16777216)) }
 {
     loop {
         if let Some(at) = find_feed(bytes, *scanned) {
@@ -98,13 +116,12 @@ pub fn read_front<S: Source>(
         if bytes.len() > MOST_BYTES {
             return Ok(Front::TooLong);
         }
+        if *ended {
+            return Ok(last_front(bytes.len() - start));
+        }
         if !read_more(bytes, source)? {
-            let len = bytes.len() - start;
-            return Ok(if len == 0 {
-                Front::End
-            } else {
-                Front::Line(len)
-            });
+            *ended = true;
+            return Ok(last_front(bytes.len() - start));
         }
     }
 }

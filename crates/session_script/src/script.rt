@@ -15,13 +15,14 @@ use script_lines::read_line;
 use std::alloc::Global;
 use std::marker::Model;
 
-/// A script that is read from a source, line by line. It keeps the bytes that it has read.
+/// A script that is read from a source, line by line. It keeps the bytes that it has read, and that the source told its end.
 #[derive(Drop)]
 pub struct Script {
     alloc: Global,
     bytes: Vec<u8>,
     start: usize,
     scanned: usize,
+    ended: bool,
     lines: u64,
     batch: Option<Items<Op>>,
     line: u64,
@@ -38,7 +39,7 @@ impl Model for Script {
 
     ghost coded = { Prim.hlevel (codes, of_op.the_row.coded) };
 
-    ghost view = { λ s. record { taken = s.start; held = drop s.start s.bytes.items; lines = s.lines; batch = s.batch; line = s.line; stopped = s.stopped } };
+    ghost view = { λ s. record { taken = s.start; held = drop s.start s.bytes.items; ended = s.ended; lines = s.lines; batch = s.batch; line = s.line; stopped = s.stopped } };
 
     ghost invariant = { λ s. IsKept s.start s.scanned s.lines s.bytes.items };
 }
@@ -52,20 +53,21 @@ fn part_of(bytes: &[u8], start: usize, len: usize) -> &[u8]
 }
 
 impl Script {
-    ghost use Rattle.session_script.specs.Told.{BothTold};
+    ghost use Rattle.session_script.specs.Told.{BothTold, coming, Heeds};
     ghost use Rattle.session_script.specs.States.{AnswersNext, Counts, EndsScript, Feeds, FrontIs, Passes, TakesLine, has_feed, stopped_at, steps_left};
     ghost use Rattle.session_script.specs.Reading.{move};
     ghost use Rattle.script_lines.specs.Lines.{line_of};
 
     /// A script of which nothing was read.
     pub fn new(alloc: Global) -> Script
-        ensures { result ≡ record { taken = 0; held = []; lines = 0; batch = None; line = 0; stopped = None } }
+        ensures { result ≡ record { taken = 0; held = []; ended = false; lines = 0; batch = None; line = 0; stopped = None } }
     {
         Script {
             alloc,
             bytes: Vec::new(alloc),
             start: 0,
             scanned: 0,
+            ended: false,
             lines: 0,
             batch: None,
             line: 0,
@@ -82,15 +84,24 @@ impl Script {
 
     // The line in front, read from the source where none is held.
     fn next_front<S: Source>(&mut self, source: &mut S) -> Result<Front, ScriptFault>
-        ensures feeds { Feeds self.old self.new (S.left source.old) (S.left source.new) }
-        ensures front { IfOk result (λ f. FrontIs f self.new (S.left source.old) (S.left source.new)) }
+        ensures feeds { Feeds self.old self.new (coming self.old.ended (S.left source.old)) (coming self.new.ended (S.left source.new)) }
+        ensures front { IfOk result (λ f. FrontIs f self.new (coming self.old.ended (S.left source.old)) (coming self.new.ended (S.left source.new))) }
+        ensures heeds { Heeds self.old.ended self.new.ended (S.left source.old) (S.left source.new) }
+        ensures quiet { self.old.ended ≡ true → source.new ≡ source.old }
         ensures short { self.new.taken ≤ 16777216 }
         ensures later { S.faults source.old ≤ S.faults source.new }
         ensures cause { result ≡ Err ScriptFault.ReadFault → Rose (S.faults source.old) (S.faults source.new) }
         ensures faults { IsReadError result }
-        ensures none { IfErr result (λ _. has_feed self.new.held ≡ false) }
+        ensures held { has_feed self.old.held ≡ true → source.new ≡ source.old }
+        ensures none { IfErr result (λ _. (has_feed self.new.held ≡ false) × (self.new.ended ≡ false) × (self.new.taken + length self.new.held ≤ 16777216)) }
     {
-        read_front(&mut self.bytes, self.start, &mut self.scanned, source)
+        read_front(
+            &mut self.bytes,
+            self.start,
+            &mut self.scanned,
+            &mut self.ended,
+            source,
+        )
     }
 
     // Refuses the line behind those that were taken.
@@ -142,14 +153,18 @@ impl Script {
         }
     }
 
-    /// The next step; nothing at the end of the script. It reads from the source only where no whole line is held.
+    /// The next step; nothing at the end of the script. It reads from the source only where no whole line is held, and not
+    /// again once the source told its end.
     /// After a refusal every call answers it again. After a fault or want of memory the next call goes on from there.
     pub fn next<S: Source>(&mut self, source: &mut S) -> Result<Option<Step>, ScriptFault>
         // The answer is the first of the steps that were left, and the others are left after it: however the source cuts the bytes, they are the steps of all its bytes.
-        ensures answer { BothTold (S.left source.old) (S.left source.new) (λ a b. AnswersNext result self.new.line (steps_left self.old a) (steps_left self.new b)) }
+        ensures answer { BothTold (coming self.old.ended (S.left source.old)) (coming self.new.ended (S.left source.new)) (λ a b. AnswersNext result self.new.line (steps_left self.old a) (steps_left self.new b)) }
         // The lines that it took for a step, or up to a fault of the source, whatever follows them.
-        ensures lines { Passes result self.old self.new (S.left source.old) (S.left source.new) }
-        ensures end { result ≡ Ok None → BothTold (S.left source.old) (S.left source.new) (λ _ b. b ≡ []) }
+        ensures lines { Passes result self.old self.new (coming self.old.ended (S.left source.old)) (coming self.new.ended (S.left source.new)) }
+        // A script ends only where its source told its end. Then nothing is left of the source, and it is not read again.
+        ensures end { result ≡ Ok None → self.new.ended ≡ true }
+        ensures heeds { Heeds self.old.ended self.new.ended (S.left source.old) (S.left source.new) }
+        ensures quiet { self.old.ended ≡ true → source.new ≡ source.old }
         ensures counts { Counts result self.old self.new }
         ensures again { IsSome self.old.stopped → (self.new ≡ self.old) × (source.new ≡ source.old) }
         ensures later { S.faults source.old ≤ S.faults source.new }

@@ -154,6 +154,7 @@ impl Session {
         ensures after { IfOk result (λ _. self.new ≡ after_publish self.old) }
         ensures few { IfOk result (λ _. length (next_stage self.old) ≤ most_paths) }
         ensures full { result ≡ Err StageRefused.Full → most_paths < length (next_stage self.old) }
+        ensures unpublished { result ≡ Err StageRefused.Full → self.new ≡ self.old }
     {
         let published = publish_core(&mut self.core)?;
         let (shown, reply) = show(self.alloc, published)?;

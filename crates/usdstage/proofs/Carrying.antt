@@ -9,7 +9,7 @@ use Rattle.layer_set.specs.declared.held.Held.{Held}
 use Rattle.session_script.specs.Reading.{Steps, steps_of, ended, step}
 use Rattle.session_script.specs.Reading as reading
 use Rattle.session_script.specs.States.{State, steps_left, AnswersNext}
-use Rattle.session_script.specs.Told.{BothTold}
+use Rattle.session_script.specs.Told.{BothTold, coming}
 use Rattle.session_script.specs.declared.faults.ScriptFault.{ScriptFault}
 use Rattle.session_script.specs.declared.faults.ScriptFault.TheVariants.{Refused as LineRefused, ReadFault as ScriptReadFault, NoMemory as ScriptNoMemory}
 use Rattle.session_script.specs.declared.faults.ScriptKind.{ScriptKind}
@@ -111,7 +111,7 @@ module _ (held : Text → Held) (size : Text → ℕ) where
   abbrev pub Stands : Session → Session → ℕ → ℕ → State → Option (List ℕ) → Option (List ℕ) → Option (List ℕ) → Option (List ℕ) → Type 0
   Stands start now b0 b steps before after x y = BothTold before after (λ all rest. Reached start now b0 b (steps_of all) (steps_left steps rest) x y)
 
-  pub starts : (session : Session) (b : ℕ) (fresh : State) (left out : Option (List ℕ)) → fresh ≡ record { taken = 0; held = []; lines = 0; batch = None; line = 0; stopped = None } → Stands session session b b fresh left left out out
+  pub starts : (session : Session) (b : ℕ) (fresh : State) (left out : Option (List ℕ)) → fresh ≡ record { taken = 0; held = []; ended = false; lines = 0; batch = None; line = 0; stopped = None } → Stands session session b b fresh left (coming fresh.ended left) out out
   starts session b fresh None out e = tt
   starts session b fresh (Some all) out e = rw e (record { written = []; appends = appends_none out; same = refl })
 

@@ -89,18 +89,6 @@ module _ (held : Text → Held) (size : Text → ℕ) (s : Session) (bytes : ℕ
 
 -- ---- what a source told
 
-pub heard_on : (x y z : Option (List ℕ)) (P : List ℕ → List ℕ → Type 0) → BothTold x y (λ _ _. Unit {0}) → BothTold y z P → BothTold x z (λ _ _. Unit {0})
-heard_on None y z P p q = tt
-heard_on (Some a) None z P p q = absurd p
-heard_on (Some a) (Some b) None P p q = absurd q
-heard_on (Some a) (Some b) (Some c) P p q = tt
-
-pub heard_end : (x y z : Option (List ℕ)) → BothTold x y (λ _ _. Unit {0}) → BothTold y z (λ _ b. b ≡ []) → BothTold x z (λ _ b. b ≡ [])
-heard_end None y z p q = tt
-heard_end (Some a) None z p q = absurd p
-heard_end (Some a) (Some b) None p q = absurd q
-heard_end (Some a) (Some b) (Some c) p q = q
-
 pub heard_here : (x : Option (List ℕ)) → BothTold x x (λ _ _. Unit {0})
 heard_here None = tt
 heard_here (Some a) = tt

@@ -69,6 +69,18 @@ whole c (ScriptRefused line kind) written text due = (text, due)
 whole c StageFull written text due = (text, due)
 whole c WorldTooLarge written text due = (text, due)
 
+-- all of it was written, unless the run was cut off
+pub all_written : (c : Course) (status : Status) (written : List ℕ) → (status ≡ ReadFault → ⊥) → (status ≡ WriteFault → ⊥) → (status ≡ NoMemory → ⊥) → Ends c status written → c.text ≡ written
+all_written c ReadFault written r w m e = absurd (r refl)
+all_written c WriteFault written r w m e = absurd (w refl)
+all_written c NoMemory written r w m e = absurd (m refl)
+all_written c Done written r w m e = e.0
+all_written c Usage written r w m e = e.0
+all_written c (RootRefused name refusal) written r w m e = e.0
+all_written c (ScriptRefused line kind) written r w m e = e.0
+all_written c StageFull written r w m e = e.0
+all_written c WorldTooLarge written r w m e = e.0
+
 -- nothing was written, as is due
 pub ends_with_nothing : (c : Course) (status : Status) (out : Option (List ℕ)) → c ≡ nothing status → EndsWith c status out out
 ends_with_nothing c status out e = ([], whole c status [] (ap (λ (d : Course). d.text) e) (ap (λ (d : Course). d.due) e), appends_none out)

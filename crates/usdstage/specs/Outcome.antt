@@ -49,7 +49,8 @@ GoesOn StageFull = ⊥
 GoesOn WorldTooLarge = ⊥
 GoesOn NoMemory = ⊥
 
--- What was written are the replies of a course to all whole lines that were read of a script, of which so much is left; none of them ends the run.
+-- What was written are the replies of a course to all whole lines that were read of a script, of which so much is left; none of them ends the
+-- run, and each has its line feed.
 abbrev pub RepliesToLines : (List ℕ → Course) → List ℕ → List ℕ → Option (List ℕ) → Option (List ℕ) → Type 0
 RepliesToLines c all left before after = (whole : List ℕ) × AreWholeLines all left whole × Appends before after (c whole).text × GoesOn (c whole).due
 

@@ -116,9 +116,11 @@ fn session(
 #[test]
 fn faults_end_a_session_where_they_come(rt: HostRuntime) -> Result<(), Fail> {
     let twice = "publish\npublish\n";
+    let bare = "publish\npublish";
     let open = "publish\nopen @n.usda@\npublish\n";
     // the script, the fetch that fails, the bytes of a read and the read that fails, the write that fails, what was
-    // written, and the line; a read of 8 bytes has one line, and nothing is read where a whole line is held
+    // written, and the line; a read of 8 bytes has one line, nothing is read where a whole line is held, and a source
+    // that told its end is not read again, so no third read of `bare` fails
     let table = [
         (twice, 1, (8, 9), 9, "", READING),
         (twice, 9, (8, 1), 9, OPENING, READING),
@@ -127,6 +129,9 @@ fn faults_end_a_session_where_they_come(rt: HostRuntime) -> Result<(), Fail> {
         (twice, 9, (7, 2), 9, OPENING, READING),
         (twice, 9, (15, 2), 9, ONE, READING),
         (twice, 9, (1000, 2), 9, TWO, READING),
+        (bare, 9, (8, 2), 9, ONE, READING),
+        (bare, 9, (1000, 2), 9, ONE, READING),
+        (bare, 9, (1000, 3), 9, TWO, ""),
         (twice, 9, (8, 9), 1, "", WRITING),
         (twice, 9, (8, 9), 2, OPENING, WRITING),
         (twice, 9, (8, 9), 3, ONE, WRITING),

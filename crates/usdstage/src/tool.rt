@@ -259,6 +259,7 @@ fn run_command<F: LayerFiles, S: Source, K: Sink>(
     out: &mut K,
 ) -> Status
     ensures outcome { ByFiles (F.files files.old) (λ held size. (s : List ℕ) → IsScript (Some command) (S.left script.old) s → EndsWith (course held size (Some command) s) result (K.taken out.old) (K.taken out.new)) }
+    ensures unread { command.verb ≡ verbs.Flatten → script.new ≡ script.old }
     ensures end { command.verb ≡ verbs.Session → result ≡ Status.Done → BothTold (S.left script.old) (S.left script.new) (λ _ left. left ≡ []) }
     ensures read_fault { result ≡ Status.ReadFault → Rose (F.faults files.old) (F.faults files.new) ⊎ Rose (S.faults script.old) (S.faults script.new) }
     ensures script_fault { result ≡ Status.ReadFault → (Rose (F.faults files.old) (F.faults files.new) → ⊥) → ByFiles (F.files files.old) (λ held size. BothTold (S.left script.old) (S.left script.new)
@@ -297,9 +298,13 @@ pub fn run_tool<R, F: LayerFiles, S: Source, K: Sink, G: Gate + Sync>(
     // What is answered and written is the course of the run; at a fault or want of memory the front of what it writes was written.
     ensures outcome { ByFiles (F.files files.old) (λ held size. (s : List ℕ) → IsScript (command_of (map string_bytes words.now)) (S.left script.old) s
         → EndsWith (course held size (command_of (map string_bytes words.now)) s) result (K.taken out.old) (K.taken out.new)) }
+    // `Usage` is answered where the words are no command, and only there.
     ensures usage { result ≡ Status.Usage → command_of (map string_bytes words.now) ≡ None }
+    ensures no_command { command_of (map string_bytes words.now) ≡ None → (result ≡ Status.Usage) ⊎ (result ≡ Status.NoMemory) }
     // Words that are no command touch neither the files nor the script nor the sink.
     ensures untouched { command_of (map string_bytes words.now) ≡ None → (files.new ≡ files.old) × (script.new ≡ script.old) × (out.new ≡ out.old) }
+    // `flatten` reads no script.
+    ensures unread { IfSome (command_of (map string_bytes words.now)) (λ c. c.verb ≡ verbs.Flatten → script.new ≡ script.old) }
     // A session that is done has read its script to the end.
     ensures end { IfSome (command_of (map string_bytes words.now)) (λ c. c.verb ≡ verbs.Session → result ≡ Status.Done
         → BothTold (S.left script.old) (S.left script.new) (λ _ left. left ≡ [])) }
@@ -333,7 +338,8 @@ pub fn run_in_memory<R>(
     ensures no_write_fault { result ≢ Status.WriteFault }
     ensures ends { (held : _) → AreRead (file_named files.old) held
         → EndsAsDue (course held (taken_at (file_named files.old)) (command_of (map string_bytes words.now)) script.old.left) result }
-    ensures written { (held : _) → AreRead (file_named files.old) held → result ≡ Status.Done
+    // Unless memory ran out, all of the course was written, also where the run ends early.
+    ensures written { (held : _) → AreRead (file_named files.old) held → result ≢ Status.NoMemory
         → out.new.taken ≡ out.old.taken ++ (course held (taken_at (file_named files.old)) (command_of (map string_bytes words.now)) script.old.left).text }
 {
     run_tool(rt, alloc, words, files, script, out, &FreeGate)

@@ -1,6 +1,7 @@
-use Rattle.std.proofs.Common.{map, sym, ◌∙◌, ap, ◌++◌}
+use Rattle.std.proofs.Common.{map, sym, ◌∙◌, ap, ◌++◌, inl, inr}
 use Rattle.std.specs.Prelude.{string_bytes}
 use Rattle.usdstage.specs.Command.{command_of}
+use Rattle.usdstage.proofs.Outcomes.{all_written}
 use Rattle.usdstage.proofs.Runs.{is_script, never_rose}
 use Rattle.usdstage.proofs.tool.run_in_memory.Goals as goal
 
@@ -9,7 +10,7 @@ returns-clause-ends g c = λ held read.
     c.run_tool.ensures.complete held read c.args.script.now.left (is_script (command_of (map string_bytes c.args.words.now)) c.args.script.now.left) never_rose never_rose never_rose
 
 pub returns-clause-written : goal.returns-clause-written
-returns-clause-written g c = λ held read done.
+returns-clause-written g c = λ held read enough.
     let o = c.run_tool.ensures.outcome held read c.args.script.now.left (is_script (command_of (map string_bytes c.args.words.now)) c.args.script.now.left) in
-    let ends = rw done at o.1 in
-    o.2 ∙ ap (λ t. c.args.out.now.taken ++ t) (sym ends.0)
+    let text = all_written _ _ o.0 (λ e. elim (c.run_tool.ensures.read_fault e) [ inl files ↦ never_rose files | inr script ↦ never_rose script ]) (λ e. never_rose (c.run_tool.ensures.write_fault e)) enough o.1 in
+    o.2 ∙ ap (λ t. c.args.out.now.taken ++ t) (sym text)

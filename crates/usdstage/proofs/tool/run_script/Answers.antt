@@ -1,29 +1,32 @@
-use Rattle.std.proofs.Common.{◌∙◌, refl, ap, arith, Ok, Err, None}
+use Rattle.std.proofs.Common.{◌∙◌, refl, ap, arith, false, Ok, Err, None}
 use Rattle.session_script.specs.declared.faults.ScriptFault.TheVariants as faults
 use Rattle.usdstage.specs.declared.status.Status.TheVariants as status
 use Rattle.usdstage.specs.Course.{turn}
 use Rattle.usdstage.specs.Outcome.{Carries}
 use Rattle.usdstage.proofs.Carrying.{gives_none, goes_on, starts, stops}
 use Rattle.usdstage.proofs.Follows.{follows_none, follows_on, fault_writes}
-use Rattle.usdstage.proofs.Files.{by_files, then_files, both_files, same_files, heard_here, heard_on, heard_end}
+use Rattle.session_script.specs.Told.{coming}
+use Rattle.session_script.proofs.Feeds.{heeds_then}
+use Rattle.usdstage.proofs.Files.{by_files, then_files, both_files, same_files, heard_here}
 use Rattle.usdstage.proofs.tool.run_script.Goals as goal
 
 pub returns-in-Ok-None-clause-outcome : goal.returns-in-Ok-None-clause-outcome
 returns-in-Ok-None-clause-outcome g c =
     let n = rw c.in-Ok-None.field-0-is at c.in-Ok-None.ensures.answer in
     then_files (g.F.LayerFiles.files c.args.files.now) _ _ c.loop-steps.invariant.told
-    (λ held size have. gives_none held size c.args.session c.loop-steps.session c.args.bytes c.loop-steps.bytes c.loop-steps.steps c.next.new.self (Ok None) status.Done (g.S.Source.left c.args.script.now) (g.S.Source.left c.loop-steps.script) (g.S.Source.left c.next.new.source) (g.K.Sink.taken c.args.out.now) (g.K.Sink.taken c.loop-steps.out) refl have n)
+    (λ held size have. gives_none held size c.args.session c.loop-steps.session c.args.bytes c.loop-steps.bytes c.loop-steps.steps c.next.new.self (Ok None) status.Done (g.S.Source.left c.args.script.now) (coming c.loop-steps.steps.ended (g.S.Source.left c.loop-steps.script)) (coming c.next.new.self.ended (g.S.Source.left c.next.new.source)) (g.K.Sink.taken c.args.out.now) (g.K.Sink.taken c.loop-steps.out) refl have n)
 
 pub returns-in-Ok-None-clause-end : goal.returns-in-Ok-None-clause-end
 returns-in-Ok-None-clause-end g c =
     let n = rw c.in-Ok-None.field-0-is at c.in-Ok-None.ensures.end in
-    λ e. heard_end (g.S.Source.left c.args.script.now) (g.S.Source.left c.loop-steps.script) (g.S.Source.left c.next.new.source) c.loop-steps.invariant.heard (n refl)
+    let h = heeds_then false c.loop-steps.steps.ended c.next.new.self.ended (g.S.Source.left c.args.script.now) (g.S.Source.left c.loop-steps.script) (g.S.Source.left c.next.new.source) c.loop-steps.invariant.heeds c.in-Ok-None.ensures.heeds in
+    λ e. rw (n refl) at h
 
 pub loop-steps-init : goal.loop-steps-init
 loop-steps-init g c = record {
   follows = by_files (g.F.LayerFiles.files c.args.files.now) _ (λ held size. follows_none held size c.args.session c.args.bytes _ (g.S.Source.left c.args.script.now) (g.K.Sink.taken c.args.out.now) c.new-steps.ensures);
   told = by_files (g.F.LayerFiles.files c.args.files.now) _ (λ held size. starts held size c.args.session c.args.bytes _ (g.S.Source.left c.args.script.now) (g.K.Sink.taken c.args.out.now) c.new-steps.ensures);
-  heard = heard_here (g.S.Source.left c.args.script.now);
+  heeds = rw c.new-steps.ensures (heard_here (g.S.Source.left c.args.script.now));
   same = refl;
   files_later = omega arith;
   read_later = omega arith;
@@ -37,10 +40,10 @@ loop-steps-preserved g c =
     let l = rw c.in-Ok-Some.field-0-is at c.in-Ok-Some.ensures.lines in
     record {
       follows = both_files (g.F.LayerFiles.files c.args.files.now) _ _ _ i.follows (same_files (g.F.LayerFiles.files c.args.files.now) (g.F.LayerFiles.files c.loop-steps.files) (λ held size. Carries (Ok c.in-Ok.total) c.carry_out.new.session (turn held size c.loop-steps.session c.loop-steps.bytes c.in-Ok-Some.step) (g.K.Sink.taken c.loop-steps.out) (g.K.Sink.taken c.carry_out.new.out)) i.same c.in-Ok.ensures.carried)
-          (λ held size have carried. follows_on held size c.args.session c.loop-steps.session c.carry_out.new.session c.args.bytes c.loop-steps.bytes c.in-Ok.total c.loop-steps.steps c.next.new.self c.in-Ok-Some.step (g.S.Source.left c.args.script.now) (g.S.Source.left c.loop-steps.script) (g.S.Source.left c.next.new.source) (g.K.Sink.taken c.args.out.now) (g.K.Sink.taken c.loop-steps.out) (g.K.Sink.taken c.carry_out.new.out) have l carried);
+          (λ held size have carried. follows_on held size c.args.session c.loop-steps.session c.carry_out.new.session c.args.bytes c.loop-steps.bytes c.in-Ok.total c.loop-steps.steps c.next.new.self c.in-Ok-Some.step (g.S.Source.left c.args.script.now) (coming c.loop-steps.steps.ended (g.S.Source.left c.loop-steps.script)) (coming c.next.new.self.ended (g.S.Source.left c.next.new.source)) (g.K.Sink.taken c.args.out.now) (g.K.Sink.taken c.loop-steps.out) (g.K.Sink.taken c.carry_out.new.out) have l carried);
       told = both_files (g.F.LayerFiles.files c.args.files.now) _ _ _ i.told (same_files (g.F.LayerFiles.files c.args.files.now) (g.F.LayerFiles.files c.loop-steps.files) (λ held size. Carries (Ok c.in-Ok.total) c.carry_out.new.session (turn held size c.loop-steps.session c.loop-steps.bytes c.in-Ok-Some.step) (g.K.Sink.taken c.loop-steps.out) (g.K.Sink.taken c.carry_out.new.out)) i.same c.in-Ok.ensures.carried)
-          (λ held size have carried. goes_on held size c.args.session c.loop-steps.session c.carry_out.new.session c.args.bytes c.loop-steps.bytes c.in-Ok.total c.loop-steps.steps c.next.new.self c.in-Ok-Some.step (g.S.Source.left c.args.script.now) (g.S.Source.left c.loop-steps.script) (g.S.Source.left c.next.new.source) (g.K.Sink.taken c.args.out.now) (g.K.Sink.taken c.loop-steps.out) (g.K.Sink.taken c.carry_out.new.out) have n carried);
-      heard = heard_on (g.S.Source.left c.args.script.now) (g.S.Source.left c.loop-steps.script) (g.S.Source.left c.next.new.source) _ i.heard n;
+          (λ held size have carried. goes_on held size c.args.session c.loop-steps.session c.carry_out.new.session c.args.bytes c.loop-steps.bytes c.in-Ok.total c.loop-steps.steps c.next.new.self c.in-Ok-Some.step (g.S.Source.left c.args.script.now) (coming c.loop-steps.steps.ended (g.S.Source.left c.loop-steps.script)) (coming c.next.new.self.ended (g.S.Source.left c.next.new.source)) (g.K.Sink.taken c.args.out.now) (g.K.Sink.taken c.loop-steps.out) (g.K.Sink.taken c.carry_out.new.out) have n carried);
+      heeds = heeds_then false c.loop-steps.steps.ended c.next.new.self.ended (g.S.Source.left c.args.script.now) (g.S.Source.left c.loop-steps.script) (g.S.Source.left c.next.new.source) i.heeds c.in-Ok-Some.ensures.heeds;
       same = c.in-Ok.ensures.same ∙ i.same;
       files_later = omega (arith, i.files_later, c.in-Ok.ensures.later.0);
       read_later = omega (arith, i.read_later, c.in-Ok-Some.ensures.later);
@@ -52,7 +55,7 @@ returns-in-Err-clause-outcome g c =
     let i = c.loop-steps.invariant in
     let n = rw c.in-Ok-Some.field-0-is at c.in-Ok-Some.ensures.answer in
     both_files (g.F.LayerFiles.files c.args.files.now) _ _ _ i.told (same_files (g.F.LayerFiles.files c.args.files.now) (g.F.LayerFiles.files c.loop-steps.files) (λ held size. Carries (Err c.in-Err.status) c.carry_out.new.session (turn held size c.loop-steps.session c.loop-steps.bytes c.in-Ok-Some.step) (g.K.Sink.taken c.loop-steps.out) (g.K.Sink.taken c.carry_out.new.out)) i.same c.in-Err.ensures.carried)
-    (λ held size have carried. stops held size c.args.session c.loop-steps.session c.carry_out.new.session c.args.bytes c.loop-steps.bytes c.loop-steps.steps c.next.new.self c.in-Ok-Some.step c.in-Err.status (g.S.Source.left c.args.script.now) (g.S.Source.left c.loop-steps.script) (g.S.Source.left c.next.new.source) (g.K.Sink.taken c.args.out.now) (g.K.Sink.taken c.loop-steps.out) (g.K.Sink.taken c.carry_out.new.out) have n carried)
+    (λ held size have carried. stops held size c.args.session c.loop-steps.session c.carry_out.new.session c.args.bytes c.loop-steps.bytes c.loop-steps.steps c.next.new.self c.in-Ok-Some.step c.in-Err.status (g.S.Source.left c.args.script.now) (coming c.loop-steps.steps.ended (g.S.Source.left c.loop-steps.script)) (coming c.next.new.self.ended (g.S.Source.left c.next.new.source)) (g.K.Sink.taken c.args.out.now) (g.K.Sink.taken c.loop-steps.out) (g.K.Sink.taken c.carry_out.new.out) have n carried)
 
 pub returns-in-Err-clause-end : goal.returns-in-Err-clause-end
 returns-in-Err-clause-end g c = λ e. absurd (c.in-Err.ensures.calm.0 (ap Err e))
@@ -61,27 +64,27 @@ pub returns-in-Err-Refused-clause-outcome : goal.returns-in-Err-Refused-clause-o
 returns-in-Err-Refused-clause-outcome g c =
     let n = rw (c.in-Err-Refused.field-0-is) at c.in-Err-Refused.ensures.answer in
     let told = then_files (g.F.LayerFiles.files c.args.files.now) _ _ c.loop-steps.invariant.told
-    (λ held size have. gives_none held size c.args.session c.loop-steps.session c.args.bytes c.loop-steps.bytes c.loop-steps.steps c.next.new.self (Err (faults.Refused c.in-Err-Refused.line c.in-Err-Refused.kind)) (status.ScriptRefused c.in-Err-Refused.line c.in-Err-Refused.kind) (g.S.Source.left c.args.script.now) (g.S.Source.left c.loop-steps.script) (g.S.Source.left c.next.new.source) (g.K.Sink.taken c.args.out.now) (g.K.Sink.taken c.loop-steps.out) refl have n) in
+    (λ held size have. gives_none held size c.args.session c.loop-steps.session c.args.bytes c.loop-steps.bytes c.loop-steps.steps c.next.new.self (Err (faults.Refused c.in-Err-Refused.line c.in-Err-Refused.kind)) (status.ScriptRefused c.in-Err-Refused.line c.in-Err-Refused.kind) (g.S.Source.left c.args.script.now) (coming c.loop-steps.steps.ended (g.S.Source.left c.loop-steps.script)) (coming c.next.new.self.ended (g.S.Source.left c.next.new.source)) (g.K.Sink.taken c.args.out.now) (g.K.Sink.taken c.loop-steps.out) refl have n) in
     rw (c.in-Err-Refused.line-is, c.in-Err-Refused.kind-is) told
 
 pub returns-in-Err-ReadFault-clause-outcome : goal.returns-in-Err-ReadFault-clause-outcome
 returns-in-Err-ReadFault-clause-outcome g c =
     let n = rw c.in-Err-ReadFault.field-0-is at c.in-Err-ReadFault.ensures.answer in
     then_files (g.F.LayerFiles.files c.args.files.now) _ _ c.loop-steps.invariant.told
-    (λ held size have. gives_none held size c.args.session c.loop-steps.session c.args.bytes c.loop-steps.bytes c.loop-steps.steps c.next.new.self (Err faults.ReadFault) status.ReadFault (g.S.Source.left c.args.script.now) (g.S.Source.left c.loop-steps.script) (g.S.Source.left c.next.new.source) (g.K.Sink.taken c.args.out.now) (g.K.Sink.taken c.loop-steps.out) refl have n)
+    (λ held size have. gives_none held size c.args.session c.loop-steps.session c.args.bytes c.loop-steps.bytes c.loop-steps.steps c.next.new.self (Err faults.ReadFault) status.ReadFault (g.S.Source.left c.args.script.now) (coming c.loop-steps.steps.ended (g.S.Source.left c.loop-steps.script)) (coming c.next.new.self.ended (g.S.Source.left c.next.new.source)) (g.K.Sink.taken c.args.out.now) (g.K.Sink.taken c.loop-steps.out) refl have n)
 
 pub returns-in-Err-NoMemory-clause-outcome : goal.returns-in-Err-NoMemory-clause-outcome
 returns-in-Err-NoMemory-clause-outcome g c =
     let n = rw c.in-Err-NoMemory.field-0-is at c.in-Err-NoMemory.ensures.answer in
     then_files (g.F.LayerFiles.files c.args.files.now) _ _ c.loop-steps.invariant.told
-    (λ held size have. gives_none held size c.args.session c.loop-steps.session c.args.bytes c.loop-steps.bytes c.loop-steps.steps c.next.new.self (Err faults.NoMemory) status.NoMemory (g.S.Source.left c.args.script.now) (g.S.Source.left c.loop-steps.script) (g.S.Source.left c.next.new.source) (g.K.Sink.taken c.args.out.now) (g.K.Sink.taken c.loop-steps.out) refl have n)
+    (λ held size have. gives_none held size c.args.session c.loop-steps.session c.args.bytes c.loop-steps.bytes c.loop-steps.steps c.next.new.self (Err faults.NoMemory) status.NoMemory (g.S.Source.left c.args.script.now) (coming c.loop-steps.steps.ended (g.S.Source.left c.loop-steps.script)) (coming c.next.new.self.ended (g.S.Source.left c.next.new.source)) (g.K.Sink.taken c.args.out.now) (g.K.Sink.taken c.loop-steps.out) refl have n)
 
 pub returns-in-Err-ReadFault-clause-script_fault : goal.returns-in-Err-ReadFault-clause-script_fault
 returns-in-Err-ReadFault-clause-script_fault g c =
     let l = rw c.in-Err-ReadFault.field-0-is at c.in-Err-ReadFault.ensures.lines in
     let n = rw c.in-Err-ReadFault.field-0-is at c.in-Err-ReadFault.ensures.counts in
     λ e k. then_files (g.F.LayerFiles.files c.args.files.now) _ _ c.loop-steps.invariant.follows
-    (λ held size have. fault_writes held size c.args.session c.loop-steps.session c.args.bytes c.loop-steps.bytes c.loop-steps.steps c.next.new.self (g.S.Source.left c.args.script.now) (g.S.Source.left c.loop-steps.script) (g.S.Source.left c.next.new.source) (g.K.Sink.taken c.args.out.now) (g.K.Sink.taken c.loop-steps.out) have l n.1)
+    (λ held size have. fault_writes held size c.args.session c.loop-steps.session c.args.bytes c.loop-steps.bytes c.loop-steps.steps c.next.new.self (g.S.Source.left c.args.script.now) (coming c.loop-steps.steps.ended (g.S.Source.left c.loop-steps.script)) (g.S.Source.left c.next.new.source) (g.K.Sink.taken c.args.out.now) (g.K.Sink.taken c.loop-steps.out) have l n.1)
 
 pub returns-in-Err-clause-script_fault : goal.returns-in-Err-clause-script_fault
 returns-in-Err-clause-script_fault g c = λ e k. absurd (k (omega (arith, c.loop-steps.invariant.files_later, c.in-Err.ensures.read_fault (ap Err e))))

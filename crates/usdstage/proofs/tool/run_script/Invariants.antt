@@ -1,5 +1,5 @@
-use Rattle.std.proofs.Common.{◌≡◌, ◌≤◌, ◌-◌}
-use Rattle.session_script.specs.Told.{BothTold}
+use Rattle.std.proofs.Common.{◌≡◌, ◌≤◌, ◌-◌, false}
+use Rattle.session_script.specs.Told.{coming, Heeds}
 use Rattle.usdstage.specs.Outcome.{ByFiles}
 use Rattle.usdstage.proofs.Carrying.{Stands}
 use Rattle.usdstage.proofs.Follows.{Follows}
@@ -8,10 +8,10 @@ use Rattle.usdstage.proofs.tool.run_script.Given as goal
 abbrev pub invariant-loop-steps : goal.invariant-loop-steps
 invariant-loop-steps g l = record {
   told : ByFiles (g.F.LayerFiles.files l.initial.files)
-      (λ held size. Stands held size l.initial.session l.session l.initial.bytes l.bytes l.steps (g.S.Source.left l.initial.script) (g.S.Source.left l.script) (g.K.Sink.taken l.initial.out) (g.K.Sink.taken l.out));
+      (λ held size. Stands held size l.initial.session l.session l.initial.bytes l.bytes l.steps (g.S.Source.left l.initial.script) (coming l.steps.ended (g.S.Source.left l.script)) (g.K.Sink.taken l.initial.out) (g.K.Sink.taken l.out));
   follows : ByFiles (g.F.LayerFiles.files l.initial.files)
-      (λ held size. Follows held size l.initial.session l.session l.initial.bytes l.bytes l.steps (g.S.Source.left l.initial.script) (g.S.Source.left l.script) (g.K.Sink.taken l.initial.out) (g.K.Sink.taken l.out));
-  heard : BothTold (g.S.Source.left l.initial.script) (g.S.Source.left l.script) (λ _ _. Unit {0});
+      (λ held size. Follows held size l.initial.session l.session l.initial.bytes l.bytes l.steps (g.S.Source.left l.initial.script) (coming l.steps.ended (g.S.Source.left l.script)) (g.K.Sink.taken l.initial.out) (g.K.Sink.taken l.out));
+  heeds : Heeds false l.steps.ended (g.S.Source.left l.initial.script) (g.S.Source.left l.script);
   same : g.F.LayerFiles.files l.files ≡ g.F.LayerFiles.files l.initial.files;
   files_later : g.F.LayerFiles.faults l.initial.files ≤ g.F.LayerFiles.faults l.files;
   read_later : g.S.Source.faults l.initial.script ≤ g.S.Source.faults l.script;

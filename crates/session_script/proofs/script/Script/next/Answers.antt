@@ -4,6 +4,7 @@ use Rattle.session_script.specs.declared.faults.ScriptFault.TheVariants.{Refused
 use Rattle.session_script.specs.declared.faults.ScriptKind.TheVariants.{TooLong}
 use Rattle.session_script.specs.States.{State}
 use Rattle.session_script.proofs.Passing.{passed_line, passed_step, passed_fault, end_passes, refusal_passes}
+use Rattle.session_script.proofs.Feeds.{heeds_then, kept_end}
 use Rattle.session_script.proofs.Going.{answered, goes_further, still_unrefused, ends, too_long, stops, takes, answer_of_take}
 use Rattle.session_script.proofs.script.Script.next.Goals as goal
 
@@ -56,6 +57,8 @@ loop-self-preserved g c =
     let took = rw c.in_default-2.is at c.in_ok-step-in-Line.ensures in
     record {
       passed = passed_line c.in-Line.len c.args.self.now c.loop-self.self c.next_front.new.self c.take_front.new.self _ _ _ none i.passed n.feeds f took;
+      heeds = heeds_then c.args.self.now.ended c.loop-self.self.ended c.take_front.new.self.ended (g.S.Source.left c.args.source.now) (g.S.Source.left c.loop-self.source) (g.S.Source.left c.next_front.new.source) i.heeds (rw (ap (λ (s : State). s.ended) took.2) n.heeds);
+      quiet = λ e. n.quiet (kept_end c.args.self.now.ended c.loop-self.self.ended _ _ i.heeds e) ∙ i.quiet e;
       told = goes_further c.args.self.now c.loop-self.self c.next_front.new.self c.take_front.new.self _ _ _ _ i.told n.feeds f.3
           (λ b q. takes (Ok None) c.in-Line.len c.next_front.new.self c.take_front.new.self b none f.1 f.2 q took);
       goes_on = ap (λ (s : State). s.stopped) took.2 ∙ none;
@@ -71,7 +74,7 @@ pub returns-in_err-next_front-clause-lines : goal.returns-in_err-next_front-clau
 returns-in_err-next_front-clause-lines g c =
     let p = err_from_is_err_and c.from_residual.result c.from_residual.ensures.1 in
     let n = c.in_err-next_front.ensures in
-    rw (p.1 ∙ ap Err p.2) (passed_fault c.in_err-next_front.field-0.0 c.args.self.now c.loop-self.self c.next_front.new.self _ _ _ c.loop-self.invariant.passed n.feeds n.none)
+    rw (p.1 ∙ ap Err p.2) (passed_fault c.in_err-next_front.field-0.0 c.args.self.now c.loop-self.self c.next_front.new.self _ _ _ c.loop-self.invariant.passed n.feeds n.none.0 n.none.1 n.none.2)
 
 pub returns-in_err-step-in-Line-clause-lines : goal.returns-in_err-step-in-Line-clause-lines
 returns-in_err-step-in-Line-clause-lines g c =
