@@ -4,7 +4,7 @@
     python3 bench/leaf_crates.py [--in FOLDER] [CALL ..]
 
 The program that makes the calls is no crate of the repository, since nothing else needs it. So the script writes a
-scratch repository with the crates and one program, lets `rt run` prove and build it (some minutes the first time), and
+scratch repository with the crates and one program, lets `rt run` prove and build it (as long as its crates take, the first time), and
 then runs what was built. With --in the scratch repository stays in FOLDER, and the next run proves nothing again.
 Seconds are the processor's. CALL picks lines of the table, as `apply`.
 """
