@@ -4,21 +4,14 @@
     python3 bench/layers.py [--in FOLDER] [CALL ..]
 
 The program that makes the calls is no crate of the repository, since nothing else needs it. So the script writes a
-scratch repository with the crates and one program, lets `rt run` prove and build it (some minutes the first time), and
+scratch repository with the crates and one program, lets `rt run` prove and build it (as long as its crates take, the first time), and
 then runs what was built. With --in the scratch repository stays in FOLDER, and the next run proves nothing again.
 Seconds are the processor's; what comes before the call, as the making of the layer, is taken off. CALL picks lines of
 the table, as `get`.
 """
-import json
-import os
-import shutil
-import subprocess
-import sys
-import tempfile
+import measure
 
-TOP = os.path.dirname(os.path.dirname(os.path.abspath(__file__)))
-LIBRARIES = ["plain_data", "usd_names", "list_ops", "sdf_paths", "sdf_values", "spec_tables", "spec_properties", "spec_parts",
-             "sdf_specs", "usda_lexer", "usda_values"]
+USES = ["sdf_specs", "usda_values", "usda_lexer", "sdf_values", "sdf_paths", "plain_data"]
 
 PROGRAM = """//! Makes one call on so many specs or numbers: the name of the call and the number are the words.
 #![tactic(auto)]
@@ -33,38 +26,7 @@ use std::process::ExitCode;
 use usda_lexer::Tokens;
 use usda_values::{ValueFault, read_value, take_shape};
 
-/// Why a call was not made.
-enum Fault {
-    NoMemory,
-    Unexpected,
-}
-
-impl From<AllocError> for Fault {
-    fn from(_error: AllocError) -> Fault {
-        Fault::NoMemory
-    }
-}
-
-impl<T: Drop> From<AllocFailed<T>> for Fault {
-    fn from(_error: AllocFailed<T>) -> Fault {
-        Fault::NoMemory
-    }
-}
-
-/// The prim of a number below another.
-fn child(owner: &Path, alloc: Global, number: usize) -> Result<Path, Fault> {
-    let mut name = String::from_str(alloc, "prim_")?;
-    name.push_str(number.to_string(alloc)?.as_str())?;
-    if owner.is_property() {
-        return Err(Fault::Unexpected);
-    }
-    match owner.append(name.as_str()) {
-        Ok(path) => Ok(path),
-        Err(PathFault::Bad { .. }) => Err(Fault::Unexpected),
-        Err(PathFault::NoMemory) => Err(Fault::NoMemory),
-    }
-}
-
+""" + measure.FAULT + "\n" + measure.PRIMS + """
 /// The paths of ten root prims with as many prims below each, `count` in all, each owner before what is below it.
 fn paths(alloc: Global, count: usize) -> Result<Vec<Path>, Fault> {
     let mut paths = Vec::new(alloc);
@@ -77,17 +39,6 @@ fn paths(alloc: Global, count: usize) -> Result<Vec<Path>, Fault> {
         }
     }
     Ok(paths)
-}
-
-fn put(layer: &mut Layer, alloc: Global, path: &Path) -> Result<(), Fault> {
-    if path.is_property() || path.is_root() {
-        return Err(Fault::Unexpected);
-    }
-    match layer.put(path, Spec::blank(alloc, Specifier::Over)) {
-        Ok(()) => Ok(()),
-        Err(PutRefused::NoParent) => Err(Fault::Unexpected),
-        Err(PutRefused::NoMemory) => Err(Fault::NoMemory),
-    }
 }
 
 fn made(alloc: Global, paths: &[Path]) -> Result<Layer, Fault> {
@@ -209,113 +160,24 @@ fn carried_out(alloc: Global, call: &str, count: usize) -> Result<usize, Fault> 
     }
 }
 
-fn words(rt: &HostRuntime) -> Option<Vec<String>> {
-    let args = env::args(rt).ok()?;
-    let mut words = Vec::new(rt.alloc());
-    for word in args {
-        words.push(word).ok()?;
-    }
-    Some(words)
-}
+""" + measure.MAIN
 
-fn main(rt: HostRuntime) -> ExitCode {
-    let Some(words) = words(&rt) else {
-        return ExitCode::from(1);
-    };
-    let [_name, call, count, ..] = words.as_slice() else {
-        return ExitCode::from(0);
-    };
-    let count = match count.as_str().parse::<usize>() {
-        Ok(count) => count,
-        Err(_) => return ExitCode::from(1),
-    };
-    match carried_out(rt.alloc(), call.as_str(), count) {
-        Ok(length) => {
-            let _ = println!(rt; "{length}");
-            ExitCode::from(0)
-        }
-        Err(Fault::NoMemory) => ExitCode::from(2),
-        Err(Fault::Unexpected) => ExitCode::from(3),
-    }
-}
-"""
-
-# The call, what comes before it, a small count, how many times as much is made of it the second time, and how often the
-# call is made for each item: none where it is made once.
+# The call, what comes before it and is taken off, how many items it is made on, and how often.
 TABLE = [
-    ("make", None, 65_536, 4, 1),
-    ("put", "make", 65_536, 4, 10),
-    ("get", "make", 65_536, 4, 10),
-    ("walk", "make", 65_536, 4, 100),
-    ("remove_tree", "make", 65_536, 4, 1),
-    ("copy", "make", 65_536, 4, 1),
-    ("read_value", "text", 250_000, 4, 1),
-    ("take_shape", "read_value", 250_000, 4, 1),
+    ("make", None, 65_536, 1),
+    ("put", "make", 65_536, 10),
+    ("get", "make", 65_536, 10),
+    ("walk", "make", 65_536, 100),
+    ("remove_tree", "make", 65_536, 1),
+    ("copy", "make", 65_536, 1),
+    ("read_value", "text", 250_000, 1),
+    ("take_shape", "read_value", 250_000, 1),
 ]
 
-MEASURE = """
-import json, os, sys
-pid = os.fork()
-if pid == 0:
-    os.dup2(os.open(os.devnull, os.O_WRONLY), 1)
-    os.execv(sys.argv[1], sys.argv[1:])
-_, status, usage = os.wait4(pid, 0)
-print(json.dumps([usage.ru_utime + usage.ru_stime, usage.ru_maxrss * 1024, os.waitstatus_to_exitcode(status)]))
-"""
-
-
-def build(folder):
-    """Writes the scratch repository, and gives the path of the program that is built in it."""
-    for name in LIBRARIES:
-        shutil.copytree(os.path.join(TOP, "crates", name), os.path.join(folder, "crates", name), dirs_exist_ok=True,
-                        ignore=shutil.ignore_patterns("out", "must-fail"))
-    with open(os.path.join(TOP, "crates.txt")) as f:
-        lines = [line for line in f if line.split(":")[0].strip() in LIBRARIES]
-    lines.append("layer_speed: sdf_specs usda_values usda_lexer sdf_values sdf_paths plain_data\n")
-    with open(os.path.join(folder, "crates.txt"), "w") as f:
-        f.writelines(lines)
-    program = os.path.join(folder, "crates", "layer_speed")
-    os.makedirs(os.path.join(program, "src"), exist_ok=True)
-    with open(os.path.join(program, "src", "main.rt"), "w") as f:
-        f.write(PROGRAM)
-    subprocess.run(["rt", "run"], cwd=program, check=True, stdout=subprocess.DEVNULL)
-    return os.path.join(program, "out", "layer_speed")
-
-
-def measured(program, call, count):
-    said = subprocess.run([sys.executable, "-c", MEASURE, program, call, str(count)], capture_output=True, text=True, check=True).stdout
-    return json.loads(said)
-
-
-def run(program, call, before, count, times):
-    seconds, peak, status = measured(program, call, count)
-    first_seconds, first_peak, _ = measured(program, before, count) if before else (0, 0, 0)
-    taken = max(seconds - first_seconds, 0)
-    each = f"{taken * 1e6 / (count * times):10.2f}"
-    print(f"{call:12} {count:>10} {taken:9.2f} {each} {peak / 2**20:10.1f} {peak / count:10.0f} {status:>6}", flush=True)
-    return taken
-
-
-def table(folder, chosen):
-    program = build(folder)
-    print(f"{'call':12} {'items':>10} {'seconds':>9} {'us a call':>10} {'peak MiB':>10} {'bytes/item':>10} {'status':>6}")
-    for call, before, count, growth, times in TABLE:
-        if chosen and call not in chosen:
-            continue
-        small = run(program, call, before, count, times)
-        large = run(program, call, before, count * growth, times)
-        print(f"    {growth} times as much: {large / max(small, 1e-9):.1f} times the time", flush=True)
-
-
-def main():
-    words = sys.argv[1:]
-    if words[:1] == ["--in"] and len(words) > 1:
-        os.makedirs(words[1], exist_ok=True)
-        table(os.path.abspath(words[1]), words[2:])
-        return
-    with tempfile.TemporaryDirectory() as folder:
-        table(folder, words)
-
+COLUMNS = [
+    ("us a call", lambda seconds, peak, items, times: seconds * 1e6 / items / times),
+    ("bytes/item", lambda seconds, peak, items, times: peak / items),
+]
 
 if __name__ == "__main__":
-    main()
+    measure.compare_calls("layer_speed", USES, PROGRAM, TABLE, COLUMNS)

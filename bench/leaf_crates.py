@@ -1,21 +1,16 @@
 #!/usr/bin/env python3
 """Times list edits, the printing of values, and paths, and prints a table.
 
-    python3 bench/leaf_crates.py [CALL ..]
+    python3 bench/leaf_crates.py [--in FOLDER] [CALL ..]
 
 The program that makes the calls is no crate of the repository, since nothing else needs it. So the script writes a
-scratch repository with the crates and one program, lets `rt run` prove and build it (some minutes the first time), and
-then runs what was built. Seconds are the processor's. CALL picks lines of the table, as `fold`.
+scratch repository with the crates and one program, lets `rt run` prove and build it (as long as its crates take, the first time), and
+then runs what was built. With --in the scratch repository stays in FOLDER, and the next run proves nothing again.
+Seconds are the processor's. CALL picks lines of the table, as `apply`.
 """
-import json
-import os
-import shutil
-import subprocess
-import sys
-import tempfile
+import measure
 
-TOP = os.path.dirname(os.path.dirname(os.path.abspath(__file__)))
-LIBRARIES = ["plain_data", "usd_names", "list_ops", "sdf_paths", "sdf_values"]
+USES = ["list_ops", "plain_data", "sdf_paths", "sdf_values"]
 
 PROGRAM = """//! Makes one call on so many items: the name of the call and the number are the words.
 #![tactic(auto)]
@@ -24,10 +19,11 @@ use list_ops::{ListOp, fold_ordered, reorder, reorder_ordered};
 use plain_data::Items;
 use sdf_paths::Path;
 use sdf_values::{Decimal, Num, Value, print_value};
-use std::alloc::{AllocError, Global};
+use std::alloc::{AllocError, AllocFailed, Global};
 use std::env;
 use std::process::ExitCode;
 
+""" + measure.FAULT + """
 /// `count` numbers from `start` on, `step` apart.
 fn numbers(alloc: Global, start: u64, step: u64, count: usize) -> Result<Items<u64>, AllocError> {
     let mut items = Items::new(alloc);
@@ -147,95 +143,22 @@ fn made(alloc: Global, call: &str, count: usize) -> Result<usize, AllocError> {
     }
 }
 
-fn words(rt: &HostRuntime) -> Option<Vec<String>> {
-    let args = env::args(rt).ok()?;
-    let mut words = Vec::new(rt.alloc());
-    for word in args {
-        words.push(word).ok()?;
-    }
-    Some(words)
+fn carried_out(alloc: Global, call: &str, count: usize) -> Result<usize, Fault> {
+    Ok(made(alloc, call, count)?)
 }
 
-fn main(rt: HostRuntime) -> ExitCode {
-    let Some(words) = words(&rt) else {
-        return ExitCode::from(1);
-    };
-    let [_name, call, count, ..] = words.as_slice() else {
-        return ExitCode::from(0);
-    };
-    let count = match count.as_str().parse::<usize>() {
-        Ok(count) => count,
-        Err(_) => return ExitCode::from(1),
-    };
-    match made(rt.alloc(), call.as_str(), count) {
-        Ok(length) => {
-            let _ = println!(rt; "{length}");
-            ExitCode::from(0)
-        }
-        Err(_) => ExitCode::from(2),
-    }
-}
-"""
+""" + measure.MAIN
 
-# The call, a small count, and how many times as much is made of it the second time.
+# The call, what comes before it, how many items it is made on, and how often.
 TABLE = [
-    ("apply_ordered", 100_000, 4),
-    ("fold_ordered", 100_000, 4),
-    ("reorder_ordered", 100_000, 4),
-    ("apply", 4_000, 4),
-    ("reorder", 4_000, 4),
-    ("print_value", 250_000, 4),
-    ("path", 1_024, 4),
+    ("apply_ordered", None, 100_000, 1),
+    ("fold_ordered", None, 100_000, 1),
+    ("reorder_ordered", None, 100_000, 1),
+    ("apply", None, 4_000, 1),
+    ("reorder", None, 4_000, 1),
+    ("print_value", None, 250_000, 1),
+    ("path", None, 1_024, 1),
 ]
 
-MEASURE = """
-import json, os, sys
-pid = os.fork()
-if pid == 0:
-    os.dup2(os.open(os.devnull, os.O_WRONLY), 1)
-    os.execv(sys.argv[1], sys.argv[1:])
-_, status, usage = os.wait4(pid, 0)
-print(json.dumps([usage.ru_utime + usage.ru_stime, usage.ru_maxrss * 1024, os.waitstatus_to_exitcode(status)]))
-"""
-
-
-def build(folder):
-    """Writes the scratch repository, and gives the path of the program that is built in it."""
-    for name in LIBRARIES:
-        shutil.copytree(os.path.join(TOP, "crates", name), os.path.join(folder, "crates", name),
-                        ignore=shutil.ignore_patterns("out", "must-fail"))
-    with open(os.path.join(TOP, "crates.txt")) as f:
-        lines = [line for line in f if line.split(":")[0].strip() in LIBRARIES]
-    lines.append("leaf_speed: list_ops plain_data sdf_paths sdf_values\n")
-    with open(os.path.join(folder, "crates.txt"), "w") as f:
-        f.writelines(lines)
-    program = os.path.join(folder, "crates", "leaf_speed")
-    os.makedirs(os.path.join(program, "src"))
-    with open(os.path.join(program, "src", "main.rt"), "w") as f:
-        f.write(PROGRAM)
-    subprocess.run(["rt", "run"], cwd=program, check=True, stdout=subprocess.DEVNULL)
-    return os.path.join(program, "out", "leaf_speed")
-
-
-def run(program, call, count):
-    said = subprocess.run([sys.executable, "-c", MEASURE, program, call, str(count)], capture_output=True, text=True, check=True).stdout
-    seconds, peak, status = json.loads(said)
-    print(f"{call:18} {count:>10} {seconds:9.2f} {peak / 2**20:10.1f} {status:>6}", flush=True)
-    return seconds
-
-
-def main():
-    chosen = sys.argv[1:]
-    with tempfile.TemporaryDirectory() as folder:
-        program = build(folder)
-        print(f"{'call':18} {'items':>10} {'seconds':>9} {'peak MiB':>10} {'status':>6}")
-        for call, count, times in TABLE:
-            if chosen and call not in chosen:
-                continue
-            before = run(program, call, count)
-            after = run(program, call, count * times)
-            print(f"    {times} times as much: {after / max(before, 1e-9):.1f} times the time", flush=True)
-
-
 if __name__ == "__main__":
-    main()
+    measure.compare_calls("leaf_speed", USES, PROGRAM, TABLE, [])

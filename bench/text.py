@@ -1,22 +1,17 @@
 #!/usr/bin/env python3
 """Times the reading and writing of large texts of the whole format, and prints a table.
 
-    python3 bench/text.py [CALL ..]
+    python3 bench/text.py [--in FOLDER] [CALL ..]
 
 CALL is one of bytes (a plain count), tokens, words, read and written. The program that makes the calls is no crate of the
 repository, since nothing else needs it: the script writes it into a scratch repository with copies of the crates and of what was
-built of them, so that what is proved already is not proved again, and lets `rt run` prove and build it. Seconds are the
-processor's, and peak memory is that of the process, the text itself included. Four times the bytes should take little more than
+built of them, so that what is proved already is not proved again, and lets `rt run` prove and build it. With --in the scratch
+repository stays in FOLDER. Seconds are the processor's, and peak memory is that of the process, the text itself included. Four times the bytes should take little more than
 four times the time.
 """
-import json
 import os
-import shutil
-import subprocess
-import sys
-import tempfile
 
-TOP = os.path.dirname(os.path.dirname(os.path.abspath(__file__)))
+import measure
 
 PROGRAM = """//! Makes one call on the text of a layer: the name of the call and that of the file are the words.
 #![tactic(auto)]
@@ -95,15 +90,7 @@ fn made(alloc: Global, call: &str, source: &[u8]) -> Result<usize, AllocError> {
     }
 }
 
-fn args(rt: &HostRuntime) -> Option<Vec<String>> {
-    let args = env::args(rt).ok()?;
-    let mut words = Vec::new(rt.alloc());
-    for word in args {
-        words.push(word).ok()?;
-    }
-    Some(words)
-}
-
+""" + measure.ARGUMENTS + """
 fn bytes_of(rt: &HostRuntime, name: &str) -> Option<Vec<u8>> {
     let mut bytes = Vec::new(rt.alloc());
     let mut files = FolderFiles::new(rt.clone().ok()?);
@@ -114,7 +101,7 @@ fn bytes_of(rt: &HostRuntime, name: &str) -> Option<Vec<u8>> {
 }
 
 fn main(rt: HostRuntime) -> ExitCode {
-    let Some(words) = args(&rt) else {
+    let Some(words) = arguments(&rt) else {
         return ExitCode::from(1);
     };
     let [_program, call, name, ..] = words.as_slice() else {
@@ -133,8 +120,8 @@ fn main(rt: HostRuntime) -> ExitCode {
 }
 """
 
-USED = ["io_edges", "usda_lexer", "usda_words", "usda_reader", "usda_writer", "sdf_specs", "spec_parts", "plain_data"]
-CALLS = ["bytes", "tokens", "words", "read", "written"]
+USES = ["io_edges", "usda_lexer", "usda_words", "usda_reader", "usda_writer", "sdf_specs", "spec_parts", "plain_data"]
+TABLE = [("bytes",), ("tokens",), ("words",), ("read",), ("written",)]
 
 
 def prims(size):
@@ -157,62 +144,24 @@ def arrays(numbers):
     return "".join(out)
 
 
-MEASURE = """
-import json, os, sys
-pid = os.fork()
-if pid == 0:
-    os.dup2(os.open(os.devnull, os.O_WRONLY), 1)
-    os.chdir(sys.argv[4])
-    os.execv(sys.argv[1], sys.argv[1:4])
-_, status, usage = os.wait4(pid, 0)
-print(json.dumps([usage.ru_utime + usage.ru_stime, usage.ru_maxrss * 1024, os.waitstatus_to_exitcode(status)]))
-"""
-
-
-def build(folder):
-    """Writes the scratch repository, and gives the path of the program that is built in it."""
-    os.makedirs(os.path.join(folder, "crates", "text_speed", "src"))
-    with open(os.path.join(TOP, "crates.txt")) as f:
-        below = {line.split(":")[0].split()[0]: line for line in f if ":" in line and not line.startswith("#")}
-    lines, left = [f"text_speed: {' '.join(USED)}\n"], list(USED)
-    while left:
-        line = below.pop(left.pop(), None)
-        if line is None:
-            continue
-        name = line.split(":")[0].split()[0]
-        shutil.copytree(os.path.join(TOP, "crates", name), os.path.join(folder, "crates", name),
-                        ignore=shutil.ignore_patterns("incremental", "must-fail"))
-        lines.append(line)
-        left += line.split(":")[1].split()
-    with open(os.path.join(folder, "crates.txt"), "w") as f:
-        f.writelines(lines)
-    program = os.path.join(folder, "crates", "text_speed")
-    with open(os.path.join(program, "src", "main.rt"), "w") as f:
-        f.write(PROGRAM)
-    subprocess.run(["rt", "run"], cwd=program, check=True, stdout=subprocess.DEVNULL)
-    return os.path.join(program, "out", "text_speed")
-
-
 def run(program, call, folder, name, size):
-    said = subprocess.run([sys.executable, "-c", MEASURE, program, call, name, folder], capture_output=True, text=True, check=True).stdout
-    seconds, peak, status = json.loads(said)
-    print(f"{name:16} {call:8} {size:>10} {seconds:8.2f} {size / 1e6 / max(seconds, 1e-3):8.1f} {peak / 2**20:9.1f} {peak / size:8.1f} {status:>6}", flush=True)
-    return seconds
+    took = measure.measured([program, call, name], folder)
+    print(f"{name:16} {call:8} {size:>10} {took.seconds:8.2f} {size / 1e6 / max(took.seconds, 1e-3):8.1f} {took.peak / 2**20:9.1f} "
+          f"{took.peak / size:8.1f} {took.status:>6}", flush=True)
+    return took.seconds
 
 
-def main():
-    chosen = sys.argv[1:] or CALLS
+def table(folder, lines):
     texts = [("prims_15", prims(15_000_000)), ("prims_60", prims(60_000_000)), ("arrays_15", arrays(2_000_000)), ("arrays_60", arrays(8_000_000))]
-    with tempfile.TemporaryDirectory() as folder:
-        program = build(folder)
-        for name, text in texts:
-            with open(os.path.join(folder, name), "w") as f:
-                f.write(text)
-        print(f"{'text':16} {'call':8} {'bytes':>10} {'seconds':>8} {'MB/s':>8} {'peak MiB':>9} {'of text':>8} {'status':>6}")
-        for call in chosen:
-            times = [run(program, call, folder, name, len(text)) for name, text in texts]
-            print(f"    four times the bytes: {times[1] / max(times[0], 1e-3):.1f} and {times[3] / max(times[2], 1e-3):.1f} times the time", flush=True)
+    program = measure.build(folder, "text_speed", USES, PROGRAM)
+    for name, text in texts:
+        with open(os.path.join(folder, name), "w") as f:
+            f.write(text)
+    print(f"{'text':16} {'call':8} {'bytes':>10} {'seconds':>8} {'MB/s':>8} {'peak MiB':>9} {'of text':>8} {'status':>6}")
+    for (call,) in lines:
+        times = [run(program, call, folder, name, len(text)) for name, text in texts]
+        print(f"    four times the bytes: {times[1] / max(times[0], 1e-3):.1f} and {times[3] / max(times[2], 1e-3):.1f} times the time", flush=True)
 
 
 if __name__ == "__main__":
-    main()
+    measure.calls(TABLE, table)

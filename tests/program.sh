@@ -7,20 +7,24 @@ trap 'rm -rf "$folder"' EXIT
 passed=0
 failed=0
 
+# compare NAME STATUS OUTPUT LINE GOT: the status of the last run, what it wrote, and what it said
+compare() {
+    if [ "$5" = "$2" ] && [ "$(cat "$folder/out.txt")" = "$3" ] && [ "$(cat "$folder/err.txt")" = "$4" ]; then
+        passed=$((passed + 1))
+    else
+        failed=$((failed + 1))
+        echo "$1: status $5 (wanted $2)"
+        echo "  written: $(head -c 200 "$folder/out.txt")"
+        echo "  said:    $(cat "$folder/err.txt") (wanted $4)"
+    fi
+}
+
 # expect NAME STATUS OUTPUT LINE WORDS...: the exit status, standard output and standard error of a run
 expect() {
     local name=$1 status=$2 output=$3 line=$4
     shift 4
     (cd "$folder" && "$top/usdstage" "$@" >out.txt 2>err.txt </dev/null)
-    local got=$?
-    if [ "$got" = "$status" ] && [ "$(cat "$folder/out.txt")" = "$output" ] && [ "$(cat "$folder/err.txt")" = "$line" ]; then
-        passed=$((passed + 1))
-    else
-        failed=$((failed + 1))
-        echo "$name: status $got (wanted $status)"
-        echo "  written: $(head -c 200 "$folder/out.txt")"
-        echo "  said:    $(cat "$folder/err.txt") (wanted $line)"
-    fi
+    compare "$name" "$status" "$output" "$line" $?
 }
 
 # the first run may prove and build the program, which it says
@@ -58,17 +62,8 @@ printf '#usda 1.0\ndef "A" { int x = 1 }' >"$folder/b.usda"
 
 # session NAME STATUS OUTPUT LINE SCRIPT: a session on b.usda, whose script stands on standard input
 session() {
-    local name=$1 status=$2 output=$3 line=$4
     (cd "$folder" && printf '%b' "$5" | "$top/usdstage" session b.usda >out.txt 2>err.txt)
-    local got=$?
-    if [ "$got" = "$status" ] && [ "$(cat "$folder/out.txt")" = "$output" ] && [ "$(cat "$folder/err.txt")" = "$line" ]; then
-        passed=$((passed + 1))
-    else
-        failed=$((failed + 1))
-        echo "$name: status $got (wanted $status)"
-        echo "  written: $(head -c 200 "$folder/out.txt")"
-        echo "  said:    $(cat "$folder/err.txt") (wanted $line)"
-    fi
+    compare "$1" "$2" "$3" "$4" $?
 }
 
 session "a session" 0 $'published 0: batches 0, prims 1\nbatch 1 accepted\npublished 1: batches 1, prims 1\ndefault /A.x: 2' '' \

@@ -1,0 +1,326 @@
+"""What the scripts of this folder share: layers that they make, runs of a program with what they took, tables, and scratch repositories.
+
+A script that needs the built program alone has a list of cases, CASES, and calls `main`; `all.py` runs the cases of all of them.
+"""
+import argparse
+import json
+import os
+import shutil
+import subprocess
+import sys
+import tempfile
+
+TOP = os.path.dirname(os.path.dirname(os.path.abspath(__file__)))
+PROGRAM = os.path.join(TOP, "crates", "usdstage", "out", "usdstage")
+FIRST = "#usda 1.0\n"
+
+# Layers
+
+
+def two_attributes(i):
+    return f'def Xform "p{i}" {{ int a = {i} int b = -{i}\n'
+
+
+def tree(prims, prim=two_attributes):
+    """A tree of so many prims, eight below each; `prim` is the text of one up to its children."""
+    out = []
+
+    def put(i):
+        out.append(prim(i))
+        for k in range(8 * i + 1, 8 * i + 9):
+            if k < prims:
+                put(k)
+        out.append("}\n")
+
+    put(0)
+    return "".join(out)
+
+
+def path_in_tree(i):
+    """The path of a prim of `tree`."""
+    names = []
+    while i > 0:
+        names.append(f"/p{i}")
+        i = (i - 1) // 8
+    return "/p0" + "".join(reversed(names))
+
+
+def nested(count, body=""):
+    """So many prims, each in the one before it, with this body."""
+    return "".join(f'def "n{i}" {{ {body}\n' for i in range(count)) + "}\n" * count
+
+
+def no_lines(_size):
+    """The script of a session that is opened and no more."""
+    return ""
+
+
+def listed(items):
+    return "[" + ", ".join(items) + "]"
+
+
+def write(folder, layers):
+    """Writes layers by name, each behind its first line; a name has no `.usda`."""
+    for name, text in layers.items():
+        path = os.path.join(folder, name + ".usda")
+        os.makedirs(os.path.dirname(path), exist_ok=True)
+        with open(path, "w") as f:
+            f.write(FIRST + text)
+
+
+# Runs
+
+# Runs a command in a small process of its own, so that the peak memory is the command's alone, and prints what it took. The words are
+# the files for standard input, output and error, the processor's seconds after which it is ended, 0 for none, and the command.
+MEASURE = """
+import json, os, resource, sys
+pid = os.fork()
+if pid == 0:
+    os.dup2(os.open(sys.argv[1], os.O_RDONLY), 0)
+    os.dup2(os.open(sys.argv[2], os.O_WRONLY | os.O_CREAT | os.O_TRUNC), 1)
+    os.dup2(os.open(sys.argv[3], os.O_WRONLY | os.O_CREAT | os.O_TRUNC), 2)
+    if int(sys.argv[4]):
+        resource.setrlimit(resource.RLIMIT_CPU, (int(sys.argv[4]), int(sys.argv[4])))
+    os.execv(sys.argv[5], sys.argv[5:])
+_, status, usage = os.wait4(pid, 0)
+print(json.dumps([usage.ru_utime + usage.ru_stime, usage.ru_maxrss * 1024, os.waitstatus_to_exitcode(status)]))
+"""
+
+
+class Took:
+    """The processor's seconds of a run, its peak memory in bytes, its exit status, and what it wrote and said."""
+
+    def __init__(self, seconds, peak, status, out, err):
+        self.seconds, self.peak, self.status, self.out, self.err = seconds, peak, status, out, err
+
+
+def measured(command, folder, script="", bound=0):
+    """Runs a command in a folder, with a script on standard input."""
+    with tempfile.TemporaryDirectory() as streams:
+        lines, out, err = (os.path.join(streams, name) for name in ("in", "out", "err"))
+        with open(lines, "w") as f:
+            f.write(script)
+        said = subprocess.run([sys.executable, "-c", MEASURE, lines, out, err, str(bound), *command], cwd=folder, stdout=subprocess.PIPE, check=True)
+        with open(out, "rb") as f, open(err) as g:
+            return Took(*json.loads(said.stdout), f.read(), g.read())
+
+
+# Cases and their table
+
+
+class Case:
+    """An input of some sizes: a word that picks it, what it is, its sizes, the layers of a size, and the script of a size; without one
+    the case is of `flatten`, else of `session`. The seconds of `less`, a run on other layers or without the script, are taken off."""
+
+    def __init__(self, word, name, sizes, layers, script=None, less=None):
+        self.word, self.name, self.sizes, self.layers, self.script, self.less = word, name, sizes, layers, script, less
+
+
+def run_once(program, layers, script):
+    with tempfile.TemporaryDirectory() as folder:
+        write(folder, layers)
+        return measured([program, "flatten" if script is None else "session", "root.usda"], folder, script or "")
+
+
+def told(took, whole, off):
+    """What a run wrote, in words, and what was taken off its seconds."""
+    lines = took.out.split(b"\n")
+    last = lines[-2].decode()[:60] if len(lines) > 1 else ""
+    parts = [f"{took.out.count(10)} lines", f"{len(took.out)} bytes", f"last: {last}"]
+    if off is not None:
+        parts.insert(0, f"{whole:.2f} s with the {off:.2f} s taken off")
+    return ", ".join(parts + [took.err.strip()] * bool(took.err.strip()))
+
+
+def run_case(program, case):
+    """Prints a line for each size of a case; growth is told where a size is four times the one before it."""
+    before = None
+    for size in case.sizes:
+        layers = case.layers(size)
+        script = case.script(size) if case.script else None
+        length = sum(len(FIRST) + len(text) for text in layers.values()) + len(script or "")
+        took = run_once(program, layers, script)
+        off = None if case.less is None else run_once(program, *case.less(layers, script)).seconds
+        left = max(took.seconds - (off or 0), 0.0)
+        growth = f"{left / max(before[1], 1e-3):8.1f}" if before and 3.9 < size / before[0] < 4.5 else " " * 8
+        print(f"{f'{size:,} {case.name}':54} {length:>11} {left:9.2f} {length / 1e6 / max(left, 1e-3):8.1f} {growth} {took.peak / 2**20:9.1f} "
+              f"{took.peak / size:11.0f} {took.status:>6}  {told(took, took.seconds, off)}", flush=True)
+        before = size, left
+
+
+def run_cases(program, cases, only):
+    print(f"{'input':54} {'bytes':>11} {'seconds':>9} {'MB/s':>8} {'growth':>8} {'peak MiB':>9} {'memory each':>11} {'status':>6}  written")
+    for case in cases:
+        if not only or case.word in only:
+            run_case(program, case)
+
+
+def program_of(path):
+    if not os.path.exists(path):
+        sys.exit("build the program first: cd examples/shot && ../../usdstage flatten shot.usda")
+    sys.setrecursionlimit(10000)
+    return os.path.abspath(path)
+
+
+def main(cases):
+    """The command line of a script with cases."""
+    words = argparse.ArgumentParser()
+    words.add_argument("program", nargs="?", default=PROGRAM)
+    words.add_argument("--only", nargs="+", default=[], metavar="CASE", help=" ".join(sorted({case.word for case in cases})))
+    given = words.parse_args()
+    run_cases(program_of(given.program), cases, given.only)
+
+
+# Scratch repositories
+
+
+def crates_below(names, lines):
+    """These crates and all that they stand on, by the lines of crates.txt."""
+    below = {line.split(":")[0].strip(): line.split(":")[1].split() for line in lines if ":" in line and not line.startswith("#")}
+    found, left = [], list(names)
+    while left:
+        name = left.pop()
+        if name in below and name not in found:
+            found.append(name)
+            left += below[name]
+    return found
+
+
+def build(folder, name, uses, text):
+    """Writes a scratch repository of the crates that a program uses and those below them, with what was built of them, so that what is
+    proved is not proved again; lets `rt run` prove and build the program, and gives its path."""
+    with open(os.path.join(TOP, "crates.txt")) as f:
+        lines = f.readlines()
+    libraries = crates_below(uses, lines)
+    for crate in libraries:
+        shutil.copytree(os.path.join(TOP, "crates", crate), os.path.join(folder, "crates", crate), dirs_exist_ok=True,
+                        ignore=shutil.ignore_patterns("incremental", "must-fail"))
+    with open(os.path.join(folder, "crates.txt"), "w") as f:
+        f.writelines([line for line in lines if line.split(":")[0].strip() in libraries] + [f"{name}: {' '.join(uses)}\n"])
+    crate = os.path.join(folder, "crates", name)
+    os.makedirs(os.path.join(crate, "src"), exist_ok=True)
+    with open(os.path.join(crate, "src", "main.rt"), "w") as f:
+        f.write(text)
+    subprocess.run(["rt", "run"], cwd=crate, check=True, stdout=subprocess.DEVNULL)
+    return os.path.join(crate, "out", name)
+
+
+# Parts of programs that make calls
+
+# The words of the program.
+ARGUMENTS = """fn arguments(rt: &HostRuntime) -> Option<Vec<String>> {
+    let args = env::args(rt).ok()?;
+    let mut words = Vec::new(rt.alloc());
+    for word in args {
+        words.push(word).ok()?;
+    }
+    Some(words)
+}
+"""
+
+# Makes a call, whose name and number of items are the words: there has to be `carried_out`, which gives a number or a `Fault`.
+MAIN = ARGUMENTS + """
+fn main(rt: HostRuntime) -> ExitCode {
+    let Some(words) = arguments(&rt) else {
+        return ExitCode::from(1);
+    };
+    let [_name, call, count, ..] = words.as_slice() else {
+        return ExitCode::from(0);
+    };
+    let count = match count.as_str().parse::<usize>() {
+        Ok(count) => count,
+        Err(_) => return ExitCode::from(1),
+    };
+    match carried_out(rt.alloc(), call.as_str(), count) {
+        Ok(length) => {
+            let _ = println!(rt; "{length}");
+            ExitCode::from(0)
+        }
+        Err(Fault::NoMemory) => ExitCode::from(2),
+        Err(Fault::Unexpected) => ExitCode::from(3),
+    }
+}
+"""
+
+FAULT = """/// Why a call was not made.
+enum Fault {
+    NoMemory,
+    Unexpected,
+}
+
+impl From<AllocError> for Fault {
+    fn from(_error: AllocError) -> Fault {
+        Fault::NoMemory
+    }
+}
+
+impl<T: Drop> From<AllocFailed<T>> for Fault {
+    fn from(_error: AllocFailed<T>) -> Fault {
+        Fault::NoMemory
+    }
+}
+"""
+
+# Prims of a layer by number, with FAULT.
+PRIMS = """/// The prim of a number below another.
+fn child(owner: &Path, alloc: Global, number: usize) -> Result<Path, Fault> {
+    let mut name = String::from_str(alloc, "prim_")?;
+    name.push_str(number.to_string(alloc)?.as_str())?;
+    if owner.is_property() {
+        return Err(Fault::Unexpected);
+    }
+    match owner.append(name.as_str()) {
+        Ok(path) => Ok(path),
+        Err(PathFault::Bad { .. }) => Err(Fault::Unexpected),
+        Err(PathFault::NoMemory) => Err(Fault::NoMemory),
+    }
+}
+
+fn put(layer: &mut Layer, alloc: Global, path: &Path) -> Result<(), Fault> {
+    if path.is_property() || path.is_root() {
+        return Err(Fault::Unexpected);
+    }
+    match layer.put(path, Spec::blank(alloc, Specifier::Over)) {
+        Ok(()) => Ok(()),
+        Err(PutRefused::NoParent) => Err(Fault::Unexpected),
+        Err(PutRefused::NoMemory) => Err(Fault::NoMemory),
+    }
+}
+"""
+
+
+def calls(table, run):
+    """The command line of a script whose program makes calls: `--in FOLDER` keeps the scratch repository, other words pick lines of
+    the table. `run` is given the folder and the lines that are picked."""
+    words = argparse.ArgumentParser()
+    words.add_argument("--in", dest="folder", metavar="FOLDER", help="where the scratch repository stays")
+    words.add_argument("call", nargs="*", help=" ".join(line[0] for line in table))
+    given = words.parse_args()
+    picked = [line for line in table if not given.call or line[0] in given.call]
+    if given.folder:
+        os.makedirs(given.folder, exist_ok=True)
+        run(os.path.abspath(given.folder), picked)
+        return
+    with tempfile.TemporaryDirectory() as folder:
+        run(folder, picked)
+
+
+def compare(program, lines, columns):
+    """Prints how long each call takes on so many items, and on four times as many. A line has the call, what comes before it and is taken
+    off, the number of items, and how often the call is made; a column a title and what stands in it, by the seconds, the peak memory in
+    bytes, the number of items, and how often the call is made."""
+    print(f"{'call':20} {'items':>10} {'seconds':>9} " + "".join(f"{title:>11}" for title, _ in columns) + f"{'peak MiB':>10} {'status':>6}")
+    for call, before, count, times in lines:
+        seconds = []
+        for items in (count, 4 * count):
+            took = measured([program, call, str(items)], ".")
+            first = measured([program, before, str(items)], ".").seconds if before else 0
+            seconds.append(max(took.seconds - first, 0))
+            told = "".join(f"{value(seconds[-1], took.peak, items, times):11.2f}" for _, value in columns)
+            print(f"{call:20} {items:>10} {seconds[-1]:9.2f} {told}{took.peak / 2**20:10.1f} {took.status:>6}", flush=True)
+        print(f"    4 times as much: {seconds[1] / max(seconds[0], 1e-9):.1f} times the time", flush=True)
+
+
+def compare_calls(name, uses, text, table, columns):
+    """The script of a program that makes calls on so many items."""
+    calls(table, lambda folder, lines: compare(build(folder, name, uses, text), lines, columns))
