@@ -167,3 +167,19 @@ answer_of_take r old new more NoMemory is t = rw is (ap (λ (s : State). steps_l
 pub stops : (s new : State) (more : List ℕ) (kind : ScriptKind) (n : ℕ) → steps_left s more ≡ refused (s.lines + 1) kind → new ≡ stopped_at s kind → n ≡ s.lines + 1
     → AnswersNext (Err (Refused n kind)) new.line (steps_left s more) (steps_left new more)
 stops s new more kind n e is at = rw at (e, ap (λ (t : State). steps_left t more) is)
+
+-- ---- what changes neither the bytes nor what the source told leaves its end as it was
+
+pub same_at_end : (r : Result (Option Step) ScriptFault) (old new : State) → EndsScript r old new → new.ended ≡ old.ended
+same_at_end (Ok None) old new (closed, e) = ap (λ (s : State). s.ended) e
+same_at_end (Ok (Some st)) old new e = absurd e
+same_at_end (Err (Refused n kind)) old new (ops, batch, at, is, e) = ap (λ (s : State). s.ended) e
+same_at_end (Err ReadFault) old new e = absurd e
+same_at_end (Err NoMemory) old new e = absurd e
+
+pub same_at_line : (r : Result (Option Step) ScriptFault) (len : ℕ) (old new : State) (m : Move) → TakesLine r len old new m → new.ended ≡ old.ended
+same_at_line (Ok None) len old new m (next, is, e) = ap (λ (s : State). s.ended) e
+same_at_line (Ok (Some st)) len old new m (is, e) = ap (λ (s : State). s.ended) e
+same_at_line (Err (Refused n kind)) len old new m (is, at, bad, e) = ap (λ (s : State). s.ended) e
+same_at_line (Err ReadFault) len old new m e = absurd e
+same_at_line (Err NoMemory) len old new m e = ap (λ (s : State). s.ended) e

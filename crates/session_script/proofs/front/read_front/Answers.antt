@@ -69,7 +69,21 @@ returns-then-not-branch-clause-front g c =
     let scan = scan_all c.args.start c.loop-at.scanned old i.scan none in
     let short : length old ≤ 16777216 = omega (arith, c.if-len-gt-MOST_BYTES.false) in
     let told = rw shut at i.grows.2 in
-    rw (c.last_front.ensures, e, m.0) (front_rest c.args.start old i.grows.0 _ scan short (to_end _ (g.S.Source.left c.loop-at.source) i.grows.0 told m.1))
+    rw (c.last_front-then-not-branch.ensures, e, m.0) (front_rest c.args.start old i.grows.0 _ scan short (to_end _ (g.S.Source.left c.loop-at.source) i.grows.0 told m.1))
+
+pub returns-then-not-branch-clause-held : goal.returns-then-not-branch-clause-held
+returns-then-not-branch-clause-held g c =
+    let none = rw c.deref.ensures.value at c.in_default.ensures.none in
+    let i = c.loop-at.invariant in
+    let scan = scan_all c.args.start c.loop-at.scanned c.loop-at.bytes.items i.scan none in
+    λ e. absurd (let k : true ≡ false = sym (ap (λ (l : List ℕ). has_feed (drop c.args.start l)) (i.held e).1 ∙ e) ∙ held_scanned c.args.start c.loop-at.bytes.items scan in cc)
+
+pub returns-in_err-read_more-clause-held : goal.returns-in_err-read_more-clause-held
+returns-in_err-read_more-clause-held g c =
+    let none = rw c.deref.ensures.value at c.in_default.ensures.none in
+    let i = c.loop-at.invariant in
+    let scan = scan_all c.args.start c.loop-at.scanned c.loop-at.bytes.items i.scan none in
+    λ e. absurd (let k : true ≡ false = sym (ap (λ (l : List ℕ). has_feed (drop c.args.start l)) (i.held e).1 ∙ e) ∙ held_scanned c.args.start c.loop-at.bytes.items scan in cc)
 
 pub loop-at-preserved : goal.loop-at-preserved
 loop-at-preserved g c =
