@@ -20,6 +20,9 @@ pub fn push_lifted(
 ) -> Result<(), AllocError>
     ensures { OnOk result (out.new ≡ out.old ++ lifted_through limits node.now branch.now classes.now) }
 {
+    if classes.is_empty() {
+        return Ok(());
+    }
     let author = path_above(&node.path, branch.level)?;
     push_all_lifted(out, branch, &author, classes)
 }

@@ -107,6 +107,9 @@ fn hands_up(classes: ArcKind, arc: ArcKind) -> bool
 fn first_of_each(all: Items<Class>) -> Result<Items<Class>, AllocError>
     ensures { IfOk result (λ kept. kept ≡ firsts same_class all) }
 {
+    if all.is_empty() {
+        return Ok(all);
+    }
     let alloc = all.allocator();
     let mut list = ListOp::new(alloc);
     list.explicit = Some(all);

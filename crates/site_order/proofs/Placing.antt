@@ -5,14 +5,17 @@ use Rattle.std.proofs.lemmas.List.Folds.{list_any-append}
 use Rattle.composition.specs.Paths.{limits}
 use Rattle.composition.specs.Trees.{node, none}
 use Rattle.composition.specs.Faults.{site_of}
-use Rattle.composition.specs.Strength.{Ranked, same_place, same_site, best_places}
+use Rattle.composition.specs.Nodes.{Node}
+use Rattle.composition.specs.Strength.{Ranked, best_places}
 use Rattle.prim_trees.specs.declared.tree.Tree.{Tree, out-Tree}
 use Rattle.prim_trees.specs.Meant.{meant}
 use Rattle.prim_trees.specs.Unfolded.{meant_is, node_is}
+use Rattle.site_order.specs.Best.{site_in}
+use Rattle.site_order.specs.declared.best.SiteKey.{SiteKey}
 use Rattle.site_order.specs.Places.{beats, beats_later, kept_after}
 
-pub same_place_is : (a b : Tree) → same_place (meant a) (meant b) ≡ same_site (out-Tree a).node (out-Tree b).node
-same_place_is a b i = same_site (node_is a i) (node_is b i)
+pub key_is : (t : Tree) (k : SiteKey) → k.stack ≡ (out-Tree t).node.stack → k.path ≡ (out-Tree t).node.path → k ≡ site_in (meant t)
+key_is t k stack path = λ i. record { stack = (stack ∙ ap (λ (n : Node). n.stack) (sym (node_is t))) i; path = (path ∙ ap (λ (n : Node). n.path) (sym (node_is t))) i }
 
 pub site_is : (t : Tree) → site_of (meant t) ≡ site_of (node (out-Tree t).node (out-Tree t).here none none)
 site_is t = ap site_of (meant_is t)

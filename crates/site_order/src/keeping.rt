@@ -1,16 +1,17 @@
 // The sites of a tree: which of several places of one site is kept.
-ghost use Rattle.std.specs.Prelude.{◌≡◌, ◌++◌, [], ◌∷◌, IfOk, OnOk, map, filter, nat_le, nat_lt, not};
-ghost use Rattle.std.specs.List.{list_any};
+ghost use Rattle.std.specs.Prelude.{◌≡◌, ◌++◌, [], ◌∷◌, IfOk, OnOk, map, filter};
 ghost use Rattle.composition.specs.Paths.{limits};
 ghost use Rattle.composition.specs.Faults.{site_of};
 ghost use Rattle.composition.specs.Opinions.{is_by_class, is_class_map};
-ghost use Rattle.composition.specs.Strength.{sites, best_places, same_place, not_among};
+ghost use Rattle.composition.specs.Strength.{sites};
 ghost use Rattle.prim_trees.specs.Meant.{meant};
+ghost use Rattle.site_order.specs.Best.{place_at, kept_by, is_alone};
 ghost use Rattle.site_order.specs.Entries.{entry, entries};
-ghost use Rattle.site_order.specs.Places.{trees_shown, beats, beats_later};
+ghost use Rattle.site_order.specs.Places.{trees_shown};
 
+use crate::best::{BestPlaces, best_of, is_best, key_of};
 use crate::order::{strong_of, weak_of};
-use crate::ranks::{Ranked, same_site};
+use crate::ranks::Ranked;
 use class_arcs::same_kind;
 use path_maps::{ArcKind, ArcMap};
 use plain_data::{Items, copy};
@@ -21,7 +22,7 @@ use std::alloc::{AllocError, Global};
 /// The sites of a tree that is not overgrown, from strong to weak.
 ///
 /// A site that is reached twice keeps one place: one of the strong part beats those of the weak part, of several in one part one of
-/// least rank is kept, and of those the first. The time grows with the square of the number of nodes.
+/// least rank is kept, and of those the first. Places are looked up by their sites.
 pub fn sites(alloc: Global, tree: &Tree) -> Result<Items<Site>, AllocError>
     ensures { IfOk result (λ told. told ≡ map site_of (sites limits (meant tree.now))) }
 {
@@ -34,66 +35,48 @@ pub fn sites(alloc: Global, tree: &Tree) -> Result<Items<Site>, AllocError>
 }
 
 /// The nodes at the places that the sites of the tree keep.
+#[tactic(auto, using(crate::proofs::Kept::places_are))]
 pub fn places<'t>(alloc: Global, tree: &'t Tree) -> Result<Vec<&'t Tree>, AllocError>
     ensures { IfOk result (λ kept. trees_shown kept.items ≡ sites limits (meant tree.now)) }
 {
     let strong = strong_of(alloc, tree)?;
     let weak = weak_of(alloc, tree)?;
-    let weaker = not_among(alloc, strong.as_slice(), weak.as_slice())?;
+    let best = best_of(alloc, strong.as_slice())?;
+    let weaker = not_among(alloc, &best, weak.as_slice())?;
+    let best_weaker = best_of(alloc, weaker.as_slice())?;
     let mut kept = Vec::new(alloc);
-    push_best(&mut kept, strong.as_slice())?;
-    push_best(&mut kept, weaker.as_slice())?;
+    push_best(&mut kept, &best, strong.as_slice())?;
+    push_best(&mut kept, &best_weaker, weaker.as_slice())?;
     Ok(kept)
 }
 
-/// Appends the nodes at the places that are kept of a part.
-#[tactic(auto, using(crate::proofs::Placing::kept_is))]
-fn push_best<'t>(out: &mut Vec<&'t Tree>, part: &[Ranked<'t>]) -> Result<(), AllocError>
-    ensures { OnOk result (trees_shown out.new.items ≡ trees_shown out.old.items ++ map (λ e. e.0) (best_places limits [] (entries part.now))) }
+/// Appends the nodes at the places of a part that are the best of their sites.
+fn push_best<'t>(
+    out: &mut Vec<&'t Tree>,
+    best: &BestPlaces,
+    part: &[Ranked<'t>],
+) -> Result<(), AllocError>
+    ensures { OnOk result (trees_shown out.new.items ≡ trees_shown out.old.items ++ map (λ e. e.0) (kept_by (place_at best.now) 0 (entries part.now))) }
 {
     for (i, place) in part.iter().enumerate() {
-        if !is_beaten_before(&part[..i], place) && !is_beaten_later(&part[i + 1..], place) {
+        if is_best(best, place, i)? {
             out.push(place.tree)?;
         }
     }
     Ok(())
 }
 
-/// Whether an earlier place of the same site is of no greater rank.
-fn is_beaten_before(earlier: &[Ranked], place: &Ranked) -> bool
-    ensures { result ≡ list_any (beats (entry place.now)) (entries earlier.now) }
-{
-    for other in earlier {
-        if other.rank <= place.rank && same_place(other.tree, place.tree) {
-            return true;
-        }
-    }
-    false
-}
-
-/// Whether a later place of the same site is of lesser rank.
-fn is_beaten_later(later: &[Ranked], place: &Ranked) -> bool
-    ensures { result ≡ list_any (beats_later (entry place.now)) (entries later.now) }
-{
-    for other in later {
-        if other.rank < place.rank && same_place(other.tree, place.tree) {
-            return true;
-        }
-    }
-    false
-}
-
 /// The weak places of sites that have no strong one.
 fn not_among<'t>(
     alloc: Global,
-    strong: &[Ranked],
+    strong: &BestPlaces,
     weak: &[Ranked<'t>],
 ) -> Result<Vec<Ranked<'t>>, AllocError>
-    ensures { IfOk result (λ left. entries left.items ≡ filter (not_among limits (entries strong.now)) (entries weak.now)) }
+    ensures { IfOk result (λ left. entries left.items ≡ filter (is_alone (place_at strong.now)) (entries weak.now)) }
 {
     let mut left = Vec::new(alloc);
     for place in weak {
-        if is_alone(strong, place) {
+        if is_alone(strong, place)? {
             push_place(&mut left, place)?;
         }
     }
@@ -108,29 +91,12 @@ fn push_place<'t>(out: &mut Vec<Ranked<'t>>, place: &Ranked<'t>) -> Result<(), A
 }
 
 /// Whether no place is of the same site.
-fn is_alone(places: &[Ranked], place: &Ranked) -> bool
-    ensures { result ≡ not_among limits (entries places.now) (entry place.now) }
+fn is_alone(best: &BestPlaces, place: &Ranked) -> Result<bool, AllocError>
+    ensures { IfOk result (λ alone. alone ≡ is_alone (place_at best.now) (entry place.now)) }
 {
-    !has_place(places, place)
-}
-
-fn has_place(places: &[Ranked], place: &Ranked) -> bool
-    ensures { result ≡ list_any (λ e. same_place e.0 (entry place.now).0) (entries places.now) }
-{
-    for other in places {
-        if same_place(other.tree, place.tree) {
-            return true;
-        }
-    }
-    false
-}
-
-/// Whether the nodes of the two trees are one site.
-#[tactic(auto, using(crate::proofs::Placing::same_place_is))]
-fn same_place(a: &Tree, b: &Tree) -> bool
-    ensures { result ≡ same_place (meant a.now) (meant b.now) }
-{
-    same_site(&a.node, &b.node)
+    let key = key_of(place.tree)?;
+    let found = best.get(&key);
+    Ok(found.is_none())
 }
 
 /// The site of a tree's node.

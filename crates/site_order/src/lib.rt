@@ -2,6 +2,7 @@
 //! faults of its arcs.
 #![tactic(auto)]
 
+mod best;
 mod deciding;
 mod faults;
 mod keeping;
