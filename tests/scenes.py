@@ -105,7 +105,9 @@ def check_limits(folder):
     program = os.path.join(TOP, "crates", "usdstage", "out", "usdstage")
     low = subprocess.run([program, "flatten", "root.usda"], cwd=folder, capture_output=True, preexec_fn=small, timeout=600)
     found += differs("262,143 prims in little memory", low, 9, b"", b"usdstage: out of memory\n")
-    found += differs("262,143 prims", run(folder, ["session", "root.usda"]), 0, b"published 0: batches 0, prims 262143\n", b"")
+    more = "begin\nspec def @root.usda@ /one_more\ncommit\npublish\n"
+    found += differs("262,143 prims, and one more by a batch", run(folder, ["session", "root.usda"], more), 7,
+                     b"published 0: batches 0, prims 262143\nbatch 1 accepted\n", b"usdstage: more than 262144 paths\n")
     write(folder, {"root": prims + 'def "one_more" {}\n'})
     found += differs("262,144 prims", run(folder, ["session", "root.usda"]), 7, b"", b"usdstage: more than 262144 paths\n")
     return found + check_bytes(folder, differs) + check_scripts(folder, differs)
@@ -118,6 +120,12 @@ def check_scripts(folder, differs):
     found = differs("a line that is none", run(folder, ["session", "root.usda"], "publish\nnonsense\n"), 6,
                     first + b"published 1: batches 0, prims 0\n", b"usdstage: script line 2: BadLine\n")
     found += differs("a batch without an end", run(folder, ["session", "root.usda"], "begin"), 6, first, b"usdstage: script line 2: Unfinished\n")
+    most = 16777216
+    found += differs("a script of a byte too many", run(folder, ["session", "root.usda"], "publish\n#" + " " * (most - 8)), 6,
+                     first + b"published 1: batches 0, prims 0\n", b"usdstage: script line 2: TooLong\n")
+    write(folder, {"shot": 'def "A" { int x = 1 }', "over": 'over "A" { int x = 2 }'})
+    found += differs("a session layer", run(folder, ["session", "--session", "over.usda", "shot.usda"], "default /A.x"), 0,
+                     b"published 0: batches 0, prims 1\ndefault /A.x: 2\n", b"")
     program = subprocess.Popen([os.path.join(TOP, "usdstage"), "session", "root.usda"], cwd=folder, stdin=subprocess.PIPE, stdout=subprocess.PIPE)
     opened = program.stdout.readline()
     os.remove(os.path.join(folder, "root.usda"))
@@ -138,15 +146,17 @@ def commented(length):
 
 
 def check_bytes(folder, differs):
-    """Openings that fetch the most bytes, 268,435,456, and one more: a root layer with three layers of the most bytes of a layer and one of the rest."""
+    """Openings that fetch the most bytes, 268,435,456, and one more: a root layer with three layers of the most bytes of a layer and one of the
+    rest. A layer that is opened behind the most bytes is too much."""
     root = FIRST.encode() + b"(subLayers = [@a.usda@, @b.usda@, @c.usda@, @d.usda@])\n"
     most = 67108864
+    large = b"usdstage: too many layers or bytes\n"
     found = []
-    for more, status, begin, said in ((0, 0, b"published 0: batches 0, prims 0\nfaults /: 0\n", b""), (1, 8, b"", b"usdstage: too many layers or bytes\n")):
+    for more, status, begin, said in ((0, 8, b"published 0: batches 0, prims 0\nfaults /: 0\n", large), (1, 8, b"", large)):
         for name, data in (("root", root), ("a", commented(most)), ("b", commented(most)), ("c", commented(most)), ("d", commented(most - len(root) + more))):
             with open(os.path.join(folder, name + ".usda"), "wb") as file:
                 file.write(data)
-        found += differs(f"268,435,456 bytes and {more} more", run(folder, ["session", "root.usda"], "faults /\n"), status, begin, said)
+        found += differs(f"268,435,456 bytes and {more} more", run(folder, ["session", "root.usda"], "faults /\nopen @d.usda@\n"), status, begin, said)
     return found
 
 
@@ -157,14 +167,14 @@ def main():
             write(folder, layers)
             got = run(folder, ["session", "root.usda"], script)
         output = f"published 0: batches 0, prims {prims}\n{wanted}".encode()
-        if got.returncode != 0 or got.stdout != output:
+        if got.returncode != 0 or got.stdout != output or got.stderr:
             failed += 1
             print(f"{name}: status {got.returncode} {got.stderr.decode()}\n{got.stdout.decode()}")
     with tempfile.TemporaryDirectory() as folder:
         found = check_limits(folder)
     print("".join(f"{difference}\n" for difference in found), end="")
     failed += len(found)
-    print(f"scenes: {len(SCENES) + 10 - failed} passed, {failed} failed")
+    print(f"scenes: {len(SCENES) + 12 - failed} passed, {failed} failed")
     sys.exit(1 if failed else 0)
 
 
