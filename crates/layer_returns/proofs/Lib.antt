@@ -1,0 +1,4 @@
+pub mod Trees
+pub mod Layers
+pub mod Owners
+pub mod Heads

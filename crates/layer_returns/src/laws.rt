@@ -1,0 +1,30 @@
+// What holds of the words of layers, each law as the clause of a function that does nothing.
+ghost use Rattle.layer_returns.specs.Heads.{HeadsComeBack};
+ghost use Rattle.layer_returns.specs.Layers.{AreLayersTaken, AreTextsTaken};
+ghost use Rattle.layer_returns.specs.Owners.{OwnersSay};
+ghost use Rattle.layer_returns.specs.Trees.{AreTreesRead};
+
+/// The words of the body of a prim or a variant, and those of root prims, make all that stands in them.
+pub fn trees_are_read()
+    ensures { AreTreesRead }
+{}
+
+/// The words of a layer are taken from the first to the last, and their draft stands where the layer says.
+pub fn layers_are_taken()
+    ensures { AreLayersTaken }
+{}
+
+/// The canonical text of a layer that can be written is read to its end, as the layer that stands there.
+pub fn texts_are_taken()
+    ensures { AreTextsTaken }
+{}
+
+/// A prim or a variant says its spec behind its statements, where the children and variants that it names have specs.
+pub fn owners_say_their_specs()
+    ensures { OwnersSay }
+{}
+
+/// The head of a layer comes back from the layer's text, where the default prim is not among its keys as well.
+pub fn heads_come_back()
+    ensures { HeadsComeBack }
+{}

@@ -1,0 +1,11 @@
+//! Taking the words of a layer's canonical text makes a draft that stands where the layer says.
+//!
+//! `specs/Trees.antt` says where a draft stands behind the statements of a prim with all that stands below it, and
+//! `specs/Layers.antt` where it stands behind a whole layer; each law is the clause of a function that does nothing.
+#![tactic(auto)]
+
+mod laws;
+
+pub use laws::{
+    heads_come_back, layers_are_taken, owners_say_their_specs, texts_are_taken, trees_are_read,
+};
