@@ -1,5 +1,5 @@
 -- The words of an offset and a scale behind an item.
-use Rattle.std.proofs.Common.{◌≡◌, ◌∙◌, ◌<◌, ◌≤◌, ◌^◌, ◌&&◌, Bool, true, false, T, List, [], ◌∷◌, Some, Ok, Err, ap, sym, refl, arith}
+use Rattle.std.proofs.Common.{◌≡◌, ◌∙◌, ◌<◌, ◌^◌, ◌&&◌, Bool, true, false, T, List, [], ◌∷◌, Some, Ok, Err, ap, sym, refl, arith}
 use Rattle.std.specs.Prelude.{if◌then◌else◌, codes, ℤ, pos, negsuc, unsigned_abs, ◌≤ℤ◌, nat_le, int_le}
 use Rattle.std.specs.Fmt.{signed_decimal}
 use Rattle.std.proofs.lemmas.Bool.Decides.{nat_tests}
