@@ -1,5 +1,5 @@
 -- What an owner says behind its statements.
-use Rattle.std.proofs.Common.{◌≡◌, ◌∙◌, ℕ, true, List, [], ◌∷◌, ◌++◌, append_assoc, append-nil, Option, Some, None, is_some, ap, sym, refl}
+use Rattle.std.proofs.Common.{◌≡◌, ◌∙◌, ℕ, true, suc, List, [], ◌∷◌, ◌++◌, append_assoc, append-nil, Option, Some, None, is_some, ap, sym, refl}
 use Rattle.plain_data.specs.Ends.{last, last-push, front-push}
 use Rattle.sdf_paths.specs.declared.element.Element.{Element}
 use Rattle.sdf_paths.specs.declared.element.Element.TheVariants.{Prim, Selection}
@@ -11,11 +11,12 @@ use Rattle.spec_properties.specs.declared.property.Property.{Property}
 use Rattle.usda_fields.specs.declared.owner.OwnerDraft.{OwnerDraft}
 use Rattle.usda_writer.specs.Canonical.{spec_below}
 use Rattle.usda_drafts.specs.Owners.{owner_of, spec_of, with_child, with_set, with_variant, and_variant}
+use Rattle.usda_drafts.specs.declared.owner.Owner.{Owner}
 use Rattle.layer_reads.specs.Lists.{AreAll}
 use Rattle.metadata_reads.specs.Standing.{Standing}
 use Rattle.prim_reads.specs.Bodies.{inside}
 use Rattle.prim_reads.specs.Properties.{with_more, marks_of}
-use Rattle.layer_returns.specs.Owners.{HasVariants, OwnersSay}
+use Rattle.layer_returns.specs.Owners.{HasVariants, HasAllBelow, OwnersSay}
 use Rattle.layer_returns.specs.Trees.{behind_properties, behind_child, behind_children, behind_variant, behind_variants, in_set, behind_sets, behind_orders, from_properties, from_sets, from_children, behind_body}
 
 -- the parts of an owner that a spec has
@@ -84,14 +85,20 @@ module _ (specs : SpecEntries) (behind : List Element → Specifier → Spec →
 abbrev pub spec_by : Parts → Spec
 spec_by p = record p.said.spec { body = record p.said.spec.body { type_name = p.ty; children = p.names; properties = p.properties; variant_names = p.sets } }
 
-pub owners_say : OwnersSay
-unfolding owner_of spec_of
-owners_say specs levels path specifier ty spec round at is also below =
+pub body_said : (specs : SpecEntries) (levels : ℕ) (path : List Element) (specifier : Specifier) (ty : Option (List ℕ)) (spec : Spec) (round : Owner) (at : Standing) → HasAllBelow specs path spec
+    → parts_of (behind_body specs (suc levels) path specifier spec (inside path specifier ty spec round at))
+    ≡ record { said = behind_orders path specifier spec; ty = ty; names = spec.body.children; properties = spec.body.properties; sets = spec.body.variant_names }
+unfolding owner_of
+body_said specs levels path specifier ty spec round at below =
     let behind : List Element → Specifier → Spec → Standing → Standing = behind_body specs levels in
     let begun : Standing = inside path specifier ty spec round at in
-    ap spec_by
-    (children_said specs behind path spec.body.children (from_children specs behind path specifier spec begun) below.children
+    children_said specs behind path spec.body.children (from_children specs behind path specifier spec begun) below.children
     ∙ ap (λ (p : Parts). record p { names = p.names ++ spec.body.children }) (sets_said specs behind path spec.body.variant_names (from_sets specs behind path specifier spec begun) below.variants)
-    ∙ ap (λ (p : Parts). record p { names = p.names ++ spec.body.children; sets = p.sets ++ spec.body.variant_names }) (properties_said spec.body.properties (from_properties specs behind path specifier spec begun)))
+    ∙ ap (λ (p : Parts). record p { names = p.names ++ spec.body.children; sets = p.sets ++ spec.body.variant_names }) (properties_said spec.body.properties (from_properties specs behind path specifier spec begun))
+
+pub owners_say : OwnersSay
+unfolding spec_of
+owners_say specs levels path specifier ty spec round at is also below =
+    ap spec_by (body_said specs levels path specifier ty spec round at below)
     ∙ ap (λ s. spec_by (record { said = behind_orders path s spec; ty = ty; names = spec.body.children; properties = spec.body.properties; sets = spec.body.variant_names })) is
     ∙ ap (λ t. spec_by (record { said = behind_orders path spec.body.specifier spec; ty = t; names = spec.body.children; properties = spec.body.properties; sets = spec.body.variant_names })) also

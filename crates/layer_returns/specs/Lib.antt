@@ -2,3 +2,4 @@ pub mod Trees
 pub mod Layers
 pub mod Owners
 pub mod Heads
+pub mod Whole

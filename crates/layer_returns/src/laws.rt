@@ -3,6 +3,7 @@ ghost use Rattle.layer_returns.specs.Heads.{HeadsComeBack};
 ghost use Rattle.layer_returns.specs.Layers.{AreLayersTaken, AreTextsTaken};
 ghost use Rattle.layer_returns.specs.Owners.{OwnersSay};
 ghost use Rattle.layer_returns.specs.Trees.{AreTreesRead};
+ghost use Rattle.layer_returns.specs.Whole.{SpecsAreTheLayers};
 
 /// The words of the body of a prim or a variant, and those of root prims, make all that stands in them.
 pub fn trees_are_read()
@@ -27,4 +28,9 @@ pub fn owners_say_their_specs()
 /// The head of a layer comes back from the layer's text, where the default prim is not among its keys as well.
 pub fn heads_come_back()
     ensures { HeadsComeBack }
+{}
+
+/// Each spec that is read from a layer's text is the layer's, where all prims and variants that the layer names have specs.
+pub fn specs_are_the_layers()
+    ensures { SpecsAreTheLayers }
 {}
