@@ -59,7 +59,7 @@ among_more : (some all : SpecEntries) (q : List Element) (s : Spec) → AreAmong
 unfolding with_spec_at
 among_more some all q s among is p x h = one_more p q s (λ x. spec_at p all ≡ Some x) (λ same. subst (λ r. spec_at r all ≡ Some s) (sym same) is) some (among p) x h
 
-properties_specs : (ps : List Property) (at : Standing) → (behind_properties ps at).specs ≡ at.specs
+pub properties_specs : (ps : List Property) (at : Standing) → (behind_properties ps at).specs ≡ at.specs
 properties_specs [] at = refl
 properties_specs (p ∷ ps) at = properties_specs ps (with_more p (marks_of p) at)
 

@@ -3,3 +3,4 @@ pub mod Layers
 pub mod Owners
 pub mod Heads
 pub mod Whole
+pub mod Reached

@@ -2,6 +2,7 @@
 ghost use Rattle.layer_returns.specs.Heads.{HeadsComeBack};
 ghost use Rattle.layer_returns.specs.Layers.{AreLayersTaken, AreTextsTaken};
 ghost use Rattle.layer_returns.specs.Owners.{OwnersSay};
+ghost use Rattle.layer_returns.specs.Reached.{ReachedSpecsAreRead};
 ghost use Rattle.layer_returns.specs.Trees.{AreTreesRead};
 ghost use Rattle.layer_returns.specs.Whole.{SpecsAreTheLayers};
 
@@ -33,4 +34,9 @@ pub fn heads_come_back()
 /// Each spec that is read from a layer's text is the layer's, where all prims and variants that the layer names have specs.
 pub fn specs_are_the_layers()
     ensures { SpecsAreTheLayers }
+{}
+
+/// The spec at each path that is reached from the root prims of a layer is read from the layer's text.
+pub fn reached_specs_are_read()
+    ensures { ReachedSpecsAreRead }
 {}

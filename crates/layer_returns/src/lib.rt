@@ -7,6 +7,6 @@
 mod laws;
 
 pub use laws::{
-    heads_come_back, layers_are_taken, owners_say_their_specs, specs_are_the_layers,
-    texts_are_taken, trees_are_read,
+    heads_come_back, layers_are_taken, owners_say_their_specs, reached_specs_are_read,
+    specs_are_the_layers, texts_are_taken, trees_are_read,
 };
