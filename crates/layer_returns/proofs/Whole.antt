@@ -7,7 +7,7 @@ use Rattle.sdf_paths.specs.DerivedOrder.{path_cmp_same}
 use Rattle.sdf_paths.specs.Order.{path_cmp}
 use Rattle.sdf_paths.specs.declared.element.Element.{Element}
 use Rattle.sdf_paths.specs.declared.element.Element.TheVariants.{Prim, Selection}
-use Rattle.sdf_specs.specs.Layers.{SpecEntries, spec_at}
+use Rattle.sdf_specs.specs.Layers.{LayerTable, SpecEntries, spec_at}
 use Rattle.sdf_specs.proofs.PathLemmas.{same_path}
 use Rattle.spec_parts.specs.declared.items.Specifier.{Specifier}
 use Rattle.spec_parts.specs.declared.items.Specifier.TheVariants.{Over}
@@ -155,3 +155,8 @@ bodies_among specs (suc levels) path specifier ty spec round at is also whole h 
 pub specs_are_the_layers : SpecsAreTheLayers
 specs_are_the_layers layer whole =
     children_among layer.specs (behind_body layer.specs (length layer.specs)) (IsWhole layer.specs (length layer.specs)) (bodies_among layer.specs (length layer.specs)) [] layer.head.root_names (behind_front layer.head) whole (λ p s h. absurd cc)
+
+-- the root prims have specs
+pub roots_there : (layer : LayerTable) → AreChildrenWhole layer.specs (IsWhole layer.specs (length layer.specs)) [] layer.head.root_names → AreAll (λ name. is_some (spec_below layer.specs [] (Prim name)) ≡ true) layer.head.root_names
+roots_there layer whole =
+    children_there layer.specs (behind_body layer.specs (length layer.specs)) (IsWhole layer.specs (length layer.specs)) (bodies_among layer.specs (length layer.specs)) [] layer.head.root_names whole

@@ -4,3 +4,4 @@ pub mod Owners
 pub mod Heads
 pub mod Whole
 pub mod Reached
+pub mod Theorem

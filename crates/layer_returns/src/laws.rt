@@ -3,6 +3,7 @@ ghost use Rattle.layer_returns.specs.Heads.{HeadsComeBack};
 ghost use Rattle.layer_returns.specs.Layers.{AreLayersTaken, AreTextsTaken};
 ghost use Rattle.layer_returns.specs.Owners.{OwnersSay};
 ghost use Rattle.layer_returns.specs.Reached.{ReachedSpecsAreRead};
+ghost use Rattle.layer_returns.specs.Theorem.{LayersComeBack};
 ghost use Rattle.layer_returns.specs.Trees.{AreTreesRead};
 ghost use Rattle.layer_returns.specs.Whole.{SpecsAreTheLayers};
 
@@ -39,4 +40,9 @@ pub fn specs_are_the_layers()
 /// The spec at each path that is reached from the root prims of a layer is read from the layer's text.
 pub fn reached_specs_are_read()
     ensures { ReachedSpecsAreRead }
+{}
+
+/// Reading the canonical text of a layer gives that layer back.
+pub fn layers_come_back()
+    ensures { LayersComeBack }
 {}

@@ -1,12 +1,13 @@
-//! Taking the words of a layer's canonical text makes a draft that stands where the layer says.
+//! Reading the canonical text of a layer gives that layer back.
 //!
 //! `specs/Trees.antt` says where a draft stands behind the statements of a prim with all that stands below it, and
-//! `specs/Layers.antt` where it stands behind a whole layer; each law is the clause of a function that does nothing.
+//! `specs/Layers.antt` where it stands behind a whole layer; `specs/Theorem.antt` has the theorem. Each law is the clause
+//! of a function that does nothing.
 #![tactic(auto)]
 
 mod laws;
 
 pub use laws::{
-    heads_come_back, layers_are_taken, owners_say_their_specs, reached_specs_are_read,
-    specs_are_the_layers, texts_are_taken, trees_are_read,
+    heads_come_back, layers_are_taken, layers_come_back, owners_say_their_specs,
+    reached_specs_are_read, specs_are_the_layers, texts_are_taken, trees_are_read,
 };
