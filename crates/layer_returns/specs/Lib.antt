@@ -5,3 +5,4 @@ pub mod Heads
 pub mod Whole
 pub mod Reached
 pub mod Theorem
+pub mod Examples

@@ -1,4 +1,5 @@
 // What holds of the words of layers, each law as the clause of a function that does nothing.
+ghost use Rattle.layer_returns.specs.Examples.{ExamplesComeBack};
 ghost use Rattle.layer_returns.specs.Heads.{HeadsComeBack};
 ghost use Rattle.layer_returns.specs.Layers.{AreLayersTaken, AreTextsTaken};
 ghost use Rattle.layer_returns.specs.Owners.{OwnersSay};
@@ -45,4 +46,9 @@ pub fn reached_specs_are_read()
 /// Reading the canonical text of a layer gives that layer back.
 pub fn layers_come_back()
     ensures { LayersComeBack }
+{}
+
+/// A layer whose parts come back.
+pub fn examples_come_back()
+    ensures { ExamplesComeBack }
 {}

@@ -8,6 +8,7 @@
 mod laws;
 
 pub use laws::{
-    heads_come_back, layers_are_taken, layers_come_back, owners_say_their_specs,
-    reached_specs_are_read, specs_are_the_layers, texts_are_taken, trees_are_read,
+    examples_come_back, heads_come_back, layers_are_taken, layers_come_back,
+    owners_say_their_specs, reached_specs_are_read, specs_are_the_layers, texts_are_taken,
+    trees_are_read,
 };
