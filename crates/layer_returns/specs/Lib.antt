@@ -6,3 +6,4 @@ pub mod Whole
 pub mod Reached
 pub mod Theorem
 pub mod Examples
+pub mod Texts

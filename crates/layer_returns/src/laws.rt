@@ -4,6 +4,7 @@ ghost use Rattle.layer_returns.specs.Heads.{HeadsComeBack};
 ghost use Rattle.layer_returns.specs.Layers.{AreLayersTaken, AreTextsTaken};
 ghost use Rattle.layer_returns.specs.Owners.{OwnersSay};
 ghost use Rattle.layer_returns.specs.Reached.{ReachedSpecsAreRead};
+ghost use Rattle.layer_returns.specs.Texts.{TextsSayTheirLayers};
 ghost use Rattle.layer_returns.specs.Theorem.{LayersComeBack};
 ghost use Rattle.layer_returns.specs.Trees.{AreTreesRead};
 ghost use Rattle.layer_returns.specs.Whole.{SpecsAreTheLayers};
@@ -51,4 +52,9 @@ pub fn layers_come_back()
 /// A layer whose parts come back.
 pub fn examples_come_back()
     ensures { ExamplesComeBack }
+{}
+
+/// The canonical text of a layer is a text that says the layer, where its bytes pass the checks before the first word.
+pub fn texts_say_their_layers()
+    ensures { TextsSayTheirLayers }
 {}
