@@ -1,0 +1,11 @@
+-- A layer that comes back: sublayers, an order, a prim with a type, a reference with an offset, a relationship and a variant set.
+use Rattle.layer_texts.specs.Examples.{small}
+use Rattle.layer_texts.specs.Writable.{is_writable_layer}
+use Rattle.layer_returns.specs.Layers.{IsLayerKept}
+use Rattle.layer_returns.specs.Theorem.{IsTree}
+use Rattle.std.specs.Prelude.{◌≡◌, true}
+
+pub record ExamplesComeBack : Type 0 where
+  pub small_kept : IsLayerKept small
+  pub small_tree : IsTree small
+  pub small_written : is_writable_layer small ≡ true

@@ -1,0 +1,14 @@
+pub mod Words
+pub mod Items
+pub mod Lists
+pub mod EditChain
+pub mod EditedLists
+pub mod Offsets
+pub mod References
+pub mod Fields
+pub mod Tables
+pub mod Meta
+pub mod OwnerMeta
+pub mod Selections
+pub mod Sublayers
+pub mod Specs

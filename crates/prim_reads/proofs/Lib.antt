@@ -1,0 +1,10 @@
+pub mod Bodies
+pub mod Prims
+pub mod Variants
+pub mod Hands
+pub mod Headings
+pub mod PropertyLists
+pub mod PropertyValues
+pub mod Lefts
+pub mod Attributes
+pub mod Relationships
