@@ -13,6 +13,3 @@ pub use laws::{a_meant_name_has_the_same_stack, no_stack_is_cut};
 pub use once::each_once;
 pub use prim_view::StackName;
 pub use stacks::{LayerStack, MAX_LAYERS, stack};
-
-#[cfg(test)]
-mod tests;
