@@ -9,14 +9,15 @@ use Rattle.composition.specs.Trees.{Tree}
 use Rattle.composition.specs.Compose.{decided, is_overgrown_on_the_way}
 use Rattle.prim_index.specs.Answer.{stage_node_at}
 use Rattle.prim_index.specs.Children.{node_at, node_in_round}
-use Rattle.prim_index.specs.Depths.{tree_below, frames_below, rounds_below}
+use Rattle.prim_index.specs.Depths.{tree_below, frames_below, round_below, rounds_below}
 use Rattle.prim_index.specs.Grown.{with_round}
 use Rattle.prim_index.specs.Loading.{loads}
 use Rattle.prim_index.specs.Reading.{said}
 use Rattle.prim_index.specs.Settling.{framed}
 use Rattle.prim_index.specs.declared.grow.Payloads.TheVariants.{Ruled}
 use Rattle.prim_index.proofs.Answering.{ruled, stage_is}
-use Rattle.prim_index.proofs.Depths.{no_frames, frames_more}
+use Rattle.prim_index.proofs.Depths.{no_frames, frames_more, next_round}
+use Rattle.prim_index.proofs.Steps.{round_made, rounds_settled}
 
 no_more : {A : Type 0} → (xs ys : List A) → length (xs ++ ys) ≡ length xs → xs ++ ys ≡ xs
 no_more xs [] h = append-nil xs
@@ -42,6 +43,19 @@ module _ (l : Limits) (h : Node → Here) where
       let same : length g.choices ≡ count = eqb-true (length g.choices) count (sym told ∙ on) in
       made ∙ ap (tree_below l h d nodes nodes) (round_framed n above f ∙ ap (λ (x : Frame). framed n x above) (same_frame t f g after (same ∙ counted) off))
 
+  pub frame_settled : (d k nodes count : ℕ) (n : Node) (above : List Frame) (f g : Frame) (t : Tree) (settled : Bool) → 0 < k → nodes ≡ l.nodes
+      → t ≡ tree_below l h d nodes nodes (node_in_round n above f) → g ≡ with_round l t f → count ≡ length f.choices → settled ≡ (length g.choices == count) → settled ≡ true
+      → g ≡ rounds_below l h d k n above f
+  frame_settled d k nodes count n above f g t settled some most made after counted told on =
+      rounds_settled l h d k count n above f g settled some (round_made l h d nodes n (node_in_round n above f) above f g t most refl made after) counted told on
+
+  pub frame_moved : (d k nodes count : ℕ) (n : Node) (above : List Frame) (f g last : Frame) (t : Tree) (settled : Bool) → 0 < k → nodes ≡ l.nodes
+      → t ≡ tree_below l h d nodes nodes (node_in_round n above f) → g ≡ with_round l t f → count ≡ length f.choices → settled ≡ (length g.choices == count) → settled ≡ false
+      → last ≡ rounds_below l h d (k - 1) n above g → last ≡ rounds_below l h d k n above f
+  frame_moved d k nodes count n above f g last t settled some most made after counted told off goes =
+      let round : g ≡ round_below l h d n above f = round_made l h d nodes n (node_in_round n above f) above f g t most refl made after in
+      goes ∙ sym (next_round l h d k n above f g some round (ap (λ (i : ℕ). length g.choices == i) (sym counted) ∙ sym told ∙ off))
+
 module _ (l : Limits) (w : World) (p : Path) where
   pub bare_stage : (count : ℕ) (n : Node) → n ≡ bare_node Root p [] l.depth identity → count ≡ length n.path → count ≡ 0 → n ≡ stage_node_at l w p
   bare_stage count n is counted empty =
@@ -59,7 +73,6 @@ module _ (l : Limits) (w : World) (p : Path) where
       → frame ≡ rounds_below l (said l w) l.depth rounds n above first → framed n frame above ≡ stage_node_at l w p
   unfolding framed
   stage_framed count rounds n above first frame on is counted some most up told began made =
-      let b : Node = bare_node Root p [] l.depth identity in
       let long : count ≡ length p = counted ∙ ap (λ (m : Node). length m.path) is in
       let up_is : above ≡ frames_below l (said l w) l.depth (is_loaded w) (bare_node Root p [] l.depth identity) (length p - 1) =
       up ∙ (λ i. frames_below l (said l w) l.depth (ruled w i) (is i) (long i - 1)) in
