@@ -13,7 +13,7 @@ use Rattle.composition.specs.World.{World, StackName}
 use Rattle.composition.specs.Arcs.{Opinion, Item, Authored, opinions_at, gives, same_item, strongest_folded, edits_of, arcs_of, variant_sets_of, selections_of, is_empty}
 use Rattle.layer_stack.specs.Meant.{defined_stack}
 use Rattle.layer_stack.specs.declared.stacks.LayerStack.{LayerStack}
-use Rattle.arc_expand.specs.Authoring.{IsStackOf, opinion_of, opinions_in, edit_of, edits, folded_items, authored_by, authored, variant_sets, selections, has_spec}
+use Rattle.arc_expand.specs.Authoring.{IsStackOf, opinion_of, opinions_in, edit_of, edits, folded_items, authored_by, authored_in, authored, sets_in, variant_sets, selections, has_spec}
 use Rattle.arc_expand.specs.Authors.{author_in}
 use Rattle.arc_expand.specs.Outcomes.{HasTargets}
 use Rattle.arc_expand.proofs.Given.{folded_given}
@@ -37,21 +37,28 @@ authors_there es authors tells =
     (λ i given. ap (λ (a : Option Text). is_some a) (tells i) ∙ (author_there es i ∙ given))
     (strongest_folded same_item (map (λ e. e.1) es)) (folded_given same_item item_itself es)
 
-module _ (w : World) (s : StackName) (q : Path) where
-  pub authored_is : (k : ArcKind) → HasTargets w → (os : List Opinion) → os ≡ here w s q → (authors : Item → Option Text) → ((x : Item) → authors x ≡ author_in (edits k os) x)
-      → map (authored_by w s authors) (folded_items (edits k os)) ≡ authored w s q k
-  unfolding authored authored_by edit_of folded_items
-  authored_is k has os is authors tells =
-      ap (λ (f : Item → Authored). map f (strongest_folded same_item (map (λ e. e.1) (edits_of limits w k os))))
-      (λ j. λ i. record {
-        item = i;
-        author = (ap (λ (a : Option Text). unwrap_or a []) (tells i) ∙ author_is w (edits_of limits w k os) i) j;
-        outcome = sym (outcome_agrees w has s i) j;
-      })
-      ∙ ap (λ (x : List Opinion). arcs_of limits w s x k) is
+pub authored_is : (w : World) (s : StackName) (k : ArcKind) → HasTargets w → (os : List Opinion) (authors : Item → Option Text) → ((x : Item) → authors x ≡ author_in (edits k os) x)
+    → map (authored_by w s authors) (folded_items (edits k os)) ≡ authored_in w s os k
+unfolding authored_in authored_by edit_of folded_items
+authored_is w s k has os authors tells =
+    ap (λ (f : Item → Authored). map f (strongest_folded same_item (map (λ e. e.1) (edits_of limits w k os))))
+    (λ j. λ i. record {
+      item = i;
+      author = (ap (λ (a : Option Text). unwrap_or a []) (tells i) ∙ author_is w (edits_of limits w k os) i) j;
+      outcome = sym (outcome_agrees w has s i) j;
+    })
 
-  pub variant_sets_are : (os : List Opinion) → os ≡ here w s q → folded same_text (reverse (map (λ o. o.spec.arcs.variant_sets) os)) ≡ variant_sets w s q
-  unfolding variant_sets
+pub sets_are : (os : List Opinion) → folded same_text (reverse (map (λ o. o.spec.arcs.variant_sets) os)) ≡ sets_in os
+unfolding sets_in
+sets_are os = refl
+
+module _ (w : World) (s : StackName) (q : Path) where
+  pub authored_here : (k : ArcKind) (os : List Opinion) → os ≡ here w s q → authored_in w s os k ≡ authored w s q k
+  unfolding authored_in authored
+  authored_here k os is = ap (λ (x : List Opinion). arcs_of limits w s x k) is
+
+  pub variant_sets_are : (os : List Opinion) → os ≡ here w s q → sets_in os ≡ variant_sets w s q
+  unfolding sets_in variant_sets
   variant_sets_are os is = ap (λ (x : List Opinion). variant_sets_of x) is
 
   pub selections_are : (os : List Opinion) → os ≡ here w s q → selections_of os ≡ selections w s q

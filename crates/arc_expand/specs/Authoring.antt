@@ -47,6 +47,14 @@ folded_items edits = strongest_folded same_item (map (λ e. e.1) edits)
 unfoldable pub authored_by : World → StackName → (Item → Option Text) → Item → Authored
 authored_by w s author i = record { item = i; author = unwrap_or (author i) []; outcome = outcome_of w s i }
 
+-- the items of a kind that opinions make, with their authors and outcomes
+unfoldable pub authored_in : World → StackName → List Opinion → ArcKind → List Authored
+authored_in w s os k = arcs_of limits w s os k
+
+-- the variant sets that opinions make
+unfoldable pub sets_in : List Opinion → List Text
+sets_in os = variant_sets_of os
+
 -- the items of a kind, with their authors and outcomes
 unfoldable pub authored : World → StackName → Path → ArcKind → List Authored
 authored w s q k = arcs_of limits w s (opinions_at limits w (defined_stack w s) q) k

@@ -5,7 +5,7 @@ ghost use Rattle.composition.specs.Arcs.{selections_of};
 ghost use Rattle.std.specs.Option.{is_some};
 ghost use Rattle.std.specs.BTreeMap.{get};
 ghost use Rattle.arc_expand.specs.ItemOrder.{item_cmp};
-ghost use Rattle.arc_expand.specs.Authoring.{IsStackOf, authored_by, authored, variant_sets, selections, has_spec};
+ghost use Rattle.arc_expand.specs.Authoring.{IsStackOf, authored_by, authored_in, authored, sets_in, variant_sets, selections, has_spec};
 
 use crate::authors::authors;
 use crate::edits::{edits, folded_items, strongest_folded};
@@ -65,8 +65,29 @@ fn authored_items(
     Ok(all)
 }
 
-/// The items of a kind that the layers of a stack author at a path, each with the strongest layer that gave it, and where it leads or
-/// why it is no arc.
+/// The items of a kind that opinions of a stack's layers make, each with the strongest layer that gave it, and where it leads or why it
+/// is no arc.
+///
+/// # Errors
+///
+/// Memory ran out.
+pub fn authored_in(
+    alloc: Global,
+    world: &World,
+    stack: &LayerStack,
+    opinions: &[LayerOpinion<'_>],
+    kind: ArcKind,
+) -> Result<Items<Authored>, AllocError>
+    requires { IsStackOf (look_ups world.now) stack.now }
+    ensures { IfOk result (λ all. all ≡ authored_in (look_ups world.now) stack.now.name opinions.now kind) }
+{
+    let edits = edits(alloc, kind, opinions)?;
+    let items = folded_items(alloc, edits.as_slice())?;
+    let authors = authors(alloc, edits.as_slice())?;
+    authored_items(alloc, world, stack, &authors, items.as_slice())
+}
+
+/// The items of a kind that the layers of a stack author at a path.
 ///
 /// # Errors
 ///
@@ -82,10 +103,7 @@ pub fn authored_at(
     ensures { IfOk result (λ all. all ≡ authored (look_ups world.now) stack.now.name at.now kind) }
 {
     let opinions = opinions(alloc, world, stack, at)?;
-    let edits = edits(alloc, kind, opinions.as_slice())?;
-    let items = folded_items(alloc, edits.as_slice())?;
-    let authors = authors(alloc, edits.as_slice())?;
-    authored_items(alloc, world, stack, &authors, items.as_slice())
+    authored_in(alloc, world, stack, opinions.as_slice(), kind)
 }
 
 /// Copies of the edits of variant sets.
@@ -97,6 +115,20 @@ fn set_edits(alloc: Global, opinions: &[LayerOpinion<'_>]) -> Result<Vec<ListOp<
         all.push(copy(&opinion.spec.arcs.variant_sets)?)?;
     }
     Ok(all)
+}
+
+/// The variant sets that opinions make.
+///
+/// # Errors
+///
+/// Memory ran out.
+pub fn variant_sets_in(
+    alloc: Global,
+    opinions: &[LayerOpinion<'_>],
+) -> Result<Items<Text>, AllocError>
+    ensures { IfOk result (λ sets. sets ≡ sets_in opinions.now) }
+{
+    strongest_folded(alloc, set_edits(alloc, opinions)?)
 }
 
 /// The variant sets that the layers of a stack author at a path.
@@ -114,7 +146,7 @@ pub fn variant_sets_at(
     ensures { IfOk result (λ sets. sets ≡ variant_sets (look_ups world.now) stack.now.name at.now) }
 {
     let opinions = opinions(alloc, world, stack, at)?;
-    strongest_folded(alloc, set_edits(alloc, opinions.as_slice())?)
+    variant_sets_in(alloc, opinions.as_slice())
 }
 
 /// Appends copies of selections.
@@ -127,8 +159,12 @@ fn push_selections(out: &mut Items<(Text, Text)>, selections: &Selections) -> Re
     Ok(())
 }
 
-/// Copies of the selections of all opinions.
-fn all_selections(
+/// The variants that opinions select, the strongest first, those of one layer in the order of sets.
+///
+/// # Errors
+///
+/// Memory ran out.
+pub fn selections_in(
     alloc: Global,
     opinions: &[LayerOpinion<'_>],
 ) -> Result<Items<(Text, Text)>, AllocError>
@@ -156,7 +192,7 @@ pub fn selections_at(
     ensures { IfOk result (λ all. all ≡ selections (look_ups world.now) stack.now.name at.now) }
 {
     let opinions = opinions(alloc, world, stack, at)?;
-    all_selections(alloc, opinions.as_slice())
+    selections_in(alloc, opinions.as_slice())
 }
 
 /// Whether some layer of a stack has a spec at a path.

@@ -24,26 +24,18 @@ module _ (l : Limits) (h : Node → Here) where
   unfolding full_tree
   full = λ i n. meant_tree l.depth l.nodes n i
 
-ruled : (w : World) → loads w Ruled ≡ is_loaded w
+pub ruled : (w : World) → loads w Ruled ≡ is_loaded w
 unfolding loads
 ruled w = λ i q. is_loaded w q
 
 module _ (l : Limits) (w : World) (p : Path) where
-  stage_is : stage_node_at l w p
+  pub stage_is : stage_node_at l w p
       ≡ (let n = bare_node Root p [] l.depth identity in let r : Node = record n { frames = frames_below l (said l w) l.depth (is_loaded w) n (length p) } in r)
   unfolding stage_node_at frames_below
   stage_is = λ i.
       let n = bare_node Root p [] l.depth identity in
       let r : Node = record n { frames = frames_along l (full l (said l w) i) (is_loaded w) n (length p) } in
       r
-
-  pub stage_made : (depth count : ℕ) (bare n : Node) (frames : List Frame) → depth ≡ l.depth → bare ≡ bare_node Root p [] depth identity → count ≡ length bare.path
-      → frames ≡ frames_below l (said l w) depth (loads w Ruled) bare count → n ≡ (let r : Node = record bare { frames = frames } in r) → n ≡ stage_node_at l w p
-  stage_made depth count bare n frames deep begun counted framed joined =
-      let start : bare ≡ bare_node Root p [] l.depth identity = begun ∙ ap (λ k. bare_node Root p [] k identity) deep in
-      let all : frames ≡ frames_below l (said l w) l.depth (is_loaded w) (bare_node Root p [] l.depth identity) (length p) =
-      framed ∙ (λ i. frames_below l (said l w) (deep i) (ruled w i) (start i) ((counted ∙ ap (λ (m : Node). length m.path) start) i)) in
-      joined ∙ (λ i. let r : Node = record (start i) { frames = all i } in r) ∙ sym stage_is
 
   index_is : index_at l w p ≡ indexed_of l (tree_below l (said l w) l.depth l.nodes l.nodes (stage_node_at l w p))
   unfolding index_at indexed_of stage_node_at said

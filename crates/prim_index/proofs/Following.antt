@@ -1,8 +1,10 @@
 -- Which paths are within the limits, and what the tests of an arc tell.
-use Rattle.std.proofs.Common.{◌≡◌, ◌∙◌, sym, ap, refl, subst, arith, ℕ, zero, suc, ◌≤◌, ◌+◌, ◌-◌, ◌&&◌, Bool, true, false, List, [], ◌∷◌, ◌++◌, length, take, drop, Option, Some, None, IsTrue, ◌↔◌}
+use Rattle.std.proofs.Common.{◌≡◌, ◌∙◌, sym, ap, refl, subst, arith, ℕ, zero, suc, ◌≤◌, ◌+◌, ◌-◌, ◌&&◌, ◌||◌, Bool, true, false, List, [], ◌∷◌, ◌++◌, length, take, drop, Option, Some, None, IsTrue, ◌↔◌}
 use Rattle.std.specs.Prelude.{nat_le, not, ◌==◌}
+use Rattle.std.specs.List.{list_any}
 use Rattle.std.specs.Option.{IsSomeAnd, option_map, is_some, is_none}
 use Rattle.std.proofs.lemmas.Bool.{leb-true, le-leb}
+use Rattle.std.proofs.lemmas.List.Folds.{list_any-append}
 use Rattle.std.proofs.lemmas.Slice.Eq.{bytes_eq-Decides}
 use Rattle.sdf_paths.specs.declared.element.Element.{Element}
 use Rattle.sdf_paths.specs.declared.element.Element.TheVariants.{Prim, Property, Selection}
@@ -13,10 +15,10 @@ use Rattle.composition.specs.Texts.{Text, both, same_text}
 use Rattle.composition.specs.Paths.{Path, limits, fits, is_prefix, up, tail}
 use Rattle.composition.specs.World.{StackName, Root, Asset, same_stack, in_range}
 use Rattle.sdf_values.specs.Scales.{Offset, composed}
-use Rattle.composition.specs.Arcs.{Lead, Reason}
-use Rattle.composition.specs.Nodes.{Node, is_related, child_chain, child_path, refusal}
+use Rattle.composition.specs.Arcs.{Lead}
+use Rattle.composition.specs.Nodes.{is_related}
 use Rattle.layer_stack.proofs.Names.{same_text_same, same_itself as same_text_itself}
-use Rattle.prim_index.specs.Following.{if_fits, if_in_range, on_chain, first_of_four}
+use Rattle.prim_index.specs.Following.{if_fits, if_in_range, on_chain}
 use Rattle.prim_index.proofs.Names.{both_hold as both_are, both_parts}
 
 pub by_test : {A : Type 0} → (b : Bool) → (b ≡ true → A) → (b ≡ false → A) → A
@@ -120,8 +122,19 @@ none_in_range inner outer o r is told = told ∙ ap (λ (x : Option Offset). is_
     by_range true = refl
     by_range false = refl
 
-pub refusal_is : (n : Node) (j : ℕ) (a : Lead) (chain : List (StackName × Path)) (cyclic last outside long : Bool) (r : Option Reason) → chain ≡ child_chain n j
-    → cyclic ≡ on_chain chain a → last ≡ (n.depth == 0) → outside ≡ not (in_range (composed a.offset n.offset)) → long ≡ not (fits limits (child_path n j a.target))
-    → r ≡ first_of_four cyclic last outside long → r ≡ refusal limits n j a
-refusal_is n j a chain cyclic last outside long r made on deep out far told =
-    told ∙ (λ i. first_of_four ((on ∙ ap (λ (c : List (StackName × Path)). on_chain c a) made) i) (deep i) (out i) (far i))
+-- an arc leads back to an author on its way, or to its own
+module _ (chain : List (StackName × Path)) (s : StackName) (p : Path) (a : Lead) where
+  longer : on_chain (chain ++ (s, p) ∷ []) a ≡ (on_chain chain a || (both (same_stack s a.stack) (is_related a.target p) || false))
+  longer = list_any-append (λ x. both (same_stack x.0 a.stack) (is_related a.target x.1)) chain ((s, p) ∷ [])
+
+  pub back_before : (before : Bool) → before ≡ on_chain chain a → before ≡ true → true ≡ on_chain (chain ++ (s, p) ∷ []) a
+  back_before before is on = sym (longer ∙ ap (λ b. b || (both (same_stack s a.stack) (is_related a.target p) || false)) (sym is ∙ on))
+
+  pub back_here : (before here : Bool) → before ≡ on_chain chain a → before ≡ false → here ≡ both (same_stack s a.stack) (is_related a.target p) → here ≡ on_chain (chain ++ (s, p) ∷ []) a
+  back_here before here is off told =
+      told ∙ last (both (same_stack s a.stack) (is_related a.target p))
+      ∙ sym (longer ∙ ap (λ b. b || (both (same_stack s a.stack) (is_related a.target p) || false)) (sym is ∙ off))
+    where
+      last : (b : Bool) → b ≡ (b || false)
+      last true = refl
+      last false = refl

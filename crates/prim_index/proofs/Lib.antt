@@ -7,4 +7,5 @@ pub mod Fronts
 pub mod Grown
 pub mod Names
 pub mod Saying
+pub mod Settled
 pub mod Steps

@@ -6,3 +6,4 @@ pub mod Following
 pub mod Reading
 pub mod Grown
 pub mod Loading
+pub mod Settling

@@ -1,5 +1,5 @@
 -- What the layers say at a node, by names that stay closed in goals.
-use Rattle.std.specs.Prelude.{ℕ, Bool, true, false, List, [], ◌∷◌, ◌++◌, map, flat_map, Option, Some, None}
+use Rattle.std.specs.Prelude.{ℕ, Bool, true, false, not, List, [], ◌∷◌, ◌++◌, map, flat_map, Option, Some, None}
 use Rattle.std.specs.List.{filter_map}
 use Rattle.path_maps.specs.declared.kind.ArcKind.{ArcKind}
 use Rattle.path_maps.specs.declared.kind.ArcKind.TheVariants.{Inherits, Reference, Payload, Specializes}
@@ -7,17 +7,21 @@ use Rattle.sdf_paths.specs.declared.element.Element.TheVariants.{Selection}
 use Rattle.prim_view.specs.declared.fault.PrimFault.{PrimFault}
 use Rattle.prim_view.specs.declared.fault.PrimFault.TheVariants.{Sublayer}
 use Rattle.composition.specs.Texts.{Text, same_text, find_at, both}
-use Rattle.composition.specs.Paths.{Path, Limits, limits, fits, levels_of}
+use Rattle.composition.specs.Paths.{Path, Limits, limits, fits, up, levels_of}
 use Rattle.composition.specs.Names.{is_name, is_variant_name}
-use Rattle.composition.specs.World.{World}
+use Rattle.composition.specs.World.{World, StackName}
 use Rattle.composition.specs.Stacks.{SublayerFault}
-use Rattle.composition.specs.Arcs.{Authored, Outcome}
+use Rattle.composition.specs.Arcs.{Authored, Outcome, Opinion, selections_of, is_empty}
 use Rattle.composition.specs.Nodes.{Node, Here, Tried, Chosen, Choices, here, tried_item, Frame, frame_at, author, child_path, sublayers_of}
-use Rattle.arc_expand.specs.Authoring.{authored, variant_sets, selections, has_spec}
+use Rattle.arc_expand.specs.Authoring.{authored_in, sets_in, opinions}
 
 -- what the layers say at a node
 unfoldable pub said : Limits → World → Node → Here
 said l w n = here l w n
+
+-- what the layers of a stack say at the levels of a path, each with its number
+unfoldable pub said_levels : World → StackName → Path → List (ℕ × List Opinion)
+said_levels w s p = map (λ j. (j, opinions w s (up p j))) (levels_of p)
 
 -- ---- items of arcs
 
@@ -41,17 +45,22 @@ abbrev pub looked_at : ArcKind → Frame → Bool
 looked_at Payload f = f.loaded
 looked_at _ f = true
 
--- the items of a kind at a level of a node
-unfoldable pub tried_level : World → Node → ArcKind → ℕ → List Tried
-tried_level w n k j =
-    elim (looked_at k (frame_at n j)) [
-      | true ↦ map (tried_of w n k j) (authored w n.stack (author n j) k)
+-- the items of a kind at a level of a node, of which the opinions are given
+unfoldable pub tried_level : World → Node → ArcKind → ℕ × List Opinion → List Tried
+tried_level w n k there =
+    elim (looked_at k (frame_at n there.0)) [
+      | true ↦ map (tried_of w n k there.0) (authored_in w n.stack there.1 k)
       | false ↦ []
     ]
 
 -- the items of a kind, level by level
-unfoldable pub tried_kind : World → Node → ArcKind → List Tried
-tried_kind w n k = flat_map (tried_level w n k) (levels_of n.path)
+unfoldable pub tried_kind : World → Node → List (ℕ × List Opinion) → ArcKind → List Tried
+tried_kind w n levels k = flat_map (tried_level w n k) levels
+
+-- the items of all kinds
+abbrev pub tried_all : World → Node → List (ℕ × List Opinion) → List Tried
+tried_all w n levels =
+    tried_kind w n levels Inherits ++ (tried_kind w n levels Reference ++ (tried_kind w n levels Payload ++ tried_kind w n levels Specializes))
 
 -- ---- variants
 
@@ -76,20 +85,21 @@ chosen_for n j set (Some v) = variant_at n j set v
 unfoldable pub chosen_of : Node → ℕ → Choices → List Text → List Chosen
 chosen_of n j choices sets = filter_map (λ set. chosen_for n j set (find_at same_text set choices)) sets
 
--- the variants that a level of a node decides
-unfoldable pub chosen_level : World → Node → ℕ → List Chosen
-chosen_level w n j = chosen_of n j (frame_at n j).choices (variant_sets w n.stack (author n j))
+-- the variants that a level of a node decides, of which the opinions are given
+unfoldable pub chosen_level : Node → ℕ × List Opinion → List Chosen
+chosen_level n there = chosen_of n there.0 (frame_at n there.0).choices (sets_in there.1)
 
-unfoldable pub chosen_all : World → Node → List Chosen
-chosen_all w n = flat_map (chosen_level w n) (levels_of n.path)
+unfoldable pub chosen_all : Node → List (ℕ × List Opinion) → List Chosen
+chosen_all n levels = flat_map (chosen_level n) levels
 
 -- ---- all of it
 
-abbrev pub parts : World → Node → Here
-parts w n = record {
-  arcs = tried_kind w n Inherits ++ (tried_kind w n Reference ++ (tried_kind w n Payload ++ tried_kind w n Specializes));
-  variants = chosen_all w n;
-  sets = variant_sets w n.stack n.path;
-  selections = selections w n.stack n.path;
-  has_spec = has_spec w n.stack n.path;
+-- what is said at a node where these opinions stand at its levels and at its own path
+abbrev pub parts : World → Node → List (ℕ × List Opinion) → List Opinion → Here
+parts w n levels own = record {
+  arcs = tried_all w n levels;
+  variants = chosen_all n levels;
+  sets = sets_in own;
+  selections = selections_of own;
+  has_spec = not (is_empty own);
 }

@@ -1,9 +1,11 @@
 // Whether an arc is followed, and where it leads.
-ghost use Rattle.std.specs.Prelude.{◌≡◌, ◌==◌, ◌++◌, IfOk, not};
+ghost use Rattle.std.specs.Prelude.{◌≡◌, ◌==◌, ◌++◌, ◌∷◌, [], IfOk, not};
+ghost use Rattle.sdf_paths.specs.Paths.{plain};
 ghost use Rattle.sdf_values.specs.Scales.{composed};
 ghost use Rattle.composition.specs.Paths.{limits, fits, up, tail};
+ghost use Rattle.composition.specs.Texts.{both};
 ghost use Rattle.composition.specs.World.{in_range, same_stack};
-ghost use Rattle.composition.specs.Nodes.{child_path, child_chain, is_related, refusal};
+ghost use Rattle.composition.specs.Nodes.{author, child_path, child_chain, is_related, refusal};
 ghost use Rattle.prim_index.specs.Following.{if_fits, if_in_range, on_chain, first_of_four};
 
 use class_arcs::path_above;
@@ -48,13 +50,22 @@ fn if_fits(
     }
 }
 
+/// The author of the arcs of a level, without selections.
+fn plain_author(node: &Node, level: usize) -> Result<Path, AllocError>
+    ensures { IfOk result (λ path. path ≡ plain (author node.now level)) }
+{
+    let author = path_above(&node.path, level)?;
+    let path = author.plain()?;
+    Ok(path)
+}
+
 /// The authors on the way to the children of a level.
 pub fn child_chain(node: &Node, level: usize) -> Result<Items<(StackName, Path)>, AllocError>
     ensures { IfOk result (λ chain. chain ≡ child_chain node.now level) }
 {
-    let author = path_above(&node.path, level)?;
+    let author = plain_author(node, level)?;
     let mut chain = copy(&node.chain)?;
-    chain.push((copy(&node.stack)?, author.plain()?))?;
+    chain.push((copy(&node.stack)?, author))?;
     Ok(chain)
 }
 
@@ -71,16 +82,36 @@ fn same_stack(a: &StackName, b: &StackName) -> bool
     same(a, b)
 }
 
+/// Whether an arc leads back to an author.
+fn is_back(stack: &StackName, author: &Path, lead: &Lead) -> bool
+    ensures { result ≡ both (same_stack stack.now lead.now.stack) (is_related lead.now.target author.now) }
+{
+    same_stack(stack, &lead.stack) && is_related(&lead.target, author)
+}
+
 /// Whether an arc leads back to an author on its way.
 fn is_on_chain(chain: &[(StackName, Path)], lead: &Lead) -> bool
     ensures { result ≡ on_chain chain.now lead.now }
 {
     for (stack, path) in chain {
-        if same_stack(stack, &lead.stack) && is_related(&lead.target, path) {
+        if is_back(stack, path, lead) {
             return true;
         }
     }
     false
+}
+
+/// Whether an arc of this author leads back to an author on its way, itself included.
+#[tactic(auto, using(crate::proofs::Following::back_before, crate::proofs::Following::back_here))]
+fn is_cyclic(node: &Node, author: &Path, lead: &Lead) -> bool
+    ensures { result ≡ on_chain (node.now.chain ++ (node.now.stack, author.now) ∷ []) lead.now }
+{
+    let before = is_on_chain(node.chain.as_slice(), lead);
+    if before {
+        return true;
+    }
+    let here = is_back(&node.stack, author, lead);
+    here
 }
 
 /// The two offsets as one, where that is in range.
@@ -143,8 +174,8 @@ fn is_last(node: &Node) -> bool
 pub fn refusal(node: &Node, level: usize, lead: &Lead) -> Result<Option<ArcReason>, AllocError>
     ensures { IfOk result (λ reason. reason ≡ refusal limits node.now level lead.now) }
 {
-    let chain = child_chain(node, level)?;
-    let cyclic = is_on_chain(chain.as_slice(), lead);
+    let author = plain_author(node, level)?;
+    let cyclic = is_cyclic(node, &author, lead);
     let last = is_last(node);
     let outside = is_outside(lead.offset, node.offset);
     let long = is_long(node, level, &lead.target)?;

@@ -240,14 +240,14 @@ pub fn path_length(node: &Node) -> usize
 }
 
 /// How many variants a frame chooses.
-fn choice_count(frame: &Frame) -> usize
+pub fn choice_count(frame: &Frame) -> usize
     ensures { result ≡ length frame.now.choices }
 {
     frame.choices.len()
 }
 
 /// Whether a frame still chooses this many variants.
-fn is_settled(frame: &Frame, count: usize) -> bool
+pub fn is_settled(frame: &Frame, count: usize) -> bool
     ensures { result ≡ (length frame.now.choices == count) }
 {
     frame.choices.len() == count
@@ -255,7 +255,7 @@ fn is_settled(frame: &Frame, count: usize) -> bool
 
 /// Whether payloads are followed at the path of a prim.
 #[tactic(auto, unfolding(crate::specs::Loading::loads))]
-fn is_loaded(world: &World, payloads: Payloads, path: &Path) -> Result<bool, AllocError>
+pub fn is_loaded(world: &World, payloads: Payloads, path: &Path) -> Result<bool, AllocError>
     ensures { IfOk result (λ on. on ≡ loads (look_ups world.now) payloads path.now) }
 {
     match payloads {
@@ -270,7 +270,7 @@ fn is_loaded(world: &World, payloads: Payloads, path: &Path) -> Result<bool, All
 }
 
 /// The frame with which the rounds of a prim begin.
-fn first_frame(alloc: Global, loaded: bool) -> Frame
+pub fn first_frame(alloc: Global, loaded: bool) -> Frame
     ensures { result ≡ record bare { loaded = loaded } }
 {
     Frame {
@@ -348,7 +348,7 @@ fn round_at(
 
 /// A frame with what a round decides in its tree.
 #[tactic(auto, unfolding(crate::specs::Grown::with_round))]
-fn next_frame(alloc: Global, frame: Frame, tree: &Tree) -> Result<Frame, AllocError>
+pub fn next_frame(alloc: Global, frame: Frame, tree: &Tree) -> Result<Frame, AllocError>
     ensures { IfOk result (λ next. next ≡ with_round limits (meant tree.now) frame) }
 {
     let decided = decided(alloc, tree, &frame.choices)?;

@@ -1,21 +1,19 @@
 ghost use Rattle.std.specs.Prelude.{◌≡◌, [], true, false, IfOk};
-ghost use Rattle.composition.specs.Nodes.{bare_node, frame_at};
-ghost use Rattle.composition.specs.World.{identity};
+ghost use Rattle.composition.specs.Nodes.{frame_at};
 ghost use Rattle.composition.specs.Trees.{node_of};
 ghost use Rattle.composition.specs.Paths.{limits};
 ghost use Rattle.layer_set.specs.LookUps.{look_ups};
 ghost use Rattle.layer_set.specs.Rules.{IsStagePrim};
 ghost use Rattle.prim_trees.specs.Meant.{meant};
-ghost use Rattle.prim_index.specs.Answer.{index_at, indexed_of, stage_node_at, nothing_there, sites_in, choices_in, faults_in, is_none};
+ghost use Rattle.prim_index.specs.Answer.{index_at, indexed_of, nothing_there, sites_in, choices_in, faults_in, is_none};
 
-use crate::grow::{MAX_DEPTH, MAX_NODES, Payloads, frames_at, path_length, tree_at};
+use crate::settling::stage_tree;
 use layer_set::World;
 use plain_data::{Items, copy};
-use prim_nodes::{Frame, Node};
+use prim_nodes::Node;
 use prim_trees::Tree;
-use prim_view::{Choices, PrimFault, Site, StackName};
+use prim_view::{Choices, PrimFault, Site};
 use sdf_paths::Path;
-use sdf_values::LayerOffset;
 use site_order::{arc_faults, is_overgrown_on_the_way, sites};
 use std::alloc::{AllocError, Global};
 use std::marker::Model;
@@ -144,50 +142,11 @@ fn index_of(alloc: Global, tree: &Tree) -> Result<PrimIndex, AllocError>
     Ok(told(choices, found, faults))
 }
 
-/// The node of the stage at a path, before anything is chosen.
-fn bare_stage_node(alloc: Global, place: &Path) -> Result<Node, AllocError>
-    ensures { IfOk result (λ node. node ≡ bare_node StackName.Root place.now [] 64 identity) }
-{
-    Ok(Node {
-        stack: StackName::Root,
-        path: copy(place)?,
-        frames: Items::new(alloc),
-        chain: Items::new(alloc),
-        depth: MAX_DEPTH,
-        offset: LayerOffset {
-            offset: 0,
-            scale: 1,
-        },
-        maps: Items::new(alloc),
-    })
-}
-
-/// The node with these frames.
-fn with_frames(node: Node, frames: Items<Frame>) -> Node
-    ensures { result ≡ record node { frames = frames } }
-{
-    let mut node = node;
-    node.frames = frames;
-    node
-}
-
-/// The node of a prim of the stage, with the frames of the prim and of those above it.
-fn stage_node(alloc: Global, world: &World, place: &Path) -> Result<Node, AllocError>
-    ensures { IfOk result (λ node. node ≡ stage_node_at limits (look_ups world.now) place.now) }
-{
-    let begun = bare_stage_node(alloc, place)?;
-    let count = path_length(&begun);
-    let frames = frames_at(alloc, world, MAX_DEPTH, Payloads::Ruled, &begun, count)?;
-    let node = with_frames(begun, frames);
-    Ok(node)
-}
-
 /// The index of a prim of the stage.
 fn index_of_prim(alloc: Global, world: &World, place: &Path) -> Result<PrimIndex, AllocError>
     ensures { IfOk result (λ i. i ≡ index_at limits (look_ups world.now) place.now) }
 {
-    let node = stage_node(alloc, world, place)?;
-    let tree = tree_at(alloc, world, MAX_DEPTH, MAX_NODES, MAX_NODES, node)?;
+    let tree = stage_tree(alloc, world, place)?;
     index_of(alloc, &tree)
 }
 

@@ -8,6 +8,7 @@ mod grow;
 mod indexing;
 mod levels;
 mod reading;
+mod settling;
 
 pub use grow::{MAX_DEPTH, MAX_NODES, MAX_ROUNDS};
 pub use indexing::{PrimIndex, index};

@@ -1,16 +1,17 @@
 // What the layers of a node's stack say at it.
-ghost use Rattle.std.specs.Prelude.{◌≡◌, ◌++◌, IfOk, OnOk, map};
+ghost use Rattle.std.specs.Prelude.{◌≡◌, ◌++◌, ◌∷◌, [], IfOk, OnOk, map, not};
 ghost use Rattle.std.specs.Option.{option_copied};
 ghost use Rattle.composition.specs.Texts.{same_text, find_at};
 ghost use Rattle.composition.specs.Paths.{limits};
+ghost use Rattle.composition.specs.Arcs.{is_empty};
 ghost use Rattle.composition.specs.Nodes.{fault_of, frame_at};
 ghost use Rattle.layer_set.specs.LookUps.{look_ups};
-ghost use Rattle.arc_expand.specs.Authoring.{IsStackOf};
-ghost use Rattle.prim_index.specs.Reading.{said, sublayers_said, sublayer_faults, looked_at, tried_of, tried_level, tried_kind, chosen_if_fits, variant_at, chosen_of, chosen_level, chosen_all, parts};
+ghost use Rattle.arc_expand.specs.Authoring.{IsStackOf, opinions as opinions_there};
+ghost use Rattle.prim_index.specs.Reading.{said, said_levels, sublayers_said, sublayer_faults, looked_at, tried_of, tried_level, tried_kind, tried_all, chosen_if_fits, variant_at, chosen_of, chosen_level, chosen_all};
 
 use crate::follow::{child_path, refusal};
 use crate::levels::levels;
-use arc_expand::{authored_at, has_spec_at, selections_at, variant_sets_at};
+use arc_expand::{LayerOpinion, authored_in, opinions, selections_in, variant_sets_in};
 use class_arcs::path_above;
 use layer_set::World;
 use layer_stack::{LayerStack, stack};
@@ -102,7 +103,7 @@ fn is_looked_at(kind: ArcKind, node: &Node, level: usize) -> bool
     }
 }
 
-/// Appends what becomes of the items of a kind at a level. The stack is the node's.
+/// Appends what becomes of the items of a kind that opinions of a level make. The stack is the node's.
 #[tactic(auto, using(crate::proofs::Saying::tried_unseen, crate::proofs::Saying::tried_seen))]
 fn push_level(
     out: &mut Items<Tried>,
@@ -111,16 +112,16 @@ fn push_level(
     node: &Node,
     kind: ArcKind,
     level: usize,
+    said: &[LayerOpinion<'_>],
 ) -> Result<(), AllocError>
     requires stack { IsStackOf (look_ups world.now) stack.now }
     requires name { stack.now.name ≡ node.now.stack }
-    ensures { OnOk result (out.new ≡ out.old ++ tried_level (look_ups world.now) node.now kind level) }
+    ensures { OnOk result (out.new ≡ out.old ++ tried_level (look_ups world.now) node.now kind (level, said.now)) }
 {
     if !is_looked_at(kind, node, level) {
         return Ok(());
     }
-    let author = path_above(&node.path, level)?;
-    let items = authored_at(out.allocator(), world, stack, &author, kind)?;
+    let items = authored_in(out.allocator(), world, stack, said, kind)?;
     push_items(out, world, node, kind, level, items.as_slice())
 }
 
@@ -142,20 +143,21 @@ fn push_items(
 }
 
 /// Appends what becomes of the items of a kind, level by level.
-#[tactic(auto, using(crate::proofs::Saying::level_more), unfolding(crate::specs::Reading::tried_kind))]
+#[tactic(auto, unfolding(crate::specs::Reading::tried_kind))]
 fn push_kind(
     out: &mut Items<Tried>,
     world: &World,
     stack: &LayerStack,
     node: &Node,
+    levels: &[(usize, Items<LayerOpinion<'_>>)],
     kind: ArcKind,
 ) -> Result<(), AllocError>
     requires stack { IsStackOf (look_ups world.now) stack.now }
     requires name { stack.now.name ≡ node.now.stack }
-    ensures { OnOk result (out.new ≡ out.old ++ tried_kind (look_ups world.now) node.now kind) }
+    ensures { OnOk result (out.new ≡ out.old ++ tried_kind (look_ups world.now) node.now levels.now kind) }
 {
-    for level in 0..levels(node.path.elements()) {
-        push_level(out, world, stack, node, kind, level)?;
+    for (level, said) in levels {
+        push_level(out, world, stack, node, kind, *level, said.as_slice())?;
     }
     Ok(())
 }
@@ -214,23 +216,19 @@ fn variant(
     }
 }
 
-/// Appends the variants that a level decides. The stack is the node's.
+/// Appends the variants that a level decides, of which the opinions are given.
 #[tactic(auto, using(crate::proofs::Saying::chosen_unseen, crate::proofs::Saying::chosen_seen, crate::proofs::Saying::frame_some, crate::proofs::Saying::frame_none))]
 fn push_chosen(
     out: &mut Items<Chosen>,
-    world: &World,
-    stack: &LayerStack,
     node: &Node,
     level: usize,
+    said: &[LayerOpinion<'_>],
 ) -> Result<(), AllocError>
-    requires stack { IsStackOf (look_ups world.now) stack.now }
-    requires name { stack.now.name ≡ node.now.stack }
-    ensures { OnOk result (out.new ≡ out.old ++ chosen_level (look_ups world.now) node.now level) }
+    ensures { OnOk result (out.new ≡ out.old ++ chosen_level node.now (level, said.now)) }
 {
     match node.frames.get(level) {
         Some(frame) => {
-            let author = path_above(&node.path, level)?;
-            let sets = variant_sets_at(out.allocator(), world, stack, &author)?;
+            let sets = variant_sets_in(out.allocator(), said)?;
             push_variants(out, node, level, frame, sets.as_slice())
         }
         None => Ok(()),
@@ -259,20 +257,17 @@ fn push_variants(
 }
 
 /// The variants that the levels decide.
-#[tactic(auto, using(crate::proofs::Saying::level_more), unfolding(crate::specs::Reading::chosen_all))]
+#[tactic(auto, unfolding(crate::specs::Reading::chosen_all))]
 fn variants(
     alloc: Global,
-    world: &World,
-    stack: &LayerStack,
     node: &Node,
+    levels: &[(usize, Items<LayerOpinion<'_>>)],
 ) -> Result<Items<Chosen>, AllocError>
-    requires stack { IsStackOf (look_ups world.now) stack.now }
-    requires name { stack.now.name ≡ node.now.stack }
-    ensures { IfOk result (λ all. all ≡ chosen_all (look_ups world.now) node.now) }
+    ensures { IfOk result (λ all. all ≡ chosen_all node.now levels.now) }
 {
     let mut all = Items::new(alloc);
-    for level in 0..levels(node.path.elements()) {
-        push_chosen(&mut all, world, stack, node, level)?;
+    for (level, said) in levels {
+        push_chosen(&mut all, node, *level, said.as_slice())?;
     }
     Ok(all)
 }
@@ -283,16 +278,17 @@ fn arcs(
     world: &World,
     stack: &LayerStack,
     node: &Node,
+    levels: &[(usize, Items<LayerOpinion<'_>>)],
 ) -> Result<Items<Tried>, AllocError>
     requires stack { IsStackOf (look_ups world.now) stack.now }
     requires name { stack.now.name ≡ node.now.stack }
-    ensures { IfOk result (λ all. all ≡ (parts (look_ups world.now) node.now).arcs) }
+    ensures { IfOk result (λ all. all ≡ tried_all (look_ups world.now) node.now levels.now) }
 {
     let mut all = Items::new(alloc);
-    push_kind(&mut all, world, stack, node, ArcKind::Inherits)?;
-    push_kind(&mut all, world, stack, node, ArcKind::Reference)?;
-    push_kind(&mut all, world, stack, node, ArcKind::Payload)?;
-    push_kind(&mut all, world, stack, node, ArcKind::Specializes)?;
+    push_kind(&mut all, world, stack, node, levels, ArcKind::Inherits)?;
+    push_kind(&mut all, world, stack, node, levels, ArcKind::Reference)?;
+    push_kind(&mut all, world, stack, node, levels, ArcKind::Payload)?;
+    push_kind(&mut all, world, stack, node, levels, ArcKind::Specializes)?;
     Ok(all)
 }
 
@@ -315,17 +311,78 @@ fn stack_of(alloc: Global, world: &World, node: &Node) -> Result<LayerStack, All
     })
 }
 
+/// What the layers of a stack say at a path, the strongest first.
+#[tactic(auto, using(crate::proofs::Saying::opinions_are))]
+fn said_at<'w>(
+    alloc: Global,
+    world: &'w World,
+    stack: &'w LayerStack,
+    at: &Path,
+) -> Result<Items<LayerOpinion<'w>>, AllocError>
+    requires { IsStackOf (look_ups world.now) stack.now }
+    ensures { IfOk result (λ all. all ≡ opinions_there (look_ups world.now) stack.now.name at.now) }
+{
+    let said = opinions(alloc, world, stack, at)?;
+    Ok(said)
+}
+
+/// Appends what the layers of a stack say at the path of a level.
+fn push_said<'w>(
+    out: &mut Items<(usize, Items<LayerOpinion<'w>>)>,
+    world: &'w World,
+    stack: &'w LayerStack,
+    level: usize,
+    author: &Path,
+) -> Result<(), AllocError>
+    requires { IsStackOf (look_ups world.now) stack.now }
+    ensures { OnOk result (out.new ≡ out.old ++ (level, opinions_there (look_ups world.now) stack.now.name author.now) ∷ []) }
+{
+    let said = said_at(out.allocator(), world, stack, author)?;
+    out.push((level, said))?;
+    Ok(())
+}
+
+/// What the layers of a stack say at the levels of a path, each with its number: each level is looked up once.
+#[tactic(auto, using(crate::proofs::Saying::said_more, crate::proofs::Saying::above_more), unfolding(crate::specs::Reading::said_levels))]
+fn said_at_levels<'w>(
+    alloc: Global,
+    world: &'w World,
+    stack: &'w LayerStack,
+    path: &Path,
+) -> Result<Items<(usize, Items<LayerOpinion<'w>>)>, AllocError>
+    requires { IsStackOf (look_ups world.now) stack.now }
+    ensures { IfOk result (λ all. all ≡ said_levels (look_ups world.now) stack.now.name path.now) }
+{
+    let mut all = Items::new(alloc);
+    let mut author = copy(path)?;
+    for level in 0..levels(path.elements()) {
+        push_said(&mut all, world, stack, level, &author)?;
+        author = path_above(&author, 1)?;
+    }
+    Ok(all)
+}
+
+/// Whether there are opinions.
+#[tactic(auto, using(crate::proofs::Saying::empty_told))]
+fn is_said(opinions: &Items<LayerOpinion<'_>>) -> bool
+    ensures { result ≡ not (is_empty opinions.now) }
+{
+    !opinions.is_empty()
+}
+
 /// What the layers of a node's stack say at it.
 #[tactic(auto, using(crate::proofs::Saying::said_is))]
 pub fn here_at(alloc: Global, world: &World, node: &Node) -> Result<Here, AllocError>
     ensures { IfOk result (λ here. here ≡ said limits (look_ups world.now) node.now) }
 {
     let stack = stack_of(alloc, world, node)?;
+    let levels = said_at_levels(alloc, world, &stack, &node.path)?;
+    let own = said_at(alloc, world, &stack, &node.path)?;
     Ok(Here {
-        arcs: arcs(alloc, world, &stack, node)?,
-        variants: variants(alloc, world, &stack, node)?,
-        sets: variant_sets_at(alloc, world, &stack, &node.path)?,
-        selections: selections_at(alloc, world, &stack, &node.path)?,
-        has_spec: has_spec_at(alloc, world, &stack, &node.path)?,
+        arcs: arcs(alloc, world, &stack, node, levels.as_slice())?,
+        variants: variants(alloc, node, levels.as_slice())?,
+        sets: variant_sets_in(alloc, own.as_slice())?,
+        selections: selections_in(alloc, own.as_slice())?,
+        has_spec: is_said(&own),
     })
 }

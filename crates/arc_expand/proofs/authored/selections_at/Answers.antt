@@ -7,10 +7,10 @@ use Rattle.arc_expand.proofs.authored.selections_at.Goals as goal
 
 pub returns : goal.returns
 returns c =
-    IfOk-weaker c.all_selections.result _ _
+    IfOk-weaker c.selections_in.result _ _
     (λ all is.
     is
     ∙ (ap (λ (os : List Opinion). selections_of os) c.as_slice.ensures
     ∙ selections_are (look_ups c.args.world.now) c.args.stack.now.name c.args.at.now c.in_ok-opinions.opinions
     (c.in_ok-opinions.ensures ∙ opinions_are (look_ups c.args.world.now) c.args.stack.now c.args.at.now c.requires)))
-    c.all_selections.ensures
+    c.selections_in.ensures

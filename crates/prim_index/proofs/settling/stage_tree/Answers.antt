@@ -1,0 +1,22 @@
+use Rattle.std.proofs.Common.{◌∙◌, ap, refl, arith}
+use Rattle.composition.specs.Nodes.{Node}
+use Rattle.composition.specs.Paths.{limits}
+use Rattle.layer_set.specs.LookUps.{look_ups}
+use Rattle.prim_trees.specs.Meant.{meant}
+use Rattle.prim_index.specs.Depths.{tree_below}
+use Rattle.prim_index.specs.Reading.{said}
+use Rattle.prim_index.proofs.Settled.{bare_stage, stage_framed}
+use Rattle.prim_index.proofs.settling.stage_tree.Goals as goal
+
+pub returns-then-count-eq0 : goal.returns-then-count-eq0
+returns-then-count-eq0 c =
+    c.in_ok-tree.ensures
+    ∙ ap (λ (n : Node). tree_below limits (said limits (look_ups c.args.world.now)) 64 4096 4096 n)
+    (bare_stage limits (look_ups c.args.world.now) c.args.place.now c.path_length-count.result c.in_ok-begun.begun c.in_ok-begun.ensures c.path_length-count.ensures c.if-count-eq0.true)
+
+pub returns : goal.returns
+returns c =
+    c.in_ok-tree-2.ensures
+    ∙ ap (λ (n : Node). tree_below limits (said limits (look_ups c.args.world.now)) 64 4096 4096 n)
+    (stage_framed limits (look_ups c.args.world.now) c.args.place.now c.path_length-count.result 16 c.in_ok-begun.begun c.in_ok-above.above c.first_frame-first.result c.in_ok-settled.settled.frame
+    c.in_ok-on.on c.in_ok-begun.ensures c.path_length-count.ensures (omega arith) refl c.in_ok-above.ensures c.in_ok-on.ensures c.first_frame-first.ensures c.in_ok-settled.ensures.frame)

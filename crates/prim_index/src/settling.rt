@@ -1,0 +1,151 @@
+// The tree of a prim of the stage. The last round of its choices makes it, unless the rounds rest on an overgrown listing.
+ghost use Rattle.std.specs.Prelude.{◌≡◌, [], IfOk};
+ghost use Rattle.std.specs.Option.{IfSome};
+ghost use Rattle.composition.specs.Paths.{limits};
+ghost use Rattle.composition.specs.Nodes.{bare_node};
+ghost use Rattle.composition.specs.World.{identity};
+ghost use Rattle.layer_set.specs.LookUps.{look_ups};
+ghost use Rattle.prim_trees.specs.Meant.{meant};
+ghost use Rattle.prim_index.specs.Answer.{stage_node_at};
+ghost use Rattle.prim_index.specs.Children.{node_in_round};
+ghost use Rattle.prim_index.specs.Depths.{tree_below, rounds_below};
+ghost use Rattle.prim_index.specs.Reading.{said};
+ghost use Rattle.prim_index.specs.Settling.{framed};
+
+use crate::children::{node_in_round, with_first};
+use crate::grow::{
+    MAX_DEPTH, MAX_NODES, MAX_ROUNDS, Payloads, choice_count, first_frame, frames_at, is_loaded,
+    is_settled, next_frame, path_length, tree_at,
+};
+use layer_set::World;
+use plain_data::{Items, copy};
+use prim_nodes::{Frame, Node};
+use prim_trees::Tree;
+use prim_view::StackName;
+use sdf_paths::Path;
+use sdf_values::LayerOffset;
+use std::alloc::{AllocError, Global};
+
+/// A frame after its rounds of choices.
+#[derive(Debug, Drop)]
+struct Settled {
+    frame: Frame,
+    /// The tree with this frame, where the last round made it.
+    tree: Option<Tree>,
+}
+
+/// The node of the stage at a path, before anything is chosen.
+fn bare_stage_node(alloc: Global, place: &Path) -> Result<Node, AllocError>
+    ensures { IfOk result (λ node. node ≡ bare_node StackName.Root place.now [] 64 identity) }
+{
+    Ok(Node {
+        stack: StackName::Root,
+        path: copy(place)?,
+        frames: Items::new(alloc),
+        chain: Items::new(alloc),
+        depth: MAX_DEPTH,
+        offset: LayerOffset {
+            offset: 0,
+            scale: 1,
+        },
+        maps: Items::new(alloc),
+    })
+}
+
+/// The node with these frames.
+#[tactic(auto, unfolding(crate::specs::Settling::framed))]
+fn with_frames(node: Node, frame: Frame, above: &Items<Frame>) -> Result<Node, AllocError>
+    ensures { IfOk result (λ n. n ≡ framed node frame above.now) }
+{
+    let mut node = node;
+    node.frames = with_first(frame, above)?;
+    Ok(node)
+}
+
+/// The tree of a round of choices.
+fn round_tree(
+    alloc: Global,
+    world: &World,
+    node: &Node,
+    above: &Items<Frame>,
+    frame: &Frame,
+) -> Result<Tree, AllocError>
+    ensures { IfOk result (λ tree. meant tree ≡ tree_below limits (said limits (look_ups world.now)) 64 4096 4096 (node_in_round node.now above.now frame.now)) }
+{
+    let there = node_in_round(node, above, frame)?;
+    let tree = tree_at(alloc, world, MAX_DEPTH, MAX_NODES, MAX_NODES, there)?;
+    Ok(tree)
+}
+
+/// The frame of a prim of the stage after so many further rounds of choices, with the tree that it gives where the last round made it:
+/// after a round that decides nothing another would be the same, and so would be the tree.
+fn settled_at(
+    alloc: Global,
+    world: &World,
+    rounds: usize,
+    node: &Node,
+    above: &Items<Frame>,
+    frame: Frame,
+) -> Result<Settled, AllocError>
+    ensures frame { IfOk result (λ s. s.frame ≡ rounds_below limits (said limits (look_ups world.now)) 64 rounds node.now above.now frame) }
+    ensures tree { IfOk result (λ s. IfSome s.tree (λ t. meant t ≡ tree_below limits (said limits (look_ups world.now)) 64 4096 4096 (framed node.now s.frame above.now))) }
+{
+    if rounds == 0 {
+        return Ok(Settled { frame, tree: None });
+    }
+    let count = choice_count(&frame);
+    let tree = round_tree(alloc, world, node, above, &frame)?;
+    let next = next_frame(alloc, frame, &tree)?;
+    let settled = is_settled(&next, count);
+    if !settled {
+        return settled_at(alloc, world, rounds - 1, node, above, next);
+    }
+    if next.overgrown {
+        return Ok(Settled {
+            frame: next,
+            tree: None,
+        });
+    }
+    Ok(Settled {
+        frame: next,
+        tree: Some(tree),
+    })
+}
+
+/// The tree of a prim with a frame, where it is not known yet.
+fn tree_with(
+    alloc: Global,
+    world: &World,
+    node: Node,
+    above: &Items<Frame>,
+    settled: Settled,
+) -> Result<Tree, AllocError>
+    requires { IfSome settled.tree (λ t. meant t ≡ tree_below limits (said limits (look_ups world.now)) 64 4096 4096 (framed node settled.frame above.now)) }
+    ensures { IfOk result (λ tree. meant tree ≡ tree_below limits (said limits (look_ups world.now)) 64 4096 4096 (framed node settled.frame above.now)) }
+{
+    let Settled { frame, tree } = settled;
+    if let Some(tree) = tree {
+        return Ok(tree);
+    }
+    let node = with_frames(node, frame, above)?;
+    let tree = tree_at(alloc, world, MAX_DEPTH, MAX_NODES, MAX_NODES, node)?;
+    Ok(tree)
+}
+
+/// The tree of a prim of the stage.
+pub fn stage_tree(alloc: Global, world: &World, place: &Path) -> Result<Tree, AllocError>
+    ensures { IfOk result (λ tree. meant tree ≡ tree_below limits (said limits (look_ups world.now)) 64 4096 4096 (stage_node_at limits (look_ups world.now) place.now)) }
+{
+    let begun = bare_stage_node(alloc, place)?;
+    let count = path_length(&begun);
+    if count == 0 {
+        let tree = tree_at(alloc, world, MAX_DEPTH, MAX_NODES, MAX_NODES, begun)?;
+        return Ok(tree);
+    }
+    let above = frames_at(alloc, world, MAX_DEPTH, Payloads::Ruled, &begun, count - 1)?;
+    let on = is_loaded(world, Payloads::Ruled, place)?;
+    let first = first_frame(alloc, on);
+    let settled = settled_at(alloc, world, MAX_ROUNDS, &begun, &above, first)?;
+    let tree = tree_with(alloc, world, begun, &above, settled)?;
+    Ok(tree)
+}
