@@ -67,8 +67,7 @@ impl Rules {
         None
     }
 
-    /// Puts a rule at a path, or takes one away. After want of memory, which comes only where there is no rule at the path yet, the
-    /// rules are as before.
+    /// Puts a rule at a path, or takes one away. After want of memory the rules are as before.
     pub fn set(&mut self, path: &Path, rule: Option<bool>) -> Result<(), AllocError>
         ensures ok { OnOk result (self.new ≡ with_rule path.now rule self.old) }
         ensures err { OnErr result (self.new ≡ self.old) }
