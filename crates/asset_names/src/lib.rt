@@ -6,6 +6,3 @@ mod name;
 mod path;
 
 pub use name::{AssetFault, AssetId, NameKind};
-
-#[cfg(test)]
-mod tests;

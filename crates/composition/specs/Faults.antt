@@ -5,6 +5,7 @@ pub use Rattle.prim_view.specs.declared.fault.PrimFault.{PrimFault as Fault}
 pub use Rattle.prim_view.specs.declared.fault.PrimFault.TheVariants.{Sublayer as sublayer, Arc as arc, TimeOutside as time_outside, TargetOutside as target_outside, ChildTooLong as child_too_long, Overgrown as overgrown}
 use Rattle.prim_view.specs.Printing.{fault_text}
 use Rattle.std.specs.Prelude.{ℕ, ◌==◌, Bool, true, false, not, ◌||◌, List, [], ◌∷◌, ◌++◌, map, flat_map, filter, zip, codes, Option, Some, None}
+use Rattle.list_ops.specs.ListEdits.{firsts}
 use Rattle.path_maps.specs.declared.kind.ArcKind.{ArcKind}
 use Rattle.path_maps.specs.declared.kind.ArcKind.TheVariants.{Inherits, Reference, Payload, Specializes}
 use Rattle.composition.specs.Texts.{Text, same_text, both}
@@ -109,7 +110,7 @@ site_of (node n h own lifted) = record {
 }
 
 -- what composition makes of a prim before it looks at values: the choices of level 0, the sites from strong to weak, and the faults of
--- its arcs; nothing where a listing was overgrown
+-- its arcs, each once; nothing where a listing was overgrown
 pub record Index : Type 0 where
   pub choices : Choices
   pub sites : List Site
@@ -124,7 +125,7 @@ module _ (l : Limits) where
         | false ↦ Some (record {
           choices = (frame_at (node_of t) 0).choices;
           sites = map site_of (sites l t);
-          faults = flat_map node_faults (listing l t);
+          faults = firsts same_fault (flat_map node_faults (listing l t));
         })
       ]
 

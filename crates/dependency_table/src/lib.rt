@@ -4,7 +4,5 @@
 mod collect;
 mod links;
 mod table;
-#[cfg(test)]
-mod tests;
 
 pub use table::Table;

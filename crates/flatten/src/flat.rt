@@ -12,7 +12,7 @@ use crate::prim::flat_spec;
 use plain_data::copy;
 use prim_view::PrimView;
 use sdf_paths::Path;
-use sdf_specs::{Layer, OrderedTable, Spec};
+use sdf_specs::{Layer, SharedTable, Spec};
 use stage_publish::View;
 use std::alloc::{AllocError, Global};
 use usda_writer::write_layer;
@@ -26,7 +26,7 @@ fn root_of<'v>(alloc: Global, view: &'v View<'_, Path, PrimView>) -> Option<&'v 
 }
 
 /// Puts a value at a path, in place of one that is there.
-fn put<V: Drop>(values: &mut OrderedTable<Path, V>, path: &Path, value: V) -> Result<(), AllocError>
+fn put<V: Drop>(values: &mut SharedTable<Path, V>, path: &Path, value: V) -> Result<(), AllocError>
     ensures { OnOk result (values.new ≡ with_spec path.now value values.old) }
 {
     values.insert(copy(path)?, value)?;
@@ -36,7 +36,7 @@ fn put<V: Drop>(values: &mut OrderedTable<Path, V>, path: &Path, value: V) -> Re
 /// Puts a prim into a table of specs; `/` has no spec.
 fn put_prim(
     alloc: Global,
-    specs: &mut OrderedTable<Path, Spec>,
+    specs: &mut SharedTable<Path, Spec>,
     path: &Path,
     prim: &PrimView,
 ) -> Result<(), AllocError>
@@ -52,7 +52,7 @@ fn put_prim(
 /// Puts the prim at an index of a stage into a table of specs, if there is one.
 fn put_nth(
     alloc: Global,
-    specs: &mut OrderedTable<Path, Spec>,
+    specs: &mut SharedTable<Path, Spec>,
     view: &View<'_, Path, PrimView>,
     i: usize,
 ) -> Result<(), AllocError>
@@ -67,7 +67,7 @@ fn put_nth(
 /// Puts each prim of a stage into a table of specs, in the order of the stage.
 fn put_prims(
     alloc: Global,
-    specs: &mut OrderedTable<Path, Spec>,
+    specs: &mut SharedTable<Path, Spec>,
     view: &View<'_, Path, PrimView>,
 ) -> Result<(), AllocError>
     ensures { OnOk result (specs.new ≡ with_prims view.now.items specs.old) }
@@ -86,7 +86,7 @@ fn put_prims(
 pub fn flatten_layer(alloc: Global, view: &View<'_, Path, PrimView>) -> Result<Layer, AllocError>
     ensures { IfOk result (λ layer. layer ≡ flat_layer view.now.items) }
 {
-    let mut specs = OrderedTable::new(alloc);
+    let mut specs = SharedTable::new(alloc);
     put_prims(alloc, &mut specs, view)?;
     let head = head_of(alloc, root_of(alloc, view))?;
     Ok(Layer::from_parts(alloc, head, specs))

@@ -8,8 +8,6 @@
 mod adapters;
 mod faults;
 mod memory;
-#[cfg(test)]
-mod tests;
 
 ghost use Rattle.std.specs.Prelude.{◌≡◌, ◌<◌, ◌≤◌, ℕ, List, Option, length, IfSome};
 ghost use Rattle.io_edges.specs.Causes.{Rose};

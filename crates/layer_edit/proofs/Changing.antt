@@ -10,7 +10,7 @@ use Rattle.sdf_paths.specs.declared.element.Element.TheVariants.{Prim, Property 
 use Rattle.sdf_specs.specs.Layers.{LayerTable, SpecEntries, spec_at, with_spec_for}
 use Rattle.spec_parts.specs.declared.spec.Head.{Head}
 use Rattle.spec_parts.specs.declared.spec.Spec.{Spec}
-use Rattle.std.specs.Prelude.{IfSome, IfErr, OnOk, OnErr}
+use Rattle.std.specs.Prelude.{IfSome, IfOk, OnOk}
 use Rattle.spec_properties.specs.Properties.{same_name, property_name, property_at, with_property, blank_relationship}
 use Rattle.spec_properties.specs.declared.property.Property.{Property}
 use Rattle.spec_properties.specs.declared.property.Property.TheVariants.{Attr, Rel}
@@ -171,10 +171,16 @@ reordered_below (e ∷ path) word names layer below = refl
 pub moved : {A E : Type 0} (r : Result A E) (new x y : LayerTable) → x ≡ y → OnOk r (new ≡ x) → OnOk r (new ≡ y)
 moved r new x y e h = subst (λ (z : LayerTable). OnOk r (new ≡ z)) e h
 
-pub put : (r : Result Spec Spec) (path : List Element) (spec : Spec) (old new : LayerTable) → OnOk r (new ≡ record old { specs = with_spec_for path spec old.specs })
-    → IfErr r (λ back. (back ≡ spec) × (spec_at path old.specs ≡ None)) → OnErr r (new ≡ old) → new ≡ record old { specs = with_spec_for path spec old.specs }
-put (Ok before) path spec old new done absent same = done
-put (Err back) path spec old new done absent same = same ∙ ap (layer_of old.head) (sym (none_exchanged (is_at (path_cmp path)) spec old.specs absent.1))
+-- what was answered, in other words
+pub if_done : {A E X Y : Type 0} (r : Result A E) → (X → Y) → OnOk r X → OnOk r Y
+if_done (Ok a) f x = f x
+if_done (Err e) f x = tt
+
+-- where nothing was taken, nothing changed
+pub untaken : {E : Type 0} (r : Result (Option Spec) E) (path : List Element) (blank : Spec) (old new : LayerTable) → IfOk r (λ taken. taken ≡ spec_at path old.specs)
+    → OnOk r (new ≡ record old { specs = with_spec_for path blank old.specs }) → IfOk r (λ taken. taken ≡ None → new ≡ old)
+untaken (Ok taken) path blank old new at put = λ none. put ∙ ap (layer_of old.head) (none_exchanged (is_at (path_cmp path)) blank old.specs (sym at ∙ none))
+untaken (Err e) path blank old new at put = tt
 
 pub at_place : (path owner : List Element) (name copied : List ℕ) (change : PropertyChange) (layer : LayerTable) → owner ≡ above path → copied ≡ name → Some (Named name) ≡ last_element path
     → changed_spec owner (spec_changed (spec_change.ChangeProperty copied change)) layer ≡ changed_property path (property_changed change) layer

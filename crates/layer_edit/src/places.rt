@@ -79,23 +79,21 @@ pub fn has_spec(alloc: Global, layer: &Layer, path: &Path) -> Result<bool, Alloc
 }
 
 /// Takes a spec out of its place, to be changed and put back.
-fn take_spec(alloc: Global, layer: &mut Layer, path: &Path) -> Option<Spec>
-    ensures taken { result ≡ spec_at path.now layer.old.specs }
-    ensures left { (spec : Spec) → with_spec_for path.now spec layer.new.specs ≡ with_spec_for path.now spec layer.old.specs }
-    ensures head { layer.new.head ≡ layer.old.head }
-    ensures none { result ≡ None → layer.new ≡ layer.old }
+fn take_spec(alloc: Global, layer: &mut Layer, path: &Path) -> Result<Option<Spec>, AllocError>
+    ensures taken { IfOk result (λ taken. taken ≡ spec_at path.now layer.old.specs) }
+    ensures left { OnOk result ((spec : Spec) → with_spec_for path.now spec layer.new.specs ≡ with_spec_for path.now spec layer.old.specs) }
+    ensures head { OnOk result (layer.new.head ≡ layer.old.head) }
+    ensures none { IfOk result (λ taken. taken ≡ None → layer.new ≡ layer.old) }
 {
-    match layer.replace(path, Spec::blank(alloc, Specifier::Over)) {
-        Ok(spec) => Some(spec),
-        Err(_) => None,
-    }
+    layer.replace(path, Spec::blank(alloc, Specifier::Over))
 }
 
 /// Puts a spec at a path that has one.
-fn put_spec(layer: &mut Layer, path: &Path, spec: Spec)
-    ensures { layer.new ≡ record layer.old { specs = with_spec_for path.now spec layer.old.specs } }
+fn put_spec(layer: &mut Layer, path: &Path, spec: Spec) -> Result<(), AllocError>
+    ensures { OnOk result (layer.new ≡ record layer.old { specs = with_spec_for path.now spec layer.old.specs }) }
 {
-    drop(layer.replace(path, spec));
+    layer.replace(path, spec)?;
+    Ok(())
 }
 
 /// Changes the spec at a path, where there is one.
@@ -107,11 +105,10 @@ pub fn change_at(
 ) -> Result<(), AllocError>
     ensures { OnOk result (layer.new ≡ changed_spec path.now (spec_changed change) layer.old) }
 {
-    match take_spec(alloc, layer, path) {
+    match take_spec(alloc, layer, path)? {
         Some(spec) => {
             let spec = changed(alloc, spec, change)?;
-            put_spec(layer, path, spec);
-            Ok(())
+            put_spec(layer, path, spec)
         }
         None => {
             drop(change);

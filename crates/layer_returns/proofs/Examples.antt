@@ -30,10 +30,10 @@ use Rattle.metadata_reads.specs.Selections.{AreSelectionsKept}
 use Rattle.layer_returns.specs.Examples.{ExamplesComeBack}
 use Rattle.layer_returns.specs.Layers.{IsLayerKept}
 
-no_items : {T : Type 0} (same : T → T → Bool) (W : T → Type 0) → AreKept same W []
+pub no_items : {T : Type 0} (same : T → T → Bool) (W : T → Type 0) → AreKept same W []
 no_items same W = record { each = tt; once = refl }
 
-no_lists : {T : Type 0} (same : T → T → Bool) (W : T → Type 0) → IsListKept same W no_edits
+pub no_lists : {T : Type 0} (same : T → T → Bool) (W : T → Type 0) → IsListKept same W no_edits
 no_lists same W = record {
   inexplicit = refl;
   deleted = no_items same W;
@@ -43,11 +43,11 @@ no_lists same W = record {
   ordered = no_items same W;
 }
 
-no_meta : (is_plain : Keyword → Bool) (base : List Element) → IsMetaKept is_plain base []
+pub no_meta : (is_plain : Keyword → Bool) (base : List Element) → IsMetaKept is_plain base []
 unfolding IsStrictlySortedBy
 no_meta is_plain base = record { ordered = tt; each = tt }
 
-no_selections : AreSelectionsKept []
+pub no_selections : AreSelectionsKept []
 unfolding IsStrictlySortedBy
 no_selections = record { ordered = tt; each = tt }
 

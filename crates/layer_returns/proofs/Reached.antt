@@ -173,7 +173,7 @@ module _ (p : List Element) (specs : SpecEntries) (behind : List Element → Spe
 -- ---- the path of an owner is as it was
 
 module _ (specs : SpecEntries) (behind : List Element → Specifier → Spec → Standing → Standing) where
-  child_path : (name : List ℕ) (path : List Element) (o : Option Spec) (at : Standing) → (behind_child specs behind name path o at).owner.said ≡ at.owner.said
+  pub child_path : (name : List ℕ) (path : List Element) (o : Option Spec) (at : Standing) → (behind_child specs behind name path o at).owner.said ≡ at.owner.said
   unfolding with_child
   child_path name path None at = refl
   child_path name path (Some spec) at = refl
@@ -183,27 +183,27 @@ module _ (specs : SpecEntries) (behind : List Element → Specifier → Spec →
   children_path path (name ∷ names) at =
       children_path path names (behind_child specs behind name (path ++ Prim name ∷ []) (spec_below specs path (Prim name)) at) ∙ child_path name (path ++ Prim name ∷ []) (spec_below specs path (Prim name)) at
 
-  variant_path : (name : List ℕ) (path : List Element) (o : Option Spec) (at : Standing) → (behind_variant specs behind name path o at).owner.said ≡ at.owner.said
+  pub variant_path : (name : List ℕ) (path : List Element) (o : Option Spec) (at : Standing) → (behind_variant specs behind name path o at).owner.said ≡ at.owner.said
   unfolding with_variant
   variant_path name path None at = refl
   variant_path name path (Some spec) at = refl
 
-  variants_path : (path : List Element) (set : List ℕ) (names : List (List ℕ)) (at : Standing) → (behind_variants specs behind path set names at).owner.said ≡ at.owner.said
+  pub variants_path : (path : List Element) (set : List ℕ) (names : List (List ℕ)) (at : Standing) → (behind_variants specs behind path set names at).owner.said ≡ at.owner.said
   variants_path path set [] at = refl
   variants_path path set (name ∷ names) at =
       variants_path path set names (behind_variant specs behind name (path ++ Selection set name ∷ []) (spec_below specs path (Selection set name)) at)
       ∙ variant_path name (path ++ Selection set name ∷ []) (spec_below specs path (Selection set name)) at
 
-  sets_path : (path : List Element) (ss : List VariantSet) (at : Standing) → (behind_sets specs behind path ss at).owner.said ≡ at.owner.said
+  pub sets_path : (path : List Element) (ss : List VariantSet) (at : Standing) → (behind_sets specs behind path ss at).owner.said ≡ at.owner.said
   unfolding with_set
   sets_path path [] at = refl
   sets_path path (s ∷ ss) at = sets_path path ss (behind_variants specs behind path s.set s.variants (in_set specs behind s.set at)) ∙ variants_path path s.set s.variants (in_set specs behind s.set at)
 
-properties_path : (ps : List Property) (at : Standing) → (behind_properties ps at).owner.said ≡ at.owner.said
+pub properties_path : (ps : List Property) (at : Standing) → (behind_properties ps at).owner.said ≡ at.owner.said
 properties_path [] at = refl
 properties_path (p ∷ ps) at = properties_path ps (with_more p (marks_of p) at)
 
-body_path : (specs : SpecEntries) (levels : ℕ) (path : List Element) (specifier : Specifier) (ty : Option (List ℕ)) (spec : Spec) (round : Owner) (at : Standing)
+pub body_path : (specs : SpecEntries) (levels : ℕ) (path : List Element) (specifier : Specifier) (ty : Option (List ℕ)) (spec : Spec) (round : Owner) (at : Standing)
     → (behind_body specs levels path specifier spec (inside path specifier ty spec round at)).owner.said.path ≡ path
 body_path specs zero path specifier ty spec round at = refl
 body_path specs (suc levels) path specifier ty spec round at =

@@ -33,7 +33,7 @@ use Rattle.layer_returns.proofs.Layers.{texts_taken}
 use Rattle.layer_returns.proofs.Reached.{reached_specs_are_read}
 use Rattle.layer_returns.proofs.Whole.{properties_specs, specs_are_the_layers, roots_there}
 
-paths_total : IsTotalOrder path_cmp
+pub paths_total : IsTotalOrder path_cmp
 paths_total = subst (λ (R : List Element → List Element → Ordering). IsTotalOrder R) order_is total-law
 
 one_entry : {K V : Type 0} (a b : K × V) → a.0 ≡ b.0 → a.1 ≡ b.1 → a ≡ b

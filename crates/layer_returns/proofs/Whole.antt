@@ -36,7 +36,7 @@ module _ (p q : List Element) (s : Spec) (G : Spec → Type 0) (here : p ≡ q �
   first true e rest more x h = let same : s ≡ x = cc h in subst G same (here (same_path p q e))
   first false e rest more x h = more x h
 
-  one_more : (t : List (List Element × Spec)) → ((x : Spec) → at_key path_cmp p t ≡ Some x → G x) → (x : Spec) → at_key path_cmp p (with_key path_cmp q s t) ≡ Some x → G x
+  pub one_more : (t : List (List Element × Spec)) → ((x : Spec) → at_key path_cmp p t ≡ Some x → G x) → (x : Spec) → at_key path_cmp p (with_key path_cmp q s t) ≡ Some x → G x
   one_more [] old x h = first (is_eq (path_cmp p q)) refl None (λ x h. absurd cc) x h
   one_more (e ∷ es) old x h = by (path_cmp q e.0) refl old (one_more es) x h
     where

@@ -6,7 +6,5 @@ mod edits;
 mod exact;
 mod op;
 mod places;
-#[cfg(test)]
-mod tests;
 
 pub use op::{ListOp, fold, fold_ordered, reorder, reorder_ordered};

@@ -6,8 +6,6 @@ mod arc_map;
 mod kind;
 mod moves;
 mod same;
-#[cfg(test)]
-mod tests;
 
 pub use arc_map::ArcMap;
 pub use kind::ArcKind;

@@ -1,6 +1,4 @@
 pub mod Active
-pub mod Faulted
-pub mod Once
 pub mod Propertied
 pub mod Rooms
 pub mod Rooted

@@ -22,7 +22,8 @@ use Rattle.composition.specs.World.{World, RootNames, Root}
 use Rattle.field_resolve.specs.Folding.{folded_texts, texts_once}
 use Rattle.layer_set.specs.LookUps.{layer_head}
 use Rattle.layer_stack.specs.Meant.{defined_stack}
-use Rattle.prim_compose.specs.Composed.{namings_of, named_by, root_viewed, root_metadata, faults_once}
+use Rattle.prim_compose.specs.Composed.{namings_of, named_by, root_viewed, root_metadata}
+use Rattle.prim_index.specs.Once.{faults_once}
 use Rattle.prim_compose.specs.Root.{default_key, with_default, merged_onto, said_by_session, session_tables, root_with}
 
 abbrev naming_in : Option RootNames → Option Naming

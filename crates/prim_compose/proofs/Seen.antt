@@ -22,7 +22,8 @@ use Rattle.prim_index.specs.Answer.{index_at, sites_in, faults_in, is_none}
 use Rattle.prim_opinions.specs.Counting.{counted}
 use Rattle.prim_opinions.specs.Gathering.{said_on}
 use Rattle.prim_compose.specs.Activity.{says_inactive}
-use Rattle.prim_compose.specs.Composed.{faults_once, unless_inactive, property_views, faults_of_property, view_at, root_viewed}
+use Rattle.prim_index.specs.Once.{faults_once}
+use Rattle.prim_compose.specs.Composed.{unless_inactive, property_views, faults_of_property, view_at, root_viewed}
 use Rattle.prim_compose.specs.Listing.{entry_at}
 use Rattle.prim_compose.specs.Properties.{views_on, faults_on}
 use Rattle.prim_compose.specs.Viewed.{index_in, active_names, seen, seen_by}

@@ -5,7 +5,6 @@ use Rattle.std.specs.List.{flat_map}
 use Rattle.std.specs.BTreeMap.{is_at}
 use Rattle.std.specs.Cmp.Lexicographic.{slice_cmp}
 use Rattle.std.specs.Ordering.{nat_cmp}
-use Rattle.list_ops.specs.ListEdits.{firsts}
 use Rattle.prim_view.specs.declared.view.PrimView.{PrimView}
 use Rattle.prim_view.specs.declared.view.PropertyView.{PropertyView}
 use Rattle.spec_properties.specs.Entries.{MetaEntries}
@@ -19,7 +18,7 @@ use Rattle.composition.specs.Merging.{merged_all}
 use Rattle.composition.specs.Fields.{naming_edit, children_naming}
 use Rattle.composition.specs.Opinions.{Said}
 use Rattle.composition.specs.Values.{PropertySaid}
-use Rattle.composition.specs.Faults.{Fault, Index, same_fault}
+use Rattle.composition.specs.Faults.{Fault, Index}
 use Rattle.composition.specs.Views.{view, view_from, root_view, root_meta, property_view, property_faults, property_meta}
 
 -- the composed view of a path, within the limits of this project
@@ -62,10 +61,6 @@ merged_metadata ps = merged_all (map (λ p. property_meta p.property) ps)
 -- the two texts are one
 abbrev pub same_name : Text → Text → Bool
 same_name a b = is_at (slice_cmp nat_cmp a) b
-
--- each fault once
-unfoldable pub faults_once : List Fault → List Fault
-faults_once faults = firsts same_fault faults
 
 -- the names of children, unless the prim is inactive
 abbrev pub unless_inactive : Bool → List Text → List Text

@@ -12,7 +12,7 @@ use Rattle.composition.specs.Fields.{listed_children, unlisted_children}
 use Rattle.composition.specs.Paths.{limits}
 use Rattle.composition.specs.Views.{PrimView, empty_view, head_meta, root_site}
 use Rattle.composition.specs.World.{World}
-use Rattle.prim_compose.specs.Composed.{faults_once}
+use Rattle.prim_index.specs.Once.{faults_once}
 
 -- the key of the default prim among the metadata of `/`
 unfoldable pub default_key : Text

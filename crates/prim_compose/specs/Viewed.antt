@@ -11,7 +11,8 @@ use Rattle.composition.specs.World.{World}
 use Rattle.field_resolve.specs.Folding.{specifier_on, type_on, schemas_on, clips_on, meta_on, children_on}
 use Rattle.prim_index.specs.Answer.{sites_in, choices_in, faults_in}
 use Rattle.prim_compose.specs.Activity.{says_inactive}
-use Rattle.prim_compose.specs.Composed.{faults_once, unless_inactive}
+use Rattle.prim_index.specs.Once.{faults_once}
+use Rattle.prim_compose.specs.Composed.{unless_inactive}
 use Rattle.prim_compose.specs.Properties.{views_on, faults_on}
 
 -- what an index has

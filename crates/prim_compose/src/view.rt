@@ -6,7 +6,7 @@ ghost use Rattle.layer_set.specs.LookUps.{look_ups};
 ghost use Rattle.layer_set.specs.Rules.{IsStagePrim};
 ghost use Rattle.prim_index.specs.Answer.{index_at, faults_in};
 ghost use Rattle.sdf_paths.specs.Paths.{is_prim_name};
-ghost use Rattle.prim_compose.specs.Composed.{faults_once};
+ghost use Rattle.prim_index.specs.Once.{faults_once};
 ghost use Rattle.prim_compose.specs.Listing.{entry_at};
 ghost use Rattle.prim_compose.specs.Viewed.{index_in, seen, seen_by};
 

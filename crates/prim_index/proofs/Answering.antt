@@ -1,5 +1,6 @@
 -- The index of a prim, from its tree.
 use Rattle.std.proofs.Common.{◌≡◌, ◌∙◌, sym, ap, refl, ℕ, zero, suc, Bool, true, false, List, [], map, flat_map, Option, Some, None, length, Result, Ok, Err, IfOk}
+use Rattle.list_ops.specs.ListEdits.{firsts}
 use Rattle.composition.specs.Paths.{Path, Limits}
 use Rattle.composition.specs.World.{World, identity, is_loaded, Root}
 use Rattle.composition.specs.Nodes.{Node, Here, Frame, Choices, frame_at, bare_node}
@@ -7,10 +8,11 @@ use Rattle.composition.specs.Opinions.{Site}
 use Rattle.composition.specs.Trees.{Tree, node_of}
 use Rattle.composition.specs.Strength.{sites, listing}
 use Rattle.composition.specs.Compose.{meaning, level, bottom, tree_of, frames_along, is_overgrown_on_the_way}
-use Rattle.composition.specs.Faults.{Index, Fault, site_of, node_faults}
+use Rattle.composition.specs.Faults.{Index, Fault, same_fault, site_of, node_faults}
 use Rattle.prim_index.specs.Answer.{index_at, indexed_of, stage_node_at, sites_in, choices_in, faults_in, is_none, viewed, IsAnswer}
 use Rattle.prim_index.specs.Depths.{deeper, tree_below, full_tree, frames_below}
 use Rattle.prim_index.specs.Loading.{loads}
+use Rattle.prim_index.specs.Once.{faults_once}
 use Rattle.prim_index.specs.Reading.{said}
 use Rattle.prim_index.specs.declared.grow.Payloads.TheVariants.{Ruled, All}
 
@@ -53,7 +55,7 @@ module _ (l : Limits) (t : Tree) where
     | false ↦ Some (record {
       choices = (frame_at (node_of t) 0).choices;
       sites = map site_of (sites l t);
-      faults = flat_map node_faults (listing l t);
+      faults = firsts same_fault (flat_map node_faults (listing l t));
     })
   ]
 
@@ -62,9 +64,9 @@ module _ (l : Limits) (t : Tree) where
   index_none r is on = sym (ap by_growth (sym is ∙ on))
 
   pub index_some : (r : Bool) (choices : Choices) (found : List Site) (faults : List Fault) → r ≡ is_overgrown_on_the_way t → r ≡ false
-      → choices ≡ (frame_at (node_of t) 0).choices → found ≡ map site_of (sites l t) → faults ≡ flat_map node_faults (listing l t)
+      → choices ≡ (frame_at (node_of t) 0).choices → found ≡ map site_of (sites l t) → faults ≡ faults_once (flat_map node_faults (listing l t))
       → Some (let i : Index = record { choices = choices; sites = found; faults = faults } in i) ≡ indexed_of l t
-  unfolding indexed_of
+  unfolding indexed_of faults_once
   index_some r choices found faults is off chosen sited faulted =
       (λ i. Some (let x : Index = record { choices = chosen i; sites = sited i; faults = faulted i } in x))
       ∙ sym (ap by_growth (sym is ∙ off))

@@ -2,10 +2,12 @@ pub mod Answering
 pub mod Choosing
 pub mod Cutting
 pub mod Depths
+pub mod Faulted
 pub mod Following
 pub mod Fronts
 pub mod Grown
 pub mod Names
+pub mod Once
 pub mod Saying
 pub mod Settled
 pub mod Steps

@@ -3,6 +3,7 @@ pub mod Branches
 pub mod Children
 pub mod Depths
 pub mod Following
+pub mod Once
 pub mod Reading
 pub mod Grown
 pub mod Loading

@@ -7,6 +7,7 @@ ghost use Rattle.layer_set.specs.Rules.{IsStagePrim};
 ghost use Rattle.prim_trees.specs.Meant.{meant};
 ghost use Rattle.prim_index.specs.Answer.{index_at, indexed_of, nothing_there, sites_in, choices_in, faults_in, is_none};
 
+use crate::faults::faults_once;
 use crate::settling::stage_tree;
 use layer_set::World;
 use plain_data::{Items, copy};
@@ -56,7 +57,7 @@ impl PrimIndex {
         &self.choices
     }
 
-    /// The faults of the prim's arcs; of an overgrown prim that one alone.
+    /// The faults of the prim's arcs, each once; of an overgrown prim that one alone.
     pub fn faults(&self) -> &[PrimFault]
         ensures { result.now ≡ faults_in self.now }
     {
@@ -138,7 +139,8 @@ fn index_of(alloc: Global, tree: &Tree) -> Result<PrimIndex, AllocError>
     }
     let found = sites(alloc, tree)?;
     let choices = choices_at(alloc, tree)?;
-    let faults = arc_faults(alloc, tree)?;
+    let all = arc_faults(alloc, tree)?;
+    let faults = faults_once(alloc, all.as_slice())?;
     Ok(told(choices, found, faults))
 }
 

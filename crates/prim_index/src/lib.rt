@@ -3,6 +3,7 @@
 
 mod branches;
 mod children;
+mod faults;
 mod follow;
 mod grow;
 mod indexing;
@@ -10,5 +11,6 @@ mod levels;
 mod reading;
 mod settling;
 
+pub use faults::faults_once;
 pub use grow::{MAX_DEPTH, MAX_NODES, MAX_ROUNDS};
 pub use indexing::{PrimIndex, index};

@@ -10,8 +10,6 @@ mod fault;
 mod looks;
 mod path;
 mod reader;
-#[cfg(test)]
-mod tests;
 mod variants;
 
 pub use element::Element;

@@ -9,10 +9,9 @@ use crate::put_refused::PutRefused;
 use crate::trees::{put_at, remove_tree};
 use plain_data::{ExactClone, ExactEq, copy, same};
 use sdf_paths::Path;
+use shared_tables::{Entries, SharedTable};
 use spec_parts::{Head, Spec};
-use spec_tables::OrderedTable;
 use std::alloc::{AllocError, Global};
-use std::collections::btree_map::{Iter, Range};
 use std::marker::Model;
 use std::mem;
 
@@ -22,7 +21,7 @@ use std::mem;
 #[derive(Debug, Drop)]
 pub struct Layer {
     head: Head,
-    specs: OrderedTable<Path, Spec>,
+    specs: SharedTable<Path, Spec>,
     alloc: Global,
 }
 
@@ -46,13 +45,13 @@ impl Layer {
     {
         Layer {
             head: Head::blank(alloc),
-            specs: OrderedTable::new(alloc),
+            specs: SharedTable::new(alloc),
             alloc,
         }
     }
 
     /// The layer of this head and these specs. Takes no memory.
-    pub fn from_parts(alloc: Global, head: Head, specs: OrderedTable<Path, Spec>) -> Layer
+    pub fn from_parts(alloc: Global, head: Head, specs: SharedTable<Path, Spec>) -> Layer
         ensures { result ≡ record { head = head; specs = specs } }
     {
         Layer { head, specs, alloc }
@@ -109,17 +108,8 @@ impl Layer {
         self.specs.is_empty()
     }
 
-    /// The path and the spec at this place, counted from 0 in the order of paths; nothing past the end. It walks to the place:
-    /// `iter` goes over the whole table.
-    pub fn at(&self, i: usize) -> Option<(&Path, &Spec)>
-        ensures entry { option_map (λ e. (e.0.now, e.1.now)) result ≡ slice_get self.now.specs i }
-        ensures order { AreSpecs self.now.specs }
-    {
-        self.specs.at(i)
-    }
-
     /// The paths and specs in the order of paths, from either end.
-    pub fn iter(&self) -> Iter<'_, Path, Spec>
+    pub fn iter(&self) -> Entries<'_, Path, Spec>
         ensures rest { result ≡ self.now.specs }
         ensures runs { ShowsInOrder (deref_pair {K = Path} {X = Spec}) }
         ensures order { AreSpecs self.now.specs }
@@ -129,7 +119,7 @@ impl Layer {
     }
 
     /// The paths and specs from a path on, in the order of paths, found by a search: the path itself and those below it come first.
-    pub fn iter_from(&self, path: &Path) -> Range<'_, Path, Spec>
+    pub fn iter_from(&self, path: &Path) -> Entries<'_, Path, Spec>
         ensures rest { result ≡ specs_from path.now self.now.specs }
         ensures runs { ShowsInOrder (deref_pair {K = Path} {X = Spec}) }
         ensures order { AreSpecs self.now.specs }
@@ -155,15 +145,18 @@ impl Layer {
         put_at(&mut self.specs, path, spec)
     }
 
-    /// Exchanges the spec at a path that is there, and answers the one before; else hands the spec back. Takes no memory, so that
-    /// a spec can be taken out for a blank one, changed, and put back.
-    pub fn replace(&mut self, path: &Path, spec: Spec) -> Result<Spec, Spec>
-        ensures before { IfOk result (λ before. spec_at path.now self.old.specs ≡ Some before) }
+    /// Exchanges the spec at a path that is there, and answers the one before as one's own; nothing where there is none. So a spec
+    /// can be taken out for a blank one, changed, and put back; it is copied only where another layer shares it.
+    ///
+    /// # Errors
+    ///
+    /// Memory ran out. The layer is as before.
+    pub fn replace(&mut self, path: &Path, spec: Spec) -> Result<Option<Spec>, AllocError>
+        ensures before { IfOk result (λ before. before ≡ spec_at path.now self.old.specs) }
         ensures ok { OnOk result (self.new ≡ record self.old { specs = with_spec_for path.now spec self.old.specs }) }
-        ensures absent { IfErr result (λ back. (back ≡ spec) × (spec_at path.now self.old.specs ≡ None)) }
         ensures err { OnErr result (self.new ≡ self.old) }
     {
-        self.specs.replace(path, spec)
+        self.specs.exchange(path, spec)
     }
 
     /// Takes away what stands at a path and below it, and answers whether anything did. It costs a search for each spec that goes.

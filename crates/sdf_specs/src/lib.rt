@@ -5,12 +5,11 @@
 
 mod layer;
 mod put_refused;
-#[cfg(test)]
-mod tests;
 mod trees;
 
 pub use layer::Layer;
 pub use put_refused::PutRefused;
+pub use shared_tables::SharedTable;
 pub use spec_parts::{
     ArcPart, BodyPart, Head, RefItem, Refusal, RefusalKind, Spec, Specifier, SubLayer, VariantSet,
 };

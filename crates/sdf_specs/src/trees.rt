@@ -4,20 +4,20 @@ ghost use Rattle.std.specs.Map.{keys_of};
 ghost use Rattle.sdf_specs.specs.Layers.{is_owner, has_parent, has_tree, tree, without_tree, without_paths, with_spec};
 
 use crate::put_refused::PutRefused;
-use plain_data::{Items, copy};
+use plain_data::{ExactClone, Items, copy};
 use sdf_paths::Path;
-use spec_tables::OrderedTable;
+use shared_tables::SharedTable;
 use std::alloc::{AllocError, Global};
 
 /// Whether the path is `/` or in the table.
-fn is_owner<V>(specs: &OrderedTable<Path, V>, path: &Path) -> bool
+fn is_owner<V>(specs: &SharedTable<Path, V>, path: &Path) -> bool
     ensures { result ≡ is_owner (Some path.now) specs.now }
 {
     path.is_root() || specs.has(path)
 }
 
 /// Whether the path without its last element is `/` or in the table.
-fn has_parent<V>(specs: &OrderedTable<Path, V>, path: &Path) -> Result<bool, AllocError>
+fn has_parent<V>(specs: &SharedTable<Path, V>, path: &Path) -> Result<bool, AllocError>
     ensures { IfOk result (λ has. has ≡ has_parent path.now specs.now) }
 {
     match path.parent()? {
@@ -29,7 +29,7 @@ fn has_parent<V>(specs: &OrderedTable<Path, V>, path: &Path) -> Result<bool, All
 /// The paths of the table at a path and below it.
 fn paths_of_tree<V>(
     alloc: Global,
-    specs: &OrderedTable<Path, V>,
+    specs: &SharedTable<Path, V>,
     front: &Path,
 ) -> Result<Items<Path>, AllocError>
     ensures { IfOk result (λ paths. paths ≡ keys_of (tree front.now specs.now)) }
@@ -45,17 +45,21 @@ fn paths_of_tree<V>(
 }
 
 /// Takes the entries of these paths away.
-fn remove_all<V: Drop>(specs: &mut OrderedTable<Path, V>, paths: &[Path])
-    ensures { specs.new ≡ without_paths paths.now specs.old }
+fn remove_all<V: ExactClone + Drop>(
+    specs: &mut SharedTable<Path, V>,
+    paths: &[Path],
+) -> Result<(), AllocError>
+    ensures { OnOk result (specs.new ≡ without_paths paths.now specs.old) }
 {
     for path in paths {
-        specs.remove(path);
+        specs.remove(path)?;
     }
+    Ok(())
 }
 
 /// Puts an entry at a path whose path without its last element is `/` or in the table.
 pub fn put_at<V: Drop>(
-    specs: &mut OrderedTable<Path, V>,
+    specs: &mut SharedTable<Path, V>,
     path: &Path,
     value: V,
 ) -> Result<(), PutRefused>
@@ -72,8 +76,8 @@ pub fn put_at<V: Drop>(
 }
 
 /// Takes away what stands at a path and below it, and answers whether anything did.
-pub fn remove_tree<V: Drop>(
-    specs: &mut OrderedTable<Path, V>,
+pub fn remove_tree<V: ExactClone + Drop>(
+    specs: &mut SharedTable<Path, V>,
     alloc: Global,
     front: &Path,
 ) -> Result<bool, AllocError>
@@ -82,6 +86,8 @@ pub fn remove_tree<V: Drop>(
     ensures err { OnErr result (specs.new ≡ specs.old) }
 {
     let gone = paths_of_tree(alloc, specs, front)?;
-    remove_all(specs, gone.as_slice());
+    let mut left = copy(&*specs)?;
+    remove_all(&mut left, gone.as_slice())?;
+    *specs = left;
     Ok(!gone.is_empty())
 }

@@ -26,6 +26,3 @@ pub use refusal::RefusalKind;
 pub use time::{TimeCode, TimeRange};
 pub use type_name::{ELEMENTS, ElementType, Matrix, Precision, Role, TypeName, Width};
 pub use value::{DictItem, DictType, Value};
-
-#[cfg(test)]
-mod tests;

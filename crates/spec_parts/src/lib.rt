@@ -7,8 +7,6 @@ mod exact_items;
 mod exact_specs;
 mod items;
 mod spec;
-#[cfg(test)]
-mod tests;
 
 pub use items::{RefItem, Refusal, Specifier, SubLayer, VariantSet};
 pub use sdf_values::RefusalKind;

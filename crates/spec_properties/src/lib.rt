@@ -4,8 +4,6 @@
 mod properties;
 mod property;
 mod small;
-#[cfg(test)]
-mod tests;
 
 pub use properties::Properties;
 pub use property::Property;

@@ -3,8 +3,6 @@
 
 mod edition;
 mod places;
-#[cfg(test)]
-mod tests;
 mod view;
 
 pub use edition::Edition;

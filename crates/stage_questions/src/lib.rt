@@ -5,8 +5,6 @@ mod answer;
 mod lists;
 mod question;
 mod reply;
-#[cfg(test)]
-mod tests;
 mod told;
 
 pub use answer::push_answer;

@@ -2,7 +2,5 @@
 #![tactic(auto)]
 
 mod names;
-#[cfg(test)]
-mod tests;
 
 pub use names::{goes_on, is_continue, is_identifier, is_name, is_start, is_variant_character};

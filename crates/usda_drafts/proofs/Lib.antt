@@ -1,1 +1,2 @@
 mod ByPath
+mod Leaving

@@ -9,8 +9,8 @@ use plain_data::{Items, Text};
 use sdf_paths::Path;
 use sdf_specs::Layer;
 use sdf_values::TimeCode;
+use shared_tables::SharedTable;
 use spec_parts::{Spec, Specifier, SubLayer};
-use spec_tables::OrderedTable;
 use std::alloc::{AllocError, Global};
 use std::mem;
 use usda_fields::{ListField, OrderWord};
@@ -42,7 +42,7 @@ pub enum OpenList {
 #[derive(Debug, Drop)]
 pub struct Draft {
     /// The specs of the prims and variants that are closed.
-    pub specs: OrderedTable<Path, Spec>,
+    pub specs: SharedTable<Path, Spec>,
     /// The innermost owner that is open; the layer itself is the outermost.
     pub owner: Owner,
     /// The owners round it, the outermost first.
@@ -83,7 +83,7 @@ impl Draft {
         ensures { IfOk result (λ draft. draft ≡ blank) }
     {
         Ok(Draft {
-            specs: OrderedTable::new(alloc),
+            specs: SharedTable::new(alloc),
             owner: Owner::new(alloc, Path::root(alloc), Specifier::Over, None)?,
             outer: Items::new(alloc),
             sublayers: Items::new(alloc),
@@ -119,7 +119,7 @@ impl Draft {
     {
         let owner = mem::replace(&mut self.owner, blank);
         let sublayers = mem::replace(&mut self.sublayers, Items::new(alloc));
-        let specs = mem::replace(&mut self.specs, OrderedTable::new(alloc));
+        let specs = mem::replace(&mut self.specs, SharedTable::new(alloc));
         Layer::from_parts(alloc, head_from(key, owner, sublayers), specs)
     }
 

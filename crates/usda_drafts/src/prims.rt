@@ -218,7 +218,8 @@ impl Draft {
             return Ok(());
         };
         let inner = mem::replace(&mut self.owner, outer);
-        put_closed(&mut self.specs, path, inner)
+        put_closed(&mut self.specs, path, inner)?;
+        Ok(())
     }
 
     /// The `}` of a prim or a variant.

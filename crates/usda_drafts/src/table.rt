@@ -5,47 +5,31 @@ ghost use Rattle.usda_drafts.specs.Owners.{spec_of};
 
 use crate::owner::Owner;
 use sdf_paths::Path;
+use shared_tables::SharedTable;
 use spec_parts::Spec;
-use spec_tables::OrderedTable;
 use std::alloc::AllocError;
 
 /// Whether there is a spec at a path.
-pub fn has_spec(specs: &OrderedTable<Path, Spec>, path: &Path) -> bool
+pub fn has_spec(specs: &SharedTable<Path, Spec>, path: &Path) -> bool
     ensures { result ≡ is_closed path.now specs.now }
 {
     specs.has(path)
 }
 
-// Sets the spec at a path, and answers the one before.
-fn put_spec(
-    specs: &mut OrderedTable<Path, Spec>,
-    path: Path,
-    spec: Spec,
-) -> Result<Option<Spec>, AllocError>
+// Sets the spec at a path.
+fn put_spec(specs: &mut SharedTable<Path, Spec>, path: Path, spec: Spec) -> Result<(), AllocError>
     ensures { OnOk result (specs.new ≡ with_spec_at path spec specs.old) }
 {
     specs.insert(path, spec)
 }
 
-// The spec of an owner that is over.
-fn put_owner(
-    specs: &mut OrderedTable<Path, Spec>,
-    path: Path,
-    owner: Owner,
-) -> Result<Option<Spec>, AllocError>
-    ensures { OnOk result (specs.new ≡ with_spec_at path (spec_of owner) specs.old) }
-{
-    put_spec(specs, path, owner.into_spec())
-}
-
 /// Sets the spec of an owner that is over, at its path.
 pub fn put_closed(
-    specs: &mut OrderedTable<Path, Spec>,
+    specs: &mut SharedTable<Path, Spec>,
     path: Path,
     owner: Owner,
 ) -> Result<(), AllocError>
     ensures { OnOk result (specs.new ≡ with_spec_at path (spec_of owner) specs.old) }
 {
-    let _before = put_owner(specs, path, owner)?;
-    Ok(())
+    put_spec(specs, path, owner.into_spec())
 }

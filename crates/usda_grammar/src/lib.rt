@@ -12,8 +12,6 @@ mod prims;
 mod properties;
 mod symbols;
 mod table;
-#[cfg(test)]
-mod tests;
 mod values;
 
 pub use kinds::{Keyword, TokenKind, keyword_of, kind_of_word};

@@ -9,8 +9,6 @@ mod escapes;
 mod forms;
 mod name;
 mod place;
-#[cfg(test)]
-mod tests;
 mod token;
 mod tokens;
 

@@ -7,8 +7,6 @@ mod offset;
 mod paths;
 mod references;
 mod repeats;
-#[cfg(test)]
-mod tests;
 
 pub use edit::{GivenLists, ListEdit};
 pub use lists::{open_list, push_item};

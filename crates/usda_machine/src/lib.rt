@@ -13,9 +13,6 @@ use plain_data::Items;
 use std::alloc::AllocError;
 use usda_grammar::{Symbol, TokenKind, may_be_absent, starts};
 
-#[cfg(test)]
-mod tests;
-
 /// Puts symbols in front of those still to come. After want of memory a part of them may be there.
 pub fn push_all(stack: &mut Items<Symbol>, after: &[Symbol]) -> Result<(), AllocError>
     ensures { OnOk result (stack_of stack.new ≡ after.now ++ stack_of stack.old) }

@@ -1,29 +1,31 @@
--- What productions are made of.
+-- What productions are made of. Each word of a production names the symbol by which it is acted on: what it adds to a draft.
 use Rattle.std.specs.Prelude.{Bool, List, [], ◌∷◌}
 use Rattle.usda_grammar.specs.declared.kinds.TokenKind.{TokenKind}
 use Rattle.usda_grammar.specs.declared.kinds.TokenKind.TheVariants as token
 use Rattle.usda_grammar.specs.declared.kinds.Keyword.{Keyword}
+use Rattle.usda_grammar.specs.declared.symbols.Symbol.{Symbol}
+use Rattle.usda_grammar.specs.declared.symbols.Symbol.TheVariants as symbol
 use Rattle.usda_productions.specs.Tokens.{is, is_name, is_name_but}
 
--- the names of the productions
+-- the names of the productions; one that stands at several places has the symbol by which its first word is acted on there
 pub data Rule : Type 0 where
   root_statement : Rule
   head_item : Rule
   sublayer_list : Rule
   sublayer : Rule
   offset_item : Rule
-  prim : Rule
+  prim : Symbol → Rule
   prim_item : Rule
   edited_field : Rule
-  field : Rule
+  field : Symbol → Rule
   string_list : Rule
   path_list : Rule
   reference_list : Rule
-  reference : Rule
+  reference : Symbol → Rule
   statement : Rule
   variant_set : Rule
   variant : Rule
-  relationship : Rule
+  relationship : Symbol → Rule
   after_reorder : Rule
   after_edit : Rule
   after_edited_custom : Rule
@@ -34,15 +36,15 @@ pub data Rule : Type 0 where
   edited_dot : Rule
   sample : Rule
   property_item : Rule
-  value : Rule
-  dictionary : Rule
+  value : Symbol → Rule
+  dictionary : Symbol → Rule
   entry : Rule
   name_list : Rule
 
 mutual
   pub data Form : Type 0 where
-    -- a token of some kinds
-    one : (TokenKind → Bool) → Form
+    -- a word of some kinds, which adds what this symbol says
+    one : Symbol → (TokenKind → Bool) → Form
     -- what a production says
     rule : Rule → Form
     either : Seq → Seq → Form
@@ -50,8 +52,9 @@ mutual
     maybe : Seq → Form
     -- it any number of times
     many : Seq → Form
-    -- what follows the first of one or more, with commas between them and perhaps one behind them, up to a closing mark
-    more : Form → TokenKind → Form
+    -- What follows the first of one or more, with commas between them and perhaps one behind them, up to a closing mark. The first
+    -- symbol is that of the next one, or of the mark behind a comma; the second is that of a comma, or of the mark behind an item.
+    more : Symbol → Symbol → Form → TokenKind → Form
 
   pub data Seq : Type 0 where
     nil : Seq
@@ -74,33 +77,63 @@ a ∣ b = then (either a b) nil
 abbrev pub just : Form → Seq
 just f = then f nil
 
-abbrev pub tok : TokenKind → Form
-tok k = one (is k)
+-- a token of one kind
+abbrev pub tok : Symbol → TokenKind → Form
+tok s k = one s (is k)
 
-abbrev pub wrd : Keyword → Form
-wrd w = one (is (token.Word w))
+-- a word of the grammar
+abbrev pub wrd : Symbol → Keyword → Form
+wrd s w = one s (is (token.Word w))
 
-abbrev pub any_name : Form
-any_name = one is_name
+abbrev pub any_name : Symbol → Form
+any_name s = one s is_name
 
-abbrev pub name_but : List Keyword → Form
-name_but ws = one (is_name_but ws)
+-- a name, but none of these words
+abbrev pub name_but : Symbol → List Keyword → Form
+name_but s ws = one s (is_name_but ws)
 
 -- one or more with commas between them and perhaps one behind them, up to a closing mark
-abbrev pub commas : Form → TokenKind → Seq
-commas f k = f ▹ just (more f k)
+abbrev pub commas : Symbol → Symbol → Form → TokenKind → Seq
+commas next behind f k = f ▹ just (more next behind f k)
 
 -- none, or so many
-abbrev pub listed : Form → TokenKind → Form
-listed f k = either (tok k ▹ nil) (commas f k)
+abbrev pub listed : Symbol → Symbol → Form → TokenKind → Form
+listed next behind f k = either (tok next k ▹ nil) (commas next behind f k)
+
+-- ---- marks that add nothing
+
+abbrev pub equals : Form
+equals = tok symbol.Equals token.Equals
+
+abbrev pub colon : Form
+colon = tok symbol.Colon token.Colon
+
+abbrev pub dot : Form
+dot = tok symbol.Dot token.Dot
+
+abbrev pub close_paren : Form
+close_paren = tok symbol.CloseParen token.CloseParen
+
+abbrev pub close_brace : Form
+close_brace = tok symbol.CloseBrace token.CloseBrace
 
 abbrev pub semicolon : Form
-semicolon = maybe (tok token.Semicolon ▹ nil)
+semicolon = maybe (tok symbol.MaybeSemicolon token.Semicolon ▹ nil)
 
--- something in brackets, or nothing
-abbrev pub in_brackets : Rule → Form
-in_brackets r = maybe (tok token.OpenParen ▹ many (rule r ▹ nil) ▹ tok token.CloseParen ▹ nil)
+-- `{`; behind the head of a prim that is nested too deep it is refused
+abbrev pub open_brace : Form
+open_brace = tok symbol.OpenBrace token.OpenBrace
 
--- `[` and `]`, or nothing
+-- ---- marks that have a part in what is said
+
+-- the `}` of a prim or a variant, which is over with it
+abbrev pub body_end : Form
+body_end = tok symbol.BodyEnd token.CloseBrace
+
+-- something in brackets, or nothing; the symbol is that of the `(`, which is refused as the `{` is
+abbrev pub in_brackets : Symbol → Rule → Form
+in_brackets opening r = maybe (tok opening token.OpenParen ▹ many (rule r ▹ nil) ▹ close_paren ▹ nil)
+
+-- `[` and `]`, or nothing; the `[` makes the type that of an array
 abbrev pub array_mark : Form
-array_mark = maybe (tok token.OpenBracket ▹ tok token.CloseBracket ▹ nil)
+array_mark = maybe (tok symbol.MaybeBrackets token.OpenBracket ▹ tok symbol.CloseBracket token.CloseBracket ▹ nil)

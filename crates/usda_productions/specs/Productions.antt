@@ -1,11 +1,30 @@
--- The table of the grammar has the texts of the productions.
-use Rattle.std.specs.Prelude.{List}
+-- The table of the grammar has the texts of the productions, by which words make the same and are refused the same.
+use Rattle.std.specs.Prelude.{List, [], ◌∷◌, ◌++◌, Option, Result, Ok}
 use Rattle.usda_grammar.specs.declared.kinds.TokenKind.{TokenKind}
+use Rattle.usda_grammar.specs.declared.symbols.Symbol.{Symbol}
 use Rattle.usda_grammar.specs.Table.{layer}
 use Rattle.usda_grammar.specs.Derivations.{AreText}
+use Rattle.usda_machine.specs.Texts as table
+use Rattle.usda_productions.specs.Refusals.{HaveFirstRefusal}
 use Rattle.usda_productions.specs.Rules.{layer_forms}
-use Rattle.usda_productions.specs.Texts.{IsText}
+use Rattle.usda_productions.specs.Texts.{IsText, MakeBy}
 
 pub record TableIsProductions : Type 0 where
   pub written : (ks : List TokenKind) → AreText layer ks → IsText layer_forms ks
   pub read : (ks : List TokenKind) → IsText layer_forms ks → AreText layer ks
+
+module _ {Word Draft Refusal : Type 0} (kind : Word → TokenKind) (act : Symbol → Word → Draft → Result Draft Refusal) (refused_as : Option Word → Refusal) (blank : Draft) where
+  -- what the table makes of words the productions make of them, and where it refuses them first they do
+  pub record ProductionsMakeTheSame : Type 0 where
+    pub written : (ws : List Word) (out : Draft) → table.Make kind act refused_as blank ws out → MakeBy kind act layer_forms blank ws out
+    pub read : (ws : List Word) (out : Draft) → MakeBy kind act layer_forms blank ws out → table.Make kind act refused_as blank ws out
+    pub refused : (ws : List Word) (r : Refusal) → table.HaveFirstRefusal kind act refused_as blank ws r → HaveFirstRefusal kind act refused_as blank ws r
+    pub refuses : (ws : List Word) (r : Refusal) → HaveFirstRefusal kind act refused_as blank ws r → table.HaveFirstRefusal kind act refused_as blank ws r
+
+-- words that are their own kinds, and a draft that keeps them with the symbols by which they are acted on
+abbrev pub kept : Symbol → TokenKind → List (Symbol × TokenKind) → Result (List (Symbol × TokenKind)) (Option TokenKind)
+kept s k ks = Ok (ks ++ (s, k) ∷ [])
+
+-- by the productions each word is acted on by the symbol that takes it in the table
+abbrev pub KindsAreMadeTheSame : Type 0
+KindsAreMadeTheSame = ProductionsMakeTheSame (λ k. k) kept (λ k. k) []

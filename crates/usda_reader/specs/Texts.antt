@@ -1,5 +1,6 @@
--- What a text of the format says, and where it is refused first. No reader stands in these definitions: which words go on is the
--- grammar's, what a word adds to a layer or why it is refused is the draft's.
+-- What a text of the format says, and where it is refused first, by the productions of the grammar: they say which words stand where,
+-- and by which symbol each is acted on (`usda_productions`, specs/Rules.antt). What a word adds to a layer there, or why it is refused,
+-- is the draft's (`usda_drafts`, specs/Acts.antt). Neither the reader nor the table by which it goes stands in these definitions.
 use Rattle.std.specs.Prelude.{◌≡◌, ◌⊎◌, ℕ, List, length, Option, Some, None}
 use Rattle.sdf_specs.specs.Layers.{LayerTable}
 use Rattle.sdf_values.specs.declared.refusal.RefusalKind.TheVariants.{Syntax}
@@ -11,7 +12,9 @@ use Rattle.usda_drafts.specs.declared.draft.Draft.{Draft}
 use Rattle.usda_drafts.specs.declared.fault.Refused.{Refused}
 use Rattle.usda_grammar.specs.declared.kinds.TokenKind.{TokenKind}
 use Rattle.usda_lexer.specs.Places.{place_of}
-use Rattle.usda_machine.specs.Texts.{Make, HaveFirstRefusal}
+use Rattle.usda_productions.specs.Refusals.{HaveFirstRefusal}
+use Rattle.usda_productions.specs.Rules.{layer_forms}
+use Rattle.usda_productions.specs.Texts.{MakeBy}
 use Rattle.usda_words.specs.Words.{Word, words_of}
 use Rattle.usda_reader.specs.Checks.{first_check}
 
@@ -24,9 +27,9 @@ abbrev pub syntax_at : ℕ → Option Word → Refused
 syntax_at end (Some w) = refused Syntax w.start
 syntax_at end None = refused Syntax end
 
--- the words of the bytes are those of a text of the grammar, and make this draft
+-- the words of the bytes are those of a layer by the productions, and make this draft of a blank one
 abbrev pub MakeDraft : List ℕ → Draft → Type 0
-MakeDraft bytes d = Make kind_of act (syntax_at (length bytes)) blank (words_of bytes) d
+MakeDraft bytes d = MakeBy kind_of act layer_forms blank (words_of bytes) d
 
 -- the first word that no text goes on with, or that is refused for what it means, or the end
 abbrev pub HaveRefusedWord : List ℕ → Refused → Type 0

@@ -10,8 +10,6 @@ mod read;
 mod scalar;
 mod shape;
 mod shaping;
-#[cfg(test)]
-mod tests;
 
 pub use draft::{ValueDraft, find_element};
 pub use entries::Entries;

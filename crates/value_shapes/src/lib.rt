@@ -15,6 +15,3 @@ pub use laws::{
     values_of_the_type_are_kept,
 };
 pub use shaped::{read_of_type, value_of_type};
-
-#[cfg(test)]
-mod tests;

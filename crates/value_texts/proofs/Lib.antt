@@ -35,3 +35,6 @@ pub mod AsciiTests
 pub mod QuotedNames
 pub mod DecimalTests
 pub mod ListCuts
+pub mod LevelsFollow
+pub mod PlainTakes
+pub mod Following

@@ -10,3 +10,4 @@ pub mod Examples
 pub mod Backs
 pub mod Pieces
 pub mod Lists
+pub mod Following

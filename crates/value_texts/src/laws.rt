@@ -2,6 +2,7 @@
 ghost use Rattle.value_texts.specs.Laws.{AreTokens, AreWords, AreGiven, AreRead, AreDictionariesRead, AreSourcesRead, AreTypesRead, AreTypedRead};
 ghost use Rattle.value_texts.specs.Pieces.{ArePieces, AreMeant, AreQuotedPlainly};
 ghost use Rattle.value_texts.specs.Examples.{AreTold};
+ghost use Rattle.value_texts.specs.Following.{AreFollowing};
 
 /// The canonical text of a value that can be written is the value's tokens, wherever it stands.
 pub fn values_are_tokens()
@@ -61,4 +62,10 @@ pub fn names_are_quoted_plainly()
 /// Values that can be written and read, and values that cannot.
 pub fn examples_are_told()
     ensures { AreTold }
+{}
+
+/// The draft of a value goes with the grammar: what it awaits are the symbols that the grammar has on its stack, and it
+/// answers `Syntax` to exactly the tokens that the grammar does not take there, but for a path that is none.
+pub fn values_follow_the_grammar()
+    ensures { AreFollowing }
 {}

@@ -13,7 +13,7 @@ pub use back::{dictionary_printed_and_read, printed_and_read};
 pub use laws::{
     dictionaries_are_read, examples_are_told, names_are_quoted_plainly, pieces_are_tokens,
     sources_are_read, tokens_are_meant, typed_values_are_read, types_are_read, values_are_given,
-    values_are_read, values_are_tokens, values_are_words,
+    values_are_read, values_are_tokens, values_are_words, values_follow_the_grammar,
 };
 
 #[cfg(test)]

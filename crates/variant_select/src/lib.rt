@@ -5,8 +5,6 @@ mod met;
 mod opinions;
 mod round;
 mod rounds;
-#[cfg(test)]
-mod tests;
 
 pub use met::{Choices, Met};
 pub use opinions::Opinions;

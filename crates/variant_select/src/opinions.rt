@@ -6,8 +6,9 @@ use std::alloc::AllocError;
 /// What selects variants, as the sites of a prim do.
 ///
 /// With each list of choices other sites may be met, and with them other sets and opinions. The
-/// ghost member says which sets are met with which choices, each with its opinion, in the order of
-/// sites and of the layers of each. A set may be met more than once.
+/// ghost member says which sets are met with which choices, each with its opinion. A set may be met
+/// more than once: sets are chosen in the order in which each is met first, and of the opinions on
+/// a set the first counts.
 pub trait Opinions {
     ghost use Rattle.variant_select.specs.declared.met.Met.{Met};
 

@@ -3,7 +3,7 @@ use Rattle.composition.specs.Faults.{Fault, child_too_long}
 use Rattle.composition.specs.Fields.{listed_children, unlisted_children}
 use Rattle.composition.specs.Paths.{Path, limits}
 use Rattle.composition.specs.Views.{PrimView, empty_view}
-use Rattle.prim_compose.specs.Composed.{faults_once}
+use Rattle.prim_index.specs.Once.{faults_once}
 use Rattle.prim_compose.proofs.root.view_of.Goals as goal
 
 pub returns : goal.returns

@@ -1,0 +1,197 @@
+use path_maps::{ArcKind, ArcMap};
+use plain_data::{copy, same};
+use sdf_paths::{Path, PathFault};
+use std::alloc::Global;
+use std::test::Fail;
+
+// Paths, each with what it is translated to: an empty text where it has no translation.
+const BY_REFERENCE: [(&str, &str); 8] = [
+    ("/Model/geo.x", "/World/char/geo.x"),
+    ("/Other", ""),
+    ("/Model", "/World/char"),
+    ("/Model.x", "/World/char.x"),
+    ("/Model{s=x}geo", "/World/char{s=x}geo"),
+    ("/Model2", ""),
+    ("/", ""),
+    ("/World/char", ""),
+];
+
+const BY_PAYLOAD_TO_A_VARIANT: [(&str, &str); 4] = [
+    ("/M{s=x}geo.p", "/A{t=y}B/geo.p"),
+    ("/M{s=x}{u=z}", "/A{t=y}B{u=z}"),
+    ("/M/geo", ""),
+    ("/A{t=y}B", ""),
+];
+
+const BY_INHERITS: [(&str, &str); 10] = [
+    ("/Other", "/Other"),
+    ("/A/k", ""),
+    ("/_c", "/A"),
+    ("/_c/k.p", "/A/k.p"),
+    ("/A", ""),
+    ("/A.p", ""),
+    ("/A{s=x}k", ""),
+    ("/AB", "/AB"),
+    ("/_cd", "/_cd"),
+    ("/", "/"),
+];
+
+const BY_SPECIALIZES_IN_A_VARIANT: [(&str, &str); 5] = [
+    ("/A/B/k", ""),
+    ("/A{s=y}B", ""),
+    ("/A{s=x}C", "/A{s=x}C"),
+    ("/_c/k", "/A{s=x}B/k"),
+    ("/A", "/A"),
+];
+
+const BY_VARIANT: [(&str, &str); 5] = [
+    ("/A{s=x}k.p", "/A/k.p"),
+    ("/A{s=x}", "/A"),
+    ("/B{t=y}{u=z}C", "/B/C"),
+    ("/A/k", "/A/k"),
+    ("/", "/"),
+];
+
+// Classes, each with what it is lifted to.
+const LIFTED: [(&str, &str); 5] = [
+    ("/Model/_c", "/World/char/_c"),
+    ("/Model", "/World/char"),
+    ("/_g", "/_g"),
+    ("/World/char/_c", "/World/char/_c"),
+    ("/Model{s=x}_c", "/World/char{s=x}_c"),
+];
+
+/// The arc, where both texts are paths of prims.
+fn arc(alloc: Global, kind: ArcKind, target: &str, author: &str) -> Result<ArcMap, PathFault> {
+    let target = Path::parse(alloc, target)?;
+    let author = Path::parse(alloc, author)?;
+    if target.is_root() || target.is_property() || author.is_root() || author.is_property() {
+        return Err(PathFault::NoMemory);
+    }
+    Ok(ArcMap {
+        kind,
+        target,
+        author,
+    })
+}
+
+/// Whether the text of the path is this one; of no path it is empty.
+fn has_text(path: Option<Path>, text: &str) -> Result<bool, PathFault> {
+    match path {
+        Some(path) => Ok(path.print()?.as_str() == text),
+        None => Ok(text.is_empty()),
+    }
+}
+
+/// How many rows hold.
+fn translated(alloc: Global, arc: &ArcMap, rows: &[(&str, &str)]) -> Result<u64, PathFault> {
+    let mut right: u64 = 0;
+    for (path, there) in rows {
+        let path = Path::parse(alloc, path)?;
+        if has_text(arc.translate(&path)?, there)? {
+            right = right.saturating_add(1);
+        }
+    }
+    Ok(right)
+}
+
+/// How many rows hold.
+fn lifted(alloc: Global, arc: &ArcMap, rows: &[(&str, &str)]) -> Result<u64, PathFault> {
+    let mut right: u64 = 0;
+    for (path, there) in rows {
+        let path = Path::parse(alloc, path)?;
+        if has_text(Some(arc.lift_class(&path)?), there)? {
+            right = right.saturating_add(1);
+        }
+    }
+    Ok(right)
+}
+
+#[test]
+fn a_reference_moves_what_is_below_its_target(rt: HostRuntime) -> Result<(), Fail> {
+    let by = arc(rt.alloc(), ArcKind::Reference, "/Model", "/World/char")?;
+    assert_eq!(rt; translated(rt.alloc(), &by, &BY_REFERENCE)?, 8);
+    Ok(())
+}
+
+#[test]
+fn a_payload_moves_what_is_below_its_target(rt: HostRuntime) -> Result<(), Fail> {
+    let by = arc(rt.alloc(), ArcKind::Payload, "/M{s=x}", "/A{t=y}B")?;
+    assert_eq!(rt; translated(rt.alloc(), &by, &BY_PAYLOAD_TO_A_VARIANT)?, 4);
+    Ok(())
+}
+
+#[test]
+fn inherits_leaves_other_paths_and_hides_the_author(rt: HostRuntime) -> Result<(), Fail> {
+    let by = arc(rt.alloc(), ArcKind::Inherits, "/_c", "/A")?;
+    assert_eq!(rt; translated(rt.alloc(), &by, &BY_INHERITS)?, 10);
+    Ok(())
+}
+
+#[test]
+fn specializes_passes_over_selections_of_the_author(rt: HostRuntime) -> Result<(), Fail> {
+    let by = arc(rt.alloc(), ArcKind::Specializes, "/_c", "/A{s=x}B")?;
+    assert_eq!(rt;
+        translated(rt.alloc(), &by, &BY_SPECIALIZES_IN_A_VARIANT)?,
+        5
+    );
+    Ok(())
+}
+
+#[test]
+fn a_variant_drops_selections(rt: HostRuntime) -> Result<(), Fail> {
+    let by = arc(rt.alloc(), ArcKind::Variant, "/A{s=x}", "/A")?;
+    assert_eq!(rt; translated(rt.alloc(), &by, &BY_VARIANT)?, 5);
+    Ok(())
+}
+
+#[test]
+fn classes_are_lifted_to_the_author(rt: HostRuntime) -> Result<(), Fail> {
+    let by = arc(rt.alloc(), ArcKind::Reference, "/Model", "/World/char")?;
+    assert_eq!(rt; lifted(rt.alloc(), &by, &LIFTED)?, 5);
+    Ok(())
+}
+
+/// Whether a path can be translated and lifted through an arc from `/T` to this author. It cannot
+/// where both are refused for a limit.
+fn fits(alloc: Global, kind: ArcKind, author: &str, path: &str) -> Result<bool, PathFault> {
+    let by = arc(alloc, kind, "/T", author)?;
+    let path = Path::parse(alloc, path)?;
+    match (by.translate(&path), by.lift_class(&path)) {
+        (Err(PathFault::Bad { at: 0 }), Err(PathFault::Bad { at: 0 })) => Ok(false),
+        (there, lifted) => {
+            there?;
+            lifted?;
+            Ok(true)
+        }
+    }
+}
+
+#[test]
+fn names_past_the_limit_are_refused(rt: HostRuntime) -> Result<(), Fail> {
+    let deep = "/a".repeat(rt.alloc(), 63)?;
+    assert!(rt; fits(rt.alloc(), ArcKind::Reference, deep.as_str(), "/T/b")?);
+    assert!(rt; !fits(rt.alloc(), ArcKind::Reference, deep.as_str(), "/T/b/c")?);
+    assert!(rt; !fits(rt.alloc(), ArcKind::Inherits, deep.as_str(), "/T/b/c")?);
+    Ok(())
+}
+
+#[test]
+fn bytes_past_the_limit_are_refused(rt: HostRuntime) -> Result<(), Fail> {
+    let mut long = String::from_str(rt.alloc(), "/")?;
+    long.push_str("a".repeat(rt.alloc(), 4090)?.as_str())?;
+    assert!(rt; fits(rt.alloc(), ArcKind::Payload, long.as_str(), "/T/bcde")?);
+    assert!(rt; !fits(rt.alloc(), ArcKind::Payload, long.as_str(), "/T/bcdef")?);
+    assert!(rt; !fits(rt.alloc(), ArcKind::Specializes, long.as_str(), "/T/bcdef")?);
+    Ok(())
+}
+
+#[test]
+fn a_copy_is_the_arc(rt: HostRuntime) -> Result<(), Fail> {
+    let by = arc(rt.alloc(), ArcKind::Reference, "/Model", "/World/char")?;
+    let again = copy(&by)?;
+    assert!(rt; same(&by, &again));
+    let other = arc(rt.alloc(), ArcKind::Payload, "/Model", "/World/char")?;
+    assert!(rt; !same(&by, &other));
+    Ok(())
+}

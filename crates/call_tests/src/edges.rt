@@ -1,0 +1,172 @@
+//! Each object once, over what it was made of.
+
+use io_edges::{
+    Fetched, FolderFiles, FreeGate, Gate, GatePoint, Got, LayerFiles, MemoryFiles, MemorySink,
+    MemorySource, Put, Sink, Source, StdSink, StdSource, SureFiles, SureSink, SureSource,
+};
+use std::alloc::Global;
+use std::fs;
+use std::io::{self, ErrorKind, Write};
+use std::test::Fail;
+
+// Two files of one name, and another.
+fn three_files(alloc: Global) -> Result<Vec<(String, Vec<u8>)>, Fail> {
+    let mut files = Vec::new(alloc);
+    for (name, text) in [("a", "first"), ("a", "second"), ("b", "")] {
+        files.push((
+            String::from_str(alloc, name)?,
+            Vec::from_slice(alloc, text.as_bytes())?,
+        ))?;
+    }
+    Ok(files)
+}
+
+#[test]
+fn the_first_file_of_a_name_counts(rt: HostRuntime) -> Result<(), Fail> {
+    let alloc = rt.alloc();
+    let mut files = SureFiles::new(three_files(alloc)?);
+    let mut into = Vec::from_slice(alloc, b"held ".as_slice())?;
+    assert_eq!(rt; files.fetch("a", &mut into), Fetched::Found);
+    assert_eq!(rt; files.fetch("b", &mut into), Fetched::Found);
+    assert_eq!(rt; files.fetch("c", &mut into), Fetched::Absent);
+    assert_eq!(rt; into.as_slice(), b"held first".as_slice());
+    Ok(())
+}
+
+#[test]
+fn fetches_of_the_given_numbers_fail(rt: HostRuntime) -> Result<(), Fail> {
+    let alloc = rt.alloc();
+    let mut files = MemoryFiles::new(three_files(alloc)?, Vec::from_slice(alloc, &[2, 3])?);
+    let mut into = Vec::new(alloc);
+    assert_eq!(rt; files.fetch("a", &mut into), Fetched::Found);
+    assert_eq!(rt; files.fetch("a", &mut into), Fetched::Failed);
+    assert_eq!(rt; files.fetch("c", &mut into), Fetched::Failed);
+    assert_eq!(rt; files.fetch("c", &mut into), Fetched::Absent);
+    assert_eq!(rt; into.as_slice(), b"first".as_slice());
+    Ok(())
+}
+
+#[test]
+fn a_source_gives_its_bytes_step_by_step(rt: HostRuntime) -> Result<(), Fail> {
+    let alloc = rt.alloc();
+    let mut source = SureSource::new(Vec::from_slice(alloc, b"abcde".as_slice())?, 3);
+    let mut into = [b'-'; 4];
+    assert_eq!(rt; source.read(&mut into), Got::Bytes(3));
+    assert_eq!(rt; into.as_slice(), b"abc-".as_slice());
+    assert_eq!(rt; source.read(&mut into), Got::Bytes(2));
+    assert_eq!(rt; into.as_slice(), b"dec-".as_slice());
+    assert_eq!(rt; source.read(&mut into), Got::End);
+    Ok(())
+}
+
+#[test]
+fn reads_of_the_given_numbers_fail(rt: HostRuntime) -> Result<(), Fail> {
+    let alloc = rt.alloc();
+    let bytes = Vec::from_slice(alloc, b"abc".as_slice())?;
+    let mut source = MemorySource::new(bytes, 2, Vec::from_slice(alloc, &[2, 4])?);
+    let mut into = [b'-'; 4];
+    assert_eq!(rt; source.read(&mut into), Got::Bytes(2));
+    assert_eq!(rt; source.read(&mut into), Got::Failed);
+    assert_eq!(rt; source.read(&mut into), Got::Bytes(1));
+    assert_eq!(rt; into.as_slice(), b"cb--".as_slice());
+    assert_eq!(rt; source.read(&mut into), Got::Failed);
+    assert_eq!(rt; source.read(&mut into), Got::End);
+    Ok(())
+}
+
+#[test]
+fn a_sink_takes_bytes_step_by_step(rt: HostRuntime) -> Result<(), Fail> {
+    let mut sink = SureSink::new(rt.alloc(), 2);
+    assert_eq!(rt; sink.write(b"abc".as_slice()), Put::Took(2));
+    assert_eq!(rt; sink.write(b"c".as_slice()), Put::Took(1));
+    assert_eq!(rt; sink.taken(), b"abc".as_slice());
+    Ok(())
+}
+
+#[test]
+fn writes_of_the_given_numbers_fail(rt: HostRuntime) -> Result<(), Fail> {
+    let alloc = rt.alloc();
+    let mut sink = MemorySink::new(alloc, 2, Vec::from_slice(alloc, &[1, 3])?);
+    assert_eq!(rt; sink.write(b"abc".as_slice()), Put::Failed);
+    assert_eq!(rt; sink.write(b"abc".as_slice()), Put::Took(2));
+    assert_eq!(rt; sink.write(b"c".as_slice()), Put::Failed);
+    assert_eq!(rt; sink.write(b"c".as_slice()), Put::Took(1));
+    assert_eq!(rt; sink.taken(), b"abc".as_slice());
+    Ok(())
+}
+
+#[test]
+fn a_folder_has_the_files_that_lie_there(rt: HostRuntime) -> Result<(), Fail> {
+    fs::write(&rt, "io_edges_layer.usda", "#usda 1.0\n")?;
+    let mut files = FolderFiles::new(rt.clone()?);
+    let mut into = Vec::new(rt.alloc());
+    let found = files.fetch("io_edges_layer.usda", &mut into);
+    fs::remove_file(&rt, "io_edges_layer.usda")?;
+    assert_eq!(rt; found, Fetched::Found);
+    assert_eq!(rt; into.as_slice(), b"#usda 1.0\n".as_slice());
+    assert_eq!(rt;
+        files.fetch("io_edges_layer.usda", &mut into),
+        Fetched::Absent
+    );
+    // a folder is opened, and cannot be read
+    assert_eq!(rt; files.fetch(".", &mut into), Fetched::Failed);
+    assert_eq!(rt; into.as_slice(), b"#usda 1.0\n".as_slice());
+    Ok(())
+}
+
+#[test]
+fn a_source_over_a_reader_gives_what_it_reads(rt: HostRuntime) -> Result<(), Fail> {
+    let mut source = StdSource::new(b"abc".as_slice());
+    let mut into = [b'-'; 2];
+    assert_eq!(rt; source.read(&mut into), Got::Bytes(2));
+    assert_eq!(rt; into.as_slice(), b"ab".as_slice());
+    assert_eq!(rt; source.read(&mut into), Got::Bytes(1));
+    assert_eq!(rt; into.as_slice(), b"cb".as_slice());
+    assert_eq!(rt; source.read(&mut into), Got::End);
+    Ok(())
+}
+
+// A writer that is interrupted at first, then takes two bytes, then nothing, and then is broken.
+#[derive(Drop)]
+struct Faltering {
+    calls: u8,
+}
+
+impl Write for Faltering {
+    fn write(&mut self, buf: &[u8]) -> io::Result<usize> {
+        self.calls = self.calls.saturating_add(1);
+        match self.calls {
+            1 => Err(ErrorKind::Interrupted.into()),
+            2 => Ok(buf.len().min(2)),
+            3 => Ok(0),
+            _ => Err(ErrorKind::BrokenPipe.into()),
+        }
+    }
+
+    fn flush(&mut self) -> io::Result<()> {
+        Ok(())
+    }
+}
+
+#[test]
+fn a_sink_over_a_writer_tells_how_much_it_took(rt: HostRuntime) -> Result<(), Fail> {
+    let mut sink = StdSink::new(Faltering { calls: 0 });
+    assert_eq!(rt; sink.write(b"abc".as_slice()), Put::Took(2));
+    assert_eq!(rt; sink.write(b"c".as_slice()), Put::Failed);
+    assert_eq!(rt; sink.write(b"c".as_slice()), Put::Failed);
+    Ok(())
+}
+
+#[test]
+fn a_free_gate_lets_everybody_pass(rt: HostRuntime) {
+    for point in [
+        GatePoint::Taken,
+        GatePoint::Composed,
+        GatePoint::Edited,
+        GatePoint::Published,
+        GatePoint::Looking,
+    ] {
+        FreeGate.pass(point, 1);
+    }
+    assert!(rt; true);
+}

@@ -1,0 +1,39 @@
+//! Calls of the libraries of this repository, each once with ample memory and with answers from the rules; no part of the program.
+#![tactic(auto)]
+
+#[cfg(test)]
+mod arcs;
+#[cfg(test)]
+mod dependencies;
+#[cfg(test)]
+mod edges;
+#[cfg(test)]
+mod editions;
+#[cfg(test)]
+mod grammar;
+#[cfg(test)]
+mod layers;
+#[cfg(test)]
+mod lists;
+#[cfg(test)]
+mod machine;
+#[cfg(test)]
+mod names;
+#[cfg(test)]
+mod ordered_tables;
+#[cfg(test)]
+mod parts;
+#[cfg(test)]
+mod properties;
+#[cfg(test)]
+mod questions;
+#[cfg(test)]
+mod returns;
+#[cfg(test)]
+mod shapes;
+#[cfg(test)]
+mod shared_copies;
+#[cfg(test)]
+mod variants;
+#[cfg(test)]
+mod words;

@@ -1,0 +1,4 @@
+pub mod Sets
+pub mod Told
+pub mod Stage
+pub mod Rounds

@@ -1,0 +1,3 @@
+pub mod Tokens
+pub mod Utf8
+pub mod Returns

@@ -1,0 +1,10 @@
+pub mod Lists
+pub mod Paths
+pub mod Places
+pub mod Tree
+pub mod Apart
+pub mod Written
+pub mod Valid
+pub mod Kept
+pub mod Returns
+pub mod Examples

@@ -1,0 +1,3 @@
+pub mod Proper
+pub mod Laws
+pub mod Examples

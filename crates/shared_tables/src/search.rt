@@ -1,0 +1,83 @@
+//! What stands in a tree at a key.
+ghost use Rattle.std.specs.Prelude.{◌≡◌};
+ghost use Rattle.std.specs.Option.{option_copied, option_map};
+ghost use Rattle.std.specs.Map.Iter.{deref_pair};
+ghost use Rattle.spec_tables.specs.Tables.{IsTable, at_key, entries_from};
+ghost use Rattle.shared_tables.specs.Rest.{head, entries_after};
+ghost use Rattle.shared_tables.specs.Trees.{link_entries};
+
+use crate::node::{Link, Node};
+use std::cmp::Ordering;
+
+/// The value at a key.
+pub(crate) fn found<'a, K: Ord, V>(tree: &'a Link<K, V>, key: &K) -> Option<&'a V>
+    ensures { IsTable K.cmp (link_entries tree.now) → option_copied result ≡ at_key K.cmp key.now (link_entries tree.now) }
+{
+    match tree {
+        None => None,
+        Some(top) => {
+            let node: &Node<K, V> = top;
+            match key.cmp(node.entry.key()) {
+                Ordering::Less => found(&node.before, key),
+                Ordering::Equal => Some(node.entry.value()),
+                Ordering::Greater => found(&node.after, key),
+            }
+        }
+    }
+}
+
+/// The first entry.
+pub(crate) fn first<K, V>(tree: &Link<K, V>) -> Option<(&K, &V)>
+    ensures { option_map deref_pair result ≡ head (link_entries tree.now) }
+{
+    match tree {
+        None => None,
+        Some(top) => {
+            let node: &Node<K, V> = top;
+            match first(&node.before) {
+                None => Some(node.entry.pair()),
+                Some(entry) => Some(entry),
+            }
+        }
+    }
+}
+
+/// The first entry at a key or past it.
+pub(crate) fn first_from<'a, K: Ord, V>(tree: &'a Link<K, V>, key: &K) -> Option<(&'a K, &'a V)>
+    ensures { IsTable K.cmp (link_entries tree.now) → option_map deref_pair result ≡ head (entries_from K.cmp key.now (link_entries tree.now)) }
+{
+    match tree {
+        None => None,
+        Some(top) => {
+            let node: &Node<K, V> = top;
+            match key.cmp(node.entry.key()) {
+                Ordering::Less => match first_from(&node.before, key) {
+                    None => Some(node.entry.pair()),
+                    Some(entry) => Some(entry),
+                },
+                Ordering::Equal => Some(node.entry.pair()),
+                Ordering::Greater => first_from(&node.after, key),
+            }
+        }
+    }
+}
+
+/// The first entry past a key.
+pub(crate) fn first_after<'a, K: Ord, V>(tree: &'a Link<K, V>, key: &K) -> Option<(&'a K, &'a V)>
+    ensures { IsTable K.cmp (link_entries tree.now) → option_map deref_pair result ≡ head (entries_after K.cmp key.now (link_entries tree.now)) }
+{
+    match tree {
+        None => None,
+        Some(top) => {
+            let node: &Node<K, V> = top;
+            match key.cmp(node.entry.key()) {
+                Ordering::Less => match first_after(&node.before, key) {
+                    None => Some(node.entry.pair()),
+                    Some(entry) => Some(entry),
+                },
+                Ordering::Equal => first_after(&node.after, key),
+                Ordering::Greater => first_after(&node.after, key),
+            }
+        }
+    }
+}

@@ -1,0 +1,9 @@
+pub mod Bytes
+pub mod Strings
+pub mod Numbers
+pub mod Values
+pub mod Lists
+pub mod Fields
+pub mod Properties
+pub mod Layers
+pub mod Checks

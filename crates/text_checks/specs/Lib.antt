@@ -1,0 +1,3 @@
+pub mod Utf8
+pub mod Laws
+pub mod Examples

@@ -1,0 +1,9 @@
+pub mod Members
+pub mod Typed
+pub mod Fixed
+pub mod Lists
+pub mod Kept
+pub mod Fields
+pub mod HeadKeys
+pub mod Printed
+pub mod Examples
