@@ -1,5 +1,6 @@
 #!/usr/bin/env python3
-"""Runs the commands of every transcript in the README and in docs/, and compares what they write with what stands there.
+"""Runs the commands of every transcript in the README and in docs/, or in the documents that are named, and compares what they write
+with what stands there.
 
 A transcript is a block of the kind `console`: a line that begins with `$ ` is a command, what follows up to the next one is what it
 writes, on standard output and standard error together. Each block begins at the top of the repository; `$ cd FOLDER` goes to a folder.
@@ -61,13 +62,16 @@ def differences(path):
 
 
 def main():
-    documents = ["README.md"] + sorted("docs/" + name for name in os.listdir(os.path.join(TOP, "docs")) if name.endswith(".md"))
+    pages = sorted("docs/" + name for name in os.listdir(os.path.join(TOP, "docs")) if name.endswith(".md"))
+    documents = sys.argv[1:] or ["README.md"] + pages
     total, failed = 0, 0
     subprocess.run([os.path.join(TOP, "usdstage")], capture_output=True)  # the first run may prove and build the program
     for document in documents:
         count, wrong = differences(os.path.join(TOP, document))
         total += count
         failed += len(wrong)
+        if count:
+            print(f"{document}: {count} commands")
         for start, command, wanted, got in wrong:
             line = next((k for k in range(min(len(wanted), len(got))) if wanted[k] != got[k]), min(len(wanted), len(got)))
             print(f"{document}, the block at line {start}: $ {command}")
