@@ -1,0 +1,4 @@
+pub mod Members
+pub mod Deep
+pub mod Walks
+pub mod Whole
