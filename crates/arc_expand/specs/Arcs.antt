@@ -16,6 +16,7 @@ use Rattle.layer_set.specs.declared.key.Key.TheVariants.{Head, Arcs}
 use Rattle.layer_stack.specs.Meant.{defined_stack, each_once}
 use Rattle.arc_expand.specs.declared.arcs.ArcItem.{ArcItem}
 
+-- an item is an arc where it leads to a target
 abbrev pub arc_by : Authored → Outcome → Option ArcItem
 arc_by a (leads l) = Some (record { stack = l.stack; target = l.target; offset = l.offset; author = a.author; item = a.item })
 arc_by a (gives_no_arc r) = None
@@ -24,6 +25,7 @@ arc_by a (gives_no_arc r) = None
 abbrev pub arc_of : Authored → Option ArcItem
 arc_of a = arc_by a a.outcome
 
+-- an item that gives no arc is a fault: at the path where it is authored, of the strongest layer that gave it
 abbrev pub fault_by : Path → ArcKind → Authored → Outcome → Option PrimFault
 fault_by q k a (leads l) = None
 fault_by q k a (gives_no_arc r) = Some (Arc (record { reason = r; layer = a.author; site = q; kind = k; item = a.item }))
@@ -40,6 +42,7 @@ asked_below w s (headed h) = each_once (defined_stack w s).asked
 asked_below w s no_layer = []
 asked_below w s (refused r) = []
 
+-- what an item asks: the layer that it names, and what the stack of that layer asks
 abbrev pub asked_by : World → Source → List Text
 asked_by w own = []
 asked_by w (named name) = name ∷ asked_below w (stack_of w name) (w.heading name)

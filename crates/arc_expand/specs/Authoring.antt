@@ -19,9 +19,11 @@ pub record IsStackOf (w : World) (stack : LayerStack) : Type 0 where
 
 -- ---- opinions
 
+-- what a layer of a stack says at a path, if it has a spec there
 unfoldable pub opinion_of : World → Path → Text × Offset → Option Opinion
 opinion_of w q e = option_map (λ spec. record { layer = e.0; offset = e.1; spec = spec }) (w.spec e.0 q)
 
+-- what these layers say at a path, the strongest first
 abbrev pub opinions_in : World → List (Text × Offset) → Path → List Opinion
 opinions_in w layers q = filter_map (opinion_of w q) layers
 
@@ -31,9 +33,11 @@ opinions w s q = opinions_at limits w (defined_stack w s) q
 
 -- ---- edits
 
+-- the list edits that an opinion has of a kind, with its layer
 unfoldable pub edit_of : ArcKind → Opinion → Option (Text × ListOp Item)
 edit_of k o = option_map (λ op. (o.layer, op)) (items_of k o)
 
+-- the list edits of a kind, each with the layer that has it, the strongest first
 abbrev pub edits : ArcKind → List Opinion → List (Text × ListOp Item)
 edits k os = filter_map (edit_of k) os
 
@@ -59,6 +63,7 @@ sets_in os = variant_sets_of os
 unfoldable pub authored : World → StackName → Path → ArcKind → List Authored
 authored w s q k = arcs_of limits w s (opinions_at limits w (defined_stack w s) q) k
 
+-- the variant sets at a path, folded from the weakest opinion to the strongest
 unfoldable pub variant_sets : World → StackName → Path → List Text
 variant_sets w s q = variant_sets_of (opinions_at limits w (defined_stack w s) q)
 

@@ -17,16 +17,19 @@ use Rattle.sdf_paths.specs.contracts.path.PathOrd.TheImpl.{ghosts as path_order}
 use Rattle.composition.specs.Arcs.{Source, Item, own, named, unanchored, same_item}
 use Rattle.arc_expand.specs.SameItems.{item_same, item_itself, both_ways}
 
+-- items that lead to their own stack, those that name a layer, and those that cannot be anchored
 abbrev pub rank : Source → ℕ
 rank own = 0
 rank (named a) = 1
 rank (unanchored a) = 2
 
+-- the name of the layer to which an item leads, or the asset as it is written
 abbrev pub source_text : Source → List ℕ
 source_text own = []
 source_text (named a) = a
 source_text (unanchored a) = a
 
+-- items go by where they lead, then by path, offset and scale
 abbrev pub item_cmp : Item → Item → Ordering
 item_cmp =
     then_cmp (on (λ i. rank i.source) nat_cmp)

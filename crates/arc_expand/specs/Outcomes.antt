@@ -16,6 +16,7 @@ path_of text = elim (nat_le (length text) 4096) [ true ↦ read_path text | fals
 unfoldable pub target_of : Text → Option Path
 target_of text = elim (is_absolute text) [ true ↦ path_of text | false ↦ path_of (47 ∷ text) ]
 
+-- the path that a default prim names, if there is one and it names a path
 abbrev pub default_of : Option Text → Option Path
 default_of (Some text) = target_of text
 default_of None = None
@@ -25,6 +26,7 @@ abbrev pub target_in : Option Path → LayerHead → Option Path
 target_in (Some path) h = Some path
 target_in None h = default_of h.default_prim
 
+-- what becomes of an item of this offset and target, in a layer that is there
 unfoldable pub outcome_to : World → StackName → Offset → Option Path → Outcome
 outcome_to w s o target = outcome_at limits w s o target
 
@@ -34,11 +36,13 @@ outcome_within w s i no_layer = gives_no_arc missing_layer
 outcome_within w s i (refused r) = gives_no_arc (broken_layer r)
 outcome_within w s i (headed h) = outcome_to w s i.offset (target_in i.path h)
 
+-- what becomes of an item by where it leads; what cannot be anchored is `BadTarget`
 abbrev pub outcome_by : World → StackName → Item → Source → Outcome
 outcome_by w s i own = outcome_within w s i (w.heading (first_layer w s))
 outcome_by w s i (named name) = outcome_within w (stack_of w name) i (w.heading name)
 outcome_by w s i (unanchored asset) = gives_no_arc bad_target
 
+-- what becomes of an item of a stack
 unfoldable pub outcome_of : World → StackName → Item → Outcome
 outcome_of w s i = outcome_by w s i i.source
 
@@ -48,9 +52,11 @@ leaves_with layers o = list_any (λ e. not (in_range (composed e.1 o))) layers
 
 -- ---- default prims that are read as they are defined
 
+-- the text names the prim that composition takes it to name
 abbrev pub IsDefaultPrim : Text → Type 0
 IsDefaultPrim text = default_target text ≡ target_of text
 
+-- a layer that is there has no default prim, or one of such a text
 abbrev pub HasTarget : Heading → Type 0
 HasTarget (headed h) = ForSome h.default_prim IsDefaultPrim
 HasTarget no_layer = Unit {0}

@@ -62,9 +62,11 @@ flat_spec prim = record { arcs = blank_arcs; body = flat_body prim }
 
 -- ---- the head
 
+-- the key at which the metadata of `/` has the default prim
 unfoldable pub default_key : List ℕ
 default_key = codes "defaultPrim"
 
+-- the text of a string; any other value has none
 abbrev pub text_step : Value-F (Option (List ℕ)) (Option (List ℕ)) → Option (List ℕ)
 text_step (Value-F.Text text) = Some text
 text_step _ = None
@@ -73,6 +75,7 @@ text_step _ = None
 abbrev pub text_of : Value → Option (List ℕ)
 text_of = fold-Value (Option (List ℕ)) (Option (List ℕ)) text_step (λ item. None)
 
+-- the text that a value is, if there is one
 abbrev pub text_in : Option Value → Option (List ℕ)
 text_in None = None
 text_in (Some value) = text_of value
@@ -96,6 +99,7 @@ flat_head root = record {
   root_order = [];
 }
 
+-- the head of a layer by what stands at `/`; a stage without `/` gives a blank one
 unfoldable pub head_of : Option PrimView → Head
 head_of None = blank_head
 head_of (Some root) = flat_head root
@@ -112,6 +116,7 @@ unfoldable pub with_item : Option (List Element × PrimView) → SpecEntries →
 with_item None specs = specs
 with_item (Some item) specs = with_prim item.0 item.1 specs
 
+-- the prims of a stage in a table of specs
 abbrev pub with_prims : Stage → SpecEntries → SpecEntries
 with_prims [] specs = specs
 with_prims (item ∷ items) specs = with_prims items (with_prim item.0 item.1 specs)

@@ -5,6 +5,7 @@ use Rattle.std.specs.List.{list_any}
 use Rattle.list_ops.specs.declared.op.ListOp.{ListOp}
 
 module _ {T : Type 0} (same : T → T → Bool) where
+  -- the list has this item
   abbrev pub contains : List T → T → Bool
   contains xs x = list_any (λ y. same y x) xs
 

@@ -25,10 +25,12 @@ stage_node_at l w p = stage_node l (said l w) (is_loaded w) p
 abbrev pub nothing_there : Index
 nothing_there = record { choices = []; sites = []; faults = [] }
 
+-- an overgrown prim has no sites
 abbrev pub sites_in : Option Index → List Site
 sites_in (Some i) = i.sites
 sites_in None = []
 
+-- an overgrown prim has no choices
 abbrev pub choices_in : Option Index → Choices
 choices_in (Some i) = i.choices
 choices_in None = []
@@ -38,6 +40,7 @@ abbrev pub faults_in : Option Index → List Fault
 faults_in (Some i) = i.faults
 faults_in None = overgrown ∷ []
 
+-- the prim is overgrown
 abbrev pub is_none : Option Index → Bool
 is_none (Some i) = false
 is_none None = true

@@ -31,8 +31,10 @@ module _ (l : Limits) (here : Node → Here) where
   unfoldable pub frames_below : ℕ → (Path → Bool) → Node → ℕ → List Frame
   frames_below d loaded n k = frames_along l (full_tree d) loaded n k
 
+  -- one round of variant choices
   unfoldable pub round_below : ℕ → Node → List Frame → Frame → Frame
   round_below d n above f = round l (full_tree d) n above f
 
+  -- so many rounds of variant choices, up to one that decides nothing
   unfoldable pub rounds_below : ℕ → ℕ → Node → List Frame → Frame → Frame
   rounds_below d k n above f = rounds l (full_tree d) k n above f

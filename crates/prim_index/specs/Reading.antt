@@ -29,10 +29,12 @@ said_levels w s p = map (λ j. (j, opinions w s (up p j))) (levels_of p)
 unfoldable pub sublayers_said : World → Outcome → List SublayerFault
 sublayers_said w o = sublayers_of limits w o
 
+-- the fault of a sublayer
 abbrev pub sublayer_fault : PrimFault → Option SublayerFault
 sublayer_fault (Sublayer f) = Some f
 sublayer_fault _ = None
 
+-- the faults of sublayers among others
 abbrev pub sublayer_faults : List PrimFault → List SublayerFault
 sublayer_faults faults = filter_map sublayer_fault faults
 
@@ -77,6 +79,7 @@ variant_at n j set v =
       | false ↦ None
     ]
 
+-- where the variant that is decided for a set leads, if one is decided and may be followed
 abbrev pub chosen_for : Node → ℕ → Text → Option Text → Option Chosen
 chosen_for n j set None = None
 chosen_for n j set (Some v) = variant_at n j set v
@@ -89,6 +92,7 @@ chosen_of n j choices sets = filter_map (λ set. chosen_for n j set (find_at sam
 unfoldable pub chosen_level : Node → ℕ × List Opinion → List Chosen
 chosen_level n there = chosen_of n there.0 (frame_at n there.0).choices (sets_in there.1)
 
+-- the variants that the levels of a node decide, level 0 first
 unfoldable pub chosen_all : Node → List (ℕ × List Opinion) → List Chosen
 chosen_all n levels = flat_map (chosen_level n) levels
 

@@ -11,6 +11,7 @@ use Rattle.layer_stack.specs.Meant.{defined_stack}
 abbrev pub name_cmp : StackName → StackName → Ordering
 name_cmp = name_order.cmp
 
+-- the layers that are noted; none where nothing is noted
 abbrev pub layers_or_none : Option (List (Text × Offset)) → List (Text × Offset)
 layers_or_none (Some layers) = layers
 layers_or_none None = []

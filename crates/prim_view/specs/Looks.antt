@@ -4,6 +4,7 @@ use Rattle.std.specs.Str.{bytes_eq}
 use Rattle.prim_view.specs.declared.view.PropertyView.{PropertyView}
 use Rattle.prim_view.specs.declared.view.PropertyView.TheVariants.{Attr, Rel}
 
+-- the name of an attribute or a relationship
 abbrev pub view_name : PropertyView → List ℕ
 view_name (Attr name ty custom uniform default samples connections meta) = name
 view_name (Rel name custom targets meta) = name

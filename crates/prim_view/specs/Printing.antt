@@ -27,6 +27,7 @@ use Rattle.spec_parts.specs.declared.items.Refusal.{Refusal}
 abbrev pub Text : Type 0
 Text = List ℕ
 
+-- a path stands between `<` and `>`
 abbrev pub path_text : List Element → Text
 path_text p = codes "<" ++ printed p ++ codes ">"
 
@@ -42,6 +43,7 @@ is_one (negsuc n) = false
 abbrev pub is_identity : Offset → Bool
 is_identity o = is_zero o.offset && is_one o.scale
 
+-- offset and scale behind an item, unless they change no time
 abbrev pub unless_identity : Bool → Offset → Text
 unless_identity true o = []
 unless_identity false o = codes " (offset = " ++ signed_decimal o.offset ++ codes "; scale = " ++ signed_decimal o.scale ++ codes ")"
@@ -59,6 +61,7 @@ item_name (Named name) (Some p) = asset_text name ++ path_text p
 item_name (Unanchored asset) None = asset_text asset
 item_name (Unanchored asset) (Some p) = asset_text asset ++ path_text p
 
+-- an item as it is anchored, or as it is written where it cannot be, with its offset
 abbrev pub item_text : FaultItem → Text
 item_text i = item_name i.source i.path ++ offset_text i.offset
 
@@ -70,6 +73,7 @@ field_name arc.Reference = codes "references"
 field_name arc.Payload = codes "payload"
 field_name arc.Specializes = codes "specializes"
 
+-- the kind of a fault of an arc
 abbrev pub reason_name : ArcReason → Text
 reason_name reason.MissingLayer = codes "MissingLayer"
 reason_name (reason.BrokenLayer r) = codes "BrokenLayer"
@@ -129,15 +133,18 @@ arc_front f = reason_name f.reason ++ codes " " ++ place_text f.layer f.site
 abbrev pub arc_back : ArcFault → Text
 arc_back f = field_name f.kind ++ codes " " ++ item_text f.item ++ refusal_of f.reason
 
+-- a fault of an arc: why, where the layer says it, the field and the item
 abbrev pub arc_text : ArcFault → Text
 arc_text f = arc_front f ++ codes " " ++ arc_back f
 
+-- the kind of a fault of a sublayer
 abbrev pub sublayer_reason_name : SublayerReason → Text
 sublayer_reason_name sublayer.Cycle = codes "SublayerCycle"
 sublayer_reason_name sublayer.Missing = codes "SublayerMissing"
 sublayer_reason_name sublayer.Broken = codes "SublayerBroken"
 sublayer_reason_name sublayer.Offset = codes "SublayerOffset"
 
+-- a fault of a sublayer: why, the layer that lists it, and the sublayer
 abbrev pub sublayer_text : SublayerFault → Text
 sublayer_text f = sublayer_reason_name f.reason ++ codes " " ++ asset_text f.layer ++ codes " " ++ asset_text f.asset
 
@@ -151,15 +158,19 @@ time_word = codes "TimeOutside "
 unfoldable pub child_word : Text
 child_word = codes "PathTooLong "
 
+-- an attribute of which something leaves the range of times
 abbrev pub time_text : TimeFault → Text
 time_text f = time_word ++ property_place f.layer f.site f.name
 
+-- why, and the property of which the layer says it
 abbrev pub target_front : TargetFault → Text
 target_front f = target_word ++ property_place f.layer f.site f.name
 
+-- a target or a connection that has no translation
 abbrev pub target_text : TargetFault → Text
 target_text f = target_front f ++ codes " " ++ path_text f.target
 
+-- a child that is not listed, by its name
 abbrev pub child_text : Text → Text
 child_text name = child_word ++ quoted name
 

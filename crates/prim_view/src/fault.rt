@@ -41,13 +41,13 @@ pub enum ArcReason {
     BadTarget,
     /// An offset is out of range: of the item, with a layer of the target's stack, or composed towards the stage.
     OffsetRange,
-    /// The target stands on the way to the prim.
+    /// The target is an author on the way to the prim, or stands above or below one.
     ArcCycle,
     /// More than 64 arcs on one chain.
     TooDeep,
     /// The path that is reached passes a limit of paths.
     PathTooLong,
-    /// No layer has a spec where the arc leads.
+    /// No layer has a spec where the arc leads, nor where arcs lead from there.
     UnresolvedPrim,
 }
 
@@ -135,6 +135,6 @@ pub enum PrimFault {
     TargetOutside(TargetFault),
     /// `PathTooLong` of a child of this name.
     ChildTooLong(Text),
-    /// The prim has more than 4,096 nodes.
+    /// A listing of more than 4,096 nodes was met on the way.
     Overgrown,
 }

@@ -11,7 +11,7 @@ pub enum RefusalKind {
     NotUtf8,
     /// The first line is not that of a text layer.
     BadHeader,
-    /// A token with which no layer's text goes on.
+    /// A token, or the end of the text, with which no layer's text goes on; edits beside an explicit list.
     Syntax,
     /// A number of more than 34 digits or with an exponent beyond 400.
     NumberTooLong,

@@ -19,10 +19,12 @@ site_in t = record { stack = (node_of t).stack; path = (node_of t).path }
 abbrev pub is_there : SiteKey → Ranked → Bool
 is_there q x = both (same_stack (node_of x.0).stack q.stack) (same_path (node_of x.0).path q.path)
 
+-- the place that is known has no greater rank
 abbrev pub is_as_good : Option Place → ℕ → Bool
 is_as_good None rank = false
 is_as_good (Some p) rank = nat_le p.rank rank
 
+-- the place that is known is the one of this number
 abbrev pub stands_at : Option Place → ℕ → Bool
 stands_at None at = false
 stands_at (Some p) at = p.at == at

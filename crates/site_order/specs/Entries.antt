@@ -19,6 +19,7 @@ use Rattle.site_order.specs.declared.order.Part.TheVariants.{Strong, Weak}
 abbrev pub entry : Ranked → order.Ranked
 entry e = (meant e.tree.now, e.rank)
 
+-- the trees for which the entries stand, in their order
 abbrev pub entries : List Ranked → List order.Ranked
 entries es = map entry es
 

@@ -11,11 +11,13 @@ use Rattle.site_order.specs.declared.faults.Group.TheVariants.{NoArc, NotFollowe
 abbrev pub items : List (Bor Tried) → List Tried
 items arcs = map (λ a. a.now) arcs
 
+-- the items of a group: those of level 0 that give no arc, those of level 0 that give one, or those of the levels above
 abbrev pub is_among : Group → Tried → Bool
 is_among NoArc a = both (is_level_0 a) (not (gives_arc a.authored.outcome))
 is_among NotFollowed a = both (is_level_0 a) (gives_arc a.authored.outcome)
 is_among TooLong a = not (is_level_0 a)
 
+-- of level 0 each fault is told, of the levels above `PathTooLong` alone
 abbrev pub is_told : Group → Reason → Bool
 is_told NoArc r = any_reason r
 is_told NotFollowed r = any_reason r

@@ -16,6 +16,7 @@ trees_shown ts = map (λ t. meant t.now) ts
 abbrev pub beats : Ranked → Ranked → Bool
 beats e x = both (nat_le x.1 e.1) (same_place x.0 e.0)
 
+-- a later place of the same site beats this one where its rank is less
 abbrev pub beats_later : Ranked → Ranked → Bool
 beats_later e x = both (nat_lt x.1 e.1) (same_place x.0 e.0)
 

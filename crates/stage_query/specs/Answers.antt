@@ -41,10 +41,11 @@ abbrev pub of_property : {T : Type 0} → (PropertyView → Answer T) → Option
 of_property answer None = NoProperty
 of_property answer (Some property) = answer property
 
+-- a question on a property of a path: the stage may have no prim there, and the prim no such property
 abbrev pub at_property : {T : Type 0} → (PropertyView → Answer T) → List Element → List ℕ → Stage → Answer T
 at_property answer path name stage = of_prim (λ view. of_property answer (property_of name view.properties)) (view_at path stage)
 
--- the value that decides; a block stands for no value
+-- the value that decides; a block is told as such
 abbrev pub decided : Option Value → Answer Value
 decided None = NoValue
 decided (Some value) = elim (is_block value) [ true ↦ Blocked | false ↦ Is value ]
@@ -64,10 +65,12 @@ abbrev pub value_of : ℤ → PropertyView → Answer Value
 value_of t (Attr name ty custom uniform default samples connections meta) = decided (value_at default samples t)
 value_of t (Rel name custom targets meta) = NoProperty
 
+-- the default of an attribute; a relationship has none
 abbrev pub default_value : PropertyView → Answer Value
 default_value (Attr name ty custom uniform default samples connections meta) = decided default
 default_value (Rel name custom targets meta) = NoProperty
 
+-- the samples of an attribute, where they decide; a relationship has none
 abbrev pub samples_in : PropertyView → Answer SampleEntries
 samples_in (Attr name ty custom uniform default samples connections meta) = sampled samples
 samples_in (Rel name custom targets meta) = NoProperty
@@ -79,20 +82,26 @@ targets_in (Rel name custom targets meta) = opinion targets
 
 -- ---- the questions
 
+-- the value of an attribute at a time
 abbrev pub value_answer : List Element → List ℕ → ℤ → Stage → Answer Value
 value_answer path name t stage = at_property (value_of t) path name stage
 
+-- the default of an attribute
 abbrev pub default_answer : List Element → List ℕ → Stage → Answer Value
 default_answer path name stage = at_property default_value path name stage
 
+-- the samples of an attribute
 abbrev pub samples_answer : List Element → List ℕ → Stage → Answer SampleEntries
 samples_answer path name stage = at_property samples_in path name stage
 
+-- the targets of a relationship, or the connections of an attribute
 abbrev pub targets_answer : List Element → List ℕ → Stage → Answer (List (List Element))
 targets_answer path name stage = at_property targets_in path name stage
 
+-- the names of the children of a prim, in order
 abbrev pub children_answer : List Element → Stage → Answer (List (List ℕ))
 children_answer path stage = of_prim (λ view. Is view.children) (view_at path stage)
 
+-- all that composition makes of a prim
 abbrev pub view_answer : List Element → Stage → Answer PrimView
 view_answer path stage = of_prim (λ view. Is view) (view_at path stage)

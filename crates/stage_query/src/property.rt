@@ -35,7 +35,7 @@ fn at_time<'v>(default: &'v Option<Value>, samples: &'v Samples, t: TimeCode) ->
     held_sample(samples, t)
 }
 
-/// The value that decides; a block stands for no value.
+/// The value that decides; a block is told as such.
 fn decided(value: Option<&Value>) -> Answer<&Value>
     ensures { answer_copied result ≡ decided (option_copied value.entry) }
 {

@@ -12,13 +12,15 @@ use Rattle.composition.specs.Paths.{Path, limits, same_path}
 use Rattle.composition.specs.Targets.{if_fits, through_maps, items_tried, edits_of_property}
 use Rattle.composition.specs.Texts.{Text}
 
--- a path through one arc, and through all
+-- a path through one arc; what passes a limit has no translation
 unfoldable pub through_arc : ArcMap → Path → Option Path
 through_arc m p = if_fits limits (translated m.kind m.target m.author p)
 
+-- a path of a site as a path of the stage; none where an arc on the way has no translation of it
 unfoldable pub on_stage : List ArcMap → Path → Option Path
 on_stage maps p = through_maps limits maps p
 
+-- there is no translation
 abbrev pub is_missing : Option Path → Bool
 is_missing (Some p) = false
 is_missing None = true

@@ -24,6 +24,7 @@ use Rattle.usda_drafts.specs.declared.draft.Draft.{Draft}
 abbrev pub headed : Heading → Draft → Draft
 headed h d = record d { heading = h }
 
+-- the type of an attribute; a word that names none is refused
 unfoldable pub type_act : Word → Draft → Acted
 type_act w d = then_with w.start (with_type w.text d.heading) (λ h. headed h d)
 
@@ -47,6 +48,7 @@ unfoldable pub after_reorder_act : TokenKind → Word → Draft → Acted
 after_reorder_act (token.Word word.OrderedField) w d = order_act w d
 after_reorder_act k w d = after_edit_act k w d
 
+-- the first word of a statement: of a prim, a variant set, an order or edit of a list, or else of a property
 unfoldable pub statement_act : TokenKind → Word → Draft → Acted
 statement_act (token.Word word.Specifier) w d = specifier_act w.text d
 statement_act (token.Word word.VariantSet) w d = Ok d
@@ -67,15 +69,19 @@ brackets_act d = Ok (headed (with_brackets d.heading) d)
 abbrev pub with_name : List ℕ → ℕ → Draft → PropertyDraft → Draft
 with_name name at d p = record d { owner = with_place name d.owner; property = p; name_at = at }
 
+-- the name of a property; a further statement on it is of the same kind and type
 unfoldable pub name_act : Word → Draft → Acted
 name_act w d = then_with w.start (property_for d.heading w.text d.owner) (with_name w.text w.start d)
 
+-- a default, which an attribute has once
 unfoldable pub default_begun : Draft → Acted
 default_begun d = then_with d.name_at (default_act d.property) (λ p. aimed_at_default (with_property d p))
 
+-- the samples, which an attribute has once
 unfoldable pub samples_begun : Draft → Acted
 samples_begun d = then_with d.name_at (samples_act d.property) (with_property d)
 
+-- a list of connections or targets: the explicit one, or one for each edit word, and each once
 unfoldable pub list_begun : Draft → Acted
 list_begun d = then_with d.name_at (list_act d.property) (λ p. record (with_property d p) { list = open_list.Property })
 

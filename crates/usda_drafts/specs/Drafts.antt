@@ -67,6 +67,7 @@ head_with key body sublayers = record {
   root_order = body.child_order;
 }
 
+-- the head of a layer, by the owner that stands for `/`
 unfoldable pub head_from : List ℕ → Owner → List SubLayer → Head
 head_from key o sublayers = head_with key (spec_of o).body sublayers
 
@@ -74,5 +75,6 @@ head_from key o sublayers = head_with key (spec_of o).body sublayers
 unfoldable pub layer_by : List ℕ → Draft → LayerTable
 layer_by key d = record { head = head_from key d.owner d.sublayers; specs = d.specs }
 
+-- the layer that has been read; its default prim stood at the key `defaultPrim`
 unfoldable pub layer_of : Draft → LayerTable
 layer_of d = layer_by (codes "defaultPrim") d

@@ -54,12 +54,15 @@ in_field field edit d said = record (with_said d said) { list = open_list.Field 
 unfoldable pub field_act : ListField → ListEdit → ℕ → Draft → Acted
 field_act field edit at d = then_with at (fields.field_act field edit d.owner.said) (in_field field edit d)
 
+-- `variantSets`, `apiSchemas` or `clipSets`
 unfoldable pub string_field_act : ListEdit → Word → Draft → Acted
 string_field_act edit w d = field_act (Texts (text_field w.text)) edit w.start d
 
+-- `inherits` or `specializes`
 unfoldable pub path_field_act : ListEdit → Word → Draft → Acted
 path_field_act edit w d = field_act (Paths (path_field w.text)) edit w.start d
 
+-- `references` or `payload`
 unfoldable pub reference_field_act : ListEdit → Word → Draft → Acted
 reference_field_act edit w d = field_act (References (reference_field w.text)) edit w.start d
 
@@ -108,6 +111,7 @@ root_act k w d = Ok d
 abbrev pub in_order : OrderWord → Draft → OwnerDraft → Draft
 in_order word d said = record (with_said d said) { order = word }
 
+-- an order of names; an owner has one of each word
 unfoldable pub ordered_by : OrderWord → ℕ → Draft → Acted
 ordered_by word at d = then_with at (owner.order_act word d.owner.said) (in_order word d)
 
@@ -130,6 +134,7 @@ order_name_act k w d = Ok d
 unfoldable pub property_rule : List ℕ → PropertyDraft → Result KeyRule RefusalKind
 property_rule key p = meta_key_act key p
 
+-- a key of the metadata of a property
 unfoldable pub property_key_act : Word → Draft → Acted
 property_key_act w d = then_with w.start (property_rule w.text d.property) (λ rule. aimed_at_key goal.PropertyKey w.text rule d)
 

@@ -35,17 +35,21 @@ owner_of path specifier type_name = record {
 unfoldable pub spec_of : Owner → Spec
 spec_of o = record o.said.spec { body = record o.said.spec.body { type_name = o.type_name; children = o.children; properties = o.properties; variant_names = o.sets } }
 
+-- one child more, behind the others
 unfoldable pub with_child : List ℕ → Owner → Owner
 with_child name o = record o { children = o.children ++ name ∷ [] }
 
 -- ---- variant sets
 
+-- a variant set of this name has begun before
 unfoldable pub has_set : List ℕ → Owner → Bool
 has_set name o = is_some (at_key text_cmp name o.set_names)
 
+-- a variant set that begins, behind the others; it may stay without variants
 unfoldable pub with_set : List ℕ → Owner → Owner
 with_set name o = record o { sets = o.sets ++ record { set = name; variants = [] } ∷ []; set_names = with_key text_cmp name true o.set_names; set = name }
 
+-- a variant more in the last set, behind the others
 abbrev pub and_variant : List ℕ → Option VariantSet → List VariantSet → List VariantSet
 and_variant name None sets = front sets
 and_variant name (Some s) sets = front sets ++ record s { variants = s.variants ++ name ∷ [] } ∷ []
@@ -56,6 +60,7 @@ with_variant name o = record o { sets = and_variant name (last o.sets) o.sets }
 
 -- ---- properties
 
+-- what earlier statements on a property have given once
 unfoldable pub marks_at : List ℕ → Owner → PropertyMarks
 marks_at name o = unwrap_or (at_key text_cmp name o.marks) no_marks
 

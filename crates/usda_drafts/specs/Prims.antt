@@ -19,6 +19,7 @@ use Rattle.usda_drafts.specs.declared.draft.Draft.{Draft}
 use Rattle.usda_drafts.specs.declared.draft.Opening.{Opening}
 use Rattle.usda_statements.specs.PropertyDrafts.{no_property}
 
+-- `def`, `class`, or else `over`
 unfoldable pub specifier_of : List ℕ → Specifier
 specifier_of word = if pointwise ◌==◌ word (codes "def") then Def else if pointwise ◌==◌ word (codes "class") then Class else Over
 
@@ -62,6 +63,7 @@ prim_name_act token d = and_then (identifier_of token) (λ name. named_prim name
 unfoldable pub open_act : ℕ → Draft → Acted
 open_act at d = if d.opening.is_too_deep then Err (refused TooDeep at) else Ok d
 
+-- a variant set of the innermost owner; a second of one name is refused
 unfoldable pub begun_set : List ℕ → Draft → Result Draft RefusalKind
 begun_set name d = if has_set name d.owner then Err DuplicateSpec else Ok (record d { owner = with_set name d.owner })
 
@@ -69,9 +71,11 @@ begun_set name d = if has_set name d.owner then Err DuplicateSpec else Ok (recor
 unfoldable pub set_name_act : List ℕ → Draft → Result Draft RefusalKind
 set_name_act token d = and_then (identifier_of token) (λ name. begun_set name d)
 
+-- the variant that begins, at a path, inside the innermost owner
 unfoldable pub with_variant_at : List ℕ → List Element → Draft → Draft
 with_variant_at name path d = entered (owner_of path Over None) (record d { owner = with_variant name d.owner })
 
+-- a variant of the set that is read; a second of one name is refused
 unfoldable pub entered_variant : List ℕ → List Element → Draft → Result Draft RefusalKind
 entered_variant name path d =
     if is_closed path d.specs then Err DuplicateSpec
@@ -89,6 +93,7 @@ variant_name_act token d = and_then (variant_of token) (λ name. named_variant n
 unfoldable pub with_statement_over : Draft → Draft
 with_statement_over d = record d { owner = settled d.property d.owner; property = no_property }
 
+-- the spec of the owner that is over joins those of the layer, and the owner outside it goes on
 abbrev pub left_for : Option Owner → Draft → Draft
 left_for None d = record d { outer = front d.outer }
 left_for (Some o) d = record d { specs = with_closed d.owner d.specs; owner = o; outer = front d.outer }

@@ -40,12 +40,15 @@ unfoldable pub shape_of : Option TypeName → Shape
 shape_of None = Untyped
 shape_of (Some ty) = Typed ty
 
+-- a default is of the type of its attribute
 unfoldable pub aimed_at_default : Draft → Draft
 aimed_at_default d = aimed goal.Default (shape_of d.property.ty) d
 
+-- the value of a sample is of the type of its attribute
 abbrev pub aimed_at_sample : ℤ → Draft → Draft
 aimed_at_sample time d = record d { aim = record d.aim { goal = goal.Sample; shape = shape_of d.property.ty; time = time } }
 
+-- the time of a sample; one that is out of range or has more than 18 decimals is refused
 abbrev pub in_range : Option ℤ → Result ℤ RefusalKind
 in_range None = Err TimeRange
 in_range (Some t) = Ok t
@@ -55,6 +58,7 @@ unfoldable pub finite_time : Num → Option ℤ
 finite_time (Finite n) = time_of n
 finite_time x = None
 
+-- the time of a number; one that is too long is refused before it is asked whether it is a time
 unfoldable pub time_of_number : Option Num → Result ℤ RefusalKind
 time_of_number None = Err NumberTooLong
 time_of_number (Some x) = in_range (finite_time x)
@@ -65,6 +69,7 @@ time_act text at d = then_with at (time_of_number (number_of text)) (λ time. ai
 
 -- ---- tokens of a value
 
+-- the value is a dictionary of selected variants
 unfoldable pub is_selections : Goal → Bool
 is_selections goal.Variants = true
 is_selections g = false
@@ -85,6 +90,7 @@ completed goal.PropertyKey v at d = then_with at (meta_act d.aim.key v d.propert
 completed goal.Default v at d = Ok (with_property d (with_default v d.property))
 completed goal.Sample v at d = Ok (with_property d (with_sample d.aim.time v d.property))
 
+-- a value goes where it belongs once it is complete
 abbrev pub after_token : Result OpenValue RefusalKind → ℕ → Draft → Acted
 after_token (Err k) at d = Err (refused k at)
 after_token (Ok v) at d = if is_open v then Ok (record d { value = v }) else completed d.aim.goal (value_in v) at (record d { value = no_value })

@@ -32,9 +32,11 @@ use Rattle.usda_fields.specs.declared.owner.OwnerDraft.{OwnerDraft}
 abbrev pub path_field : List ℕ → PathField
 path_field word = if pointwise ◌==◌ word (codes "inherits") then Inherits else Specializes
 
+-- `references`, or else `payload`
 abbrev pub reference_field : List ℕ → ReferenceField
 reference_field word = if pointwise ◌==◌ word (codes "references") then References else Payload
 
+-- `variantSets`, `apiSchemas`, or else `clipSets`
 abbrev pub text_field : List ℕ → TextField
 text_field word = if pointwise ◌==◌ word (codes "variantSets") then VariantSets else if pointwise ◌==◌ word (codes "apiSchemas") then ApiSchemas else ClipSets
 
@@ -86,6 +88,7 @@ with_given_at (list.Texts VariantSets) g m = record m { variant_sets = g }
 with_given_at (list.Texts ApiSchemas) g m = record m { api_schemas = g }
 with_given_at (list.Texts ClipSets) g m = record m { clip_sets = g }
 
+-- a list of the field is given, and has no items yet
 abbrev pub open_field : ListField → ListEdit → OwnerDraft → OwnerDraft
 open_field (list.Paths field) edit d = with_paths field (open_list edit (paths_at field d)) d
 open_field (list.References field) edit d = with_items field (open_list edit (items_at field d)) d
@@ -98,6 +101,7 @@ field_act field edit d =
 
 -- ---- items
 
+-- one item more; a text that is no path is refused
 abbrev pub push_path : PathField → ListEdit → Option (List Element) → OwnerDraft → Acted
 push_path field edit None d = Err Syntax
 push_path field edit (Some path) d = Ok (with_paths field (push_item edit path (paths_at field d)) d)
@@ -118,6 +122,7 @@ asset_act field edit token d = with_items field (push_item edit (asset_item toke
 abbrev pub lone_path_act : ReferenceField → ListEdit → List ℕ → OwnerDraft → Acted
 lone_path_act field edit token d = and_then (path_item d.base token) (λ item. Ok (with_items field (push_item edit item (items_at field d)) d))
 
+-- the last item of a list of references or payloads, changed
 abbrev pub amend_items : ReferenceField → ListEdit → (RefItem → Result RefItem RefusalKind) → OwnerDraft → Acted
 amend_items field edit change d = and_then (amend_list edit (amend_last change) (items_at field d)) (λ op. Ok (with_items field op d))
 

@@ -25,6 +25,7 @@ use Rattle.usda_fields.specs.declared.keys.KeyRule.TheVariants.{Relocates, Comme
 abbrev pub comment_key : List ℕ
 comment_key = codes "comment"
 
+-- the keys whose values are `true`, `false`, 1 or 0
 abbrev pub is_boolean_key : List ℕ → Bool
 is_boolean_key key = pointwise ◌==◌ key (codes "active") || (pointwise ◌==◌ key (codes "hidden") || pointwise ◌==◌ key (codes "instanceable"))
 
@@ -50,6 +51,7 @@ abbrev pub ends_in_prim : Option Element → Bool
 ends_in_prim None = false
 ends_in_prim (Some e) = is_prim_name e
 
+-- what was read is the path of a prim; `/` is none
 abbrev pub is_prim_path : Option (List Element) → Bool
 is_prim_path None = false
 is_prim_path (Some path) = ends_in_prim (slice_get path (length path - 1))
@@ -58,6 +60,7 @@ is_prim_path (Some path) = ends_in_prim (slice_get path (length path - 1))
 abbrev pub is_default_prim : List ℕ → Bool
 is_default_prim text = is_identifier text || is_prim_path (path_of text)
 
+-- the value of `defaultPrim`; a text that is neither the name of a root prim nor the path of a prim is refused
 abbrev pub judged_prim : List ℕ → Result Value RefusalKind
 judged_prim text = if is_default_prim text then Ok (value.Text text) else Err refusal.ValueShape
 
@@ -71,9 +74,11 @@ judged rule v = Err refusal.ValueShape
 
 -- ---- the metadata of an owner
 
+-- the key stands among those of the owner
 abbrev pub has_key : List ℕ → MetaEntries → Bool
 has_key key meta = is_some (at_key text_cmp key meta)
 
+-- `relocates` is refused before it is asked whether the key stands twice
 abbrev pub unless_taken : Bool → KeyRule → Result KeyRule RefusalKind
 unless_taken taken Relocates = Err refusal.Relocates
 unless_taken taken rule = if taken then Err refusal.DuplicateSpec else Ok rule

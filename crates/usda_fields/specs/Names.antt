@@ -10,6 +10,7 @@ use Rattle.usda_lexer.specs.Meanings.{string_text}
 use Rattle.usda_fields.specs.declared.names.VariantPart.{VariantPart}
 use Rattle.usda_fields.specs.declared.names.VariantPart.TheVariants.{Start, Dot, Run}
 
+-- a text, where its escapes give UTF-8
 abbrev pub if_utf8 : Option (List ℕ) → Result (List ℕ) RefusalKind
 if_utf8 None = Err NotUtf8
 if_utf8 (Some text) = Ok text
@@ -18,6 +19,7 @@ if_utf8 (Some text) = Ok text
 abbrev pub text_of : List ℕ → Result (List ℕ) RefusalKind
 text_of token = if_utf8 (string_text token)
 
+-- a name, where the text has its form; any other text is refused as `Syntax`, also one that is not UTF-8
 abbrev pub if_named : (List ℕ → Bool) → Option (List ℕ) → Result (List ℕ) RefusalKind
 if_named is_named None = Err Syntax
 if_named is_named (Some name) = if is_named name then Ok name else Err Syntax
@@ -30,6 +32,7 @@ identifier_of token = if_named is_identifier (string_text token)
 abbrev pub some_run : ℕ → Option VariantPart
 some_run c = if is_variant_character c then Some Run else None
 
+-- the name of a variant may begin with one `.`
 abbrev pub next_part : VariantPart → ℕ → Option VariantPart
 next_part Start c = if c == 46 then Some Dot else some_run c
 next_part part c = some_run c

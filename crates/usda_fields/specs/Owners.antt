@@ -19,6 +19,7 @@ use Rattle.usda_fields.specs.declared.owner.OrderWord.TheVariants.{NameChildren,
 use Rattle.usda_fields.specs.declared.owner.OwnerMarks.{OwnerMarks}
 use Rattle.usda_fields.specs.declared.owner.OwnerDraft.{OwnerDraft}
 
+-- no list, no selections and no order have been given
 abbrev pub no_marks : OwnerMarks
 no_marks = record {
   inherits = none_given;
@@ -45,17 +46,21 @@ Acted = Result OwnerDraft RefusalKind
 abbrev pub with_meta : MetaEntries → OwnerDraft → OwnerDraft
 with_meta meta d = record d { spec = record d.spec { body = record d.spec.body { meta = meta } } }
 
+-- a key of the owner, before its value
 abbrev pub key_act : List ℕ → OwnerDraft → Result KeyRule RefusalKind
 key_act key d = keys.key_act key d.spec.body.meta
 
+-- the whole value of a key of the owner
 abbrev pub value_act : List ℕ → Value → OwnerDraft → Acted
 value_act key v d = and_then (keys.value_act key v d.spec.body.meta) (λ meta. Ok (with_meta meta d))
 
+-- a string that stands alone among the metadata of the owner
 abbrev pub comment_act : List ℕ → OwnerDraft → Acted
 comment_act token d = and_then (keys.comment_act token d.spec.body.meta) (λ meta. Ok (with_meta meta d))
 
 -- ---- the orders of children and of properties, in which repeats stay
 
+-- `nameChildren`, or else `properties`
 abbrev pub order_word : List ℕ → OrderWord
 order_word word = if pointwise ◌==◌ word (codes "nameChildren") then NameChildren else PropertyNames
 
@@ -64,6 +69,7 @@ abbrev pub order_act : OrderWord → OwnerDraft → Acted
 order_act NameChildren d = if d.given.child_order then Err DuplicateSpec else Ok (record d { given = record d.given { child_order = true } })
 order_act PropertyNames d = if d.given.property_order then Err DuplicateSpec else Ok (record d { given = record d.given { property_order = true } })
 
+-- one name more in an order
 abbrev pub push_ordered : OrderWord → List ℕ → OwnerDraft → OwnerDraft
 push_ordered NameChildren name d = record d { spec = record d.spec { body = record d.spec.body { child_order = d.spec.body.child_order ++ name ∷ [] } } }
 push_ordered PropertyNames name d = record d { spec = record d.spec { body = record d.spec.body { property_order = d.spec.body.property_order ++ name ∷ [] } } }

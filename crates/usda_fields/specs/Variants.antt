@@ -32,6 +32,7 @@ abbrev pub is_string_element : ElementType → Bool
 is_string_element element.String = true
 is_string_element e = false
 
+-- the type `string`; arrays of strings are another type
 abbrev pub is_string : DictType → Bool
 is_string Dictionary = false
 is_string (Plain t) = if t.array then false else is_string_element t.element
@@ -49,6 +50,7 @@ pub record Said : Type 0 where
   pub text : Option (List ℕ)
   pub entries : List (List ℕ × Option (List ℕ))
 
+-- a string says the text that it is, a dictionary its entries, and any other value nothing
 abbrev pub said_step : Value-F Said (List ℕ × Option (List ℕ)) → Said
 said_step (Value-F.Text text) = record { text = Some text; entries = [] }
 said_step (Value-F.Dict entries) = record { text = None; entries = entries }
@@ -60,6 +62,7 @@ said_item item = (item.key, item.value.text)
 abbrev pub said : Value → Said
 said v = fold-Value Said (List ℕ × Option (List ℕ)) said_step said_item v
 
+-- the variant of a set; where the value of the entry is no string, nothing is selected
 abbrev pub with_selection : List ℕ → Option (List ℕ) → SelectionEntries → SelectionEntries
 with_selection set None selections = selections
 with_selection set (Some variant) selections = with_key text_cmp set variant selections
@@ -80,5 +83,6 @@ entry_of item = (item.key, (said item.value).text)
 abbrev pub variants_act : OwnerDraft → Acted
 variants_act d = if d.given.variants then Err DuplicateSpec else Ok (record d { given = record d.given { variants = true } })
 
+-- the owner selects what the whole dictionary says
 abbrev pub selections_act : Value → OwnerDraft → OwnerDraft
 selections_act v d = record d { spec = record d.spec { arcs = record d.spec.arcs { selections = selections_of v } } }

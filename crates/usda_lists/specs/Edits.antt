@@ -20,6 +20,7 @@ edit_of word =
 abbrev pub none_given : GivenLists
 none_given = record { explicit = false; deleted = false; added = false; prepended = false; appended = false; ordered = false }
 
+-- a list with an edit word was given
 abbrev pub has_edits : GivenLists → Bool
 has_edits g = g.deleted || (g.added || (g.prepended || (g.appended || g.ordered)))
 
@@ -28,6 +29,7 @@ abbrev pub clashes : ListEdit → GivenLists → Bool
 clashes Explicit g = has_edits g
 clashes edit g = g.explicit
 
+-- the list of this edit word, or the explicit one, was given
 abbrev pub is_given : ListEdit → GivenLists → Bool
 is_given Explicit g = g.explicit
 is_given Delete g = g.deleted

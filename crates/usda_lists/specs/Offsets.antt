@@ -15,6 +15,7 @@ use Rattle.usda_lists.specs.declared.offset.OffsetKey.TheVariants as key
 abbrev pub identity : Offset
 identity = record { offset = pos 0; scale = pos 1 }
 
+-- `offset` or `scale`; any other key is refused
 abbrev pub offset_key : List ℕ → Result OffsetKey RefusalKind
 offset_key word = if pointwise ◌==◌ word (codes "offset") then Ok key.Offset else if pointwise ◌==◌ word (codes "scale") then Ok key.Scale else Err ReferenceData
 
@@ -23,9 +24,11 @@ abbrev pub whole_number : Num → Option ℤ
 whole_number (Finite d) = whole_of d
 whole_number x = None
 
+-- an offset is within a thousand million of 0
 abbrev pub with_offset : ℤ → Offset → Result Offset RefusalKind
 with_offset n o = if nat_le (unsigned_abs n) 1000000000 then Ok (record o { offset = n }) else Err OffsetRange
 
+-- a scale is from 1 to a million
 abbrev pub with_scale : ℤ → Offset → Result Offset RefusalKind
 with_scale n o = if int_le (pos 1) n && int_le n (pos 1000000) then Ok (record o { scale = n }) else Err OffsetRange
 
@@ -35,6 +38,7 @@ with_part k None o = Err OffsetRange
 with_part key.Offset (Some n) o = with_offset n o
 with_part key.Scale (Some n) o = with_scale n o
 
+-- a number that is too long is refused before it is asked whether it is whole and within its bounds
 abbrev pub with_number : OffsetKey → Option Num → Offset → Result Offset RefusalKind
 with_number k None o = Err NumberTooLong
 with_number k (Some x) o = with_part k (whole_number x) o

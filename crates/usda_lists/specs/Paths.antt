@@ -45,5 +45,6 @@ target_from base text = option_map plain (path_from base text)
 abbrev pub absolute_token : List Element → List ℕ
 absolute_token path = 60 ∷ printed path ++ 62 ∷ []
 
+-- the path that a text means from the plain path of a prim, as a token that means it wherever it stands
 abbrev pub absolute_from : List Element → List ℕ → Option (List ℕ)
 absolute_from base text = option_map absolute_token (path_from base text)

@@ -25,6 +25,7 @@ asset_or_none (c ∷ cs) = Some (c ∷ cs)
 abbrev pub asset_item : List ℕ → RefItem
 asset_item text = record { asset = asset_or_none (asset_text text); path = None; offset = identity }
 
+-- a text that is no path is refused
 abbrev pub some_path : Option (List Element) → Result (Option (List Element)) RefusalKind
 some_path None = Err Syntax
 some_path (Some path) = Ok (Some path)
@@ -50,6 +51,7 @@ with_number_of key text item = and_then (offset_act key text item.offset) (λ of
 abbrev pub sublayer_of : List ℕ → SubLayer
 sublayer_of text = record { asset = asset_text text; offset = identity }
 
+-- the number of an offset or a scale of a sublayer
 abbrev pub sublayer_number : OffsetKey → List ℕ → SubLayer → Result SubLayer RefusalKind
 sublayer_number key text sublayer = and_then (offset_act key text sublayer.offset) (λ offset. Ok (record sublayer { offset = offset }))
 
@@ -59,6 +61,7 @@ same_text a b = pointwise ◌==◌ a b
 abbrev pub same_path : List Element → List Element → Bool
 same_path a b = pointwise same_element a b
 
+-- the offsets are one: the same shift of times and the same scale
 abbrev pub same_offset : Offset → Offset → Bool
 same_offset a b = int_eq a.offset b.offset && int_eq a.scale b.scale
 

@@ -67,7 +67,8 @@ fn read(alloc: Global, bytes: &[u8]) -> Result<Layer, LayerFault>
 }
 
 /// The layer that a text of the whole format says. `Refused` has the first reason why there is none, with its line and column: the
-/// kind and the place are those of the rules, whatever comes later in the text.
+/// kind and the place are those of the rules, whatever words come later; size, other formats, UTF-8 and the first line are judged
+/// over all bytes before the first word.
 pub fn read_layer(alloc: Global, bytes: &[u8]) -> Result<Layer, LayerFault>
     // What is read is what the text says, and what is told is the first refusal.
     ensures found { Reads result bytes.now }

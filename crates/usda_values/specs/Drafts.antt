@@ -30,6 +30,7 @@ use Rattle.usda_values.specs.Entries.{has_key, with_entry, items_of}
 use Rattle.usda_values.specs.Scalars.{Taken, token_value}
 use Rattle.usda_values.specs.Shapes.{entry_shape, take_value, Members, tuple_members, array_members, takes_dictionary}
 
+-- the draft behind a token, or the kind of its refusal
 abbrev pub Acted : Type 0
 Acted = Result ValueDraft RefusalKind
 
@@ -41,6 +42,7 @@ new_level b item room = record { bracket = b; item = item; room = room; values =
 abbrev pub draft_of : Place → Shape → ValueDraft
 draft_of p shape = record { place = p; level = new_level bracket.Statement shape (Some 1); outer = [] }
 
+-- how many members are still to come behind one more; where any number may come, it still may
 abbrev pub one_fewer : Option ℕ → Option ℕ
 one_fewer None = None
 one_fewer (Some zero) = Some 0
@@ -59,6 +61,7 @@ is_lacking (Some n) = if n == 0 then false else true
 abbrev pub give_member : Value → Level → Level
 give_member v l = record l { values = l.values ++ v ∷ []; room = one_fewer l.room }
 
+-- the value of the open entry; entries stand in byte order of their keys
 abbrev pub give_entry : Value → Level → Level
 give_entry v l = record l { entries = with_entry l.key (record { key = l.key; ty = l.ty; value = v }) l.entries }
 
@@ -84,11 +87,12 @@ abbrev pub given : Taken → ValueDraft → Acted
 given (Err k) d = Err k
 given (Ok v) d = Ok (give_act v d)
 
+-- the value stands inside no other
 abbrev pub is_statement : Bracket → Bool
 is_statement bracket.Statement = true
 is_statement b = false
 
--- a value of one token
+-- a value of one token; one member too many is refused at it
 abbrev pub put_act : Taken → ValueDraft → Acted
 put_act (Err k) d = Err k
 put_act (Ok v) d = if is_full d.level.room then Err ValueShape else given (take_value d.level.item (is_statement d.level.bracket) v) d
@@ -97,10 +101,12 @@ put_act (Ok v) d = if is_full d.level.room then Err ValueShape else given (take_
 abbrev pub deeper : Place → Level → ValueDraft → Acted
 deeper p level d = if nat_le 64 (length d.outer) then Err TooDeep else Ok (record { place = p; level = level; outer = d.outer ++ d.level ∷ [] })
 
+-- `(` or `[`: a tuple or an array, where one may stand, no member is too many and fewer than 64 values are open
 abbrev pub open_members : Bracket → Place → Members → ValueDraft → Acted
 open_members b p None d = Err ValueShape
 open_members b p (Some m) d = if is_full d.level.room then Err ValueShape else deeper p (new_level b m.0 m.1) d
 
+-- `{`: a dictionary, where one may stand and fewer than 64 values are open
 abbrev pub open_dict : ValueDraft → Acted
 open_dict d = if is_full d.level.room then Err ValueShape else if takes_dictionary d.level.item then deeper place.EntryType (new_level bracket.Dict Untyped None) d else Err ValueShape
 
@@ -111,10 +117,12 @@ wrap_as bracket.Tuple l = value.Tuple l.values
 wrap_as bracket.Array l = value.Array l.values
 wrap_as bracket.Dict l = value.Dict (items_of l.entries)
 
+-- the value of the level that is closed is given to the level outside it
 abbrev pub go_out : Option Level → ValueDraft → ValueDraft
 go_out None d = record d { outer = front d.outer }
 go_out (Some l) d = record { place = behind_value l.bracket; level = give (wrap_as d.level.bracket d.level) l; outer = front d.outer }
 
+-- the mark that closes a level; a tuple with too few members is refused at it
 abbrev pub close_act : ValueDraft → Acted
 close_act d = if is_lacking d.level.room then Err ValueShape else Ok (go_out (last d.outer) d)
 
@@ -123,10 +131,12 @@ abbrev pub find_element : List ElementType → List ℕ → Option ElementType
 find_element [] name = None
 find_element (e ∷ es) name = if pointwise ◌==◌ (element_name e) name then Some e else find_element es name
 
+-- an entry of this type; a word that names no type is refused
 abbrev pub typed_entry : Option ElementType → ValueDraft → Acted
 typed_entry None d = Err UnknownType
 typed_entry (Some e) d = Ok (record d { place = place.BehindType; level = record d.level { ty = dict.Plain (record { element = e; array = false }) } })
 
+-- the type of an entry: `dictionary`, which takes no brackets, or the word of a type
 abbrev pub type_act : List ℕ → ValueDraft → Acted
 type_act name d =
     if pointwise ◌==◌ name (codes "dictionary") then Ok (record d { place = place.Key; level = record d.level { ty = dict.Dictionary } })
@@ -137,13 +147,16 @@ abbrev pub array_type : DictType → DictType
 array_type (dict.Plain t) = dict.Plain (record { element = t.element; array = true })
 array_type dict.Dictionary = dict.Dictionary
 
+-- the `[` behind the type of an entry
 abbrev pub array_act : ValueDraft → ValueDraft
 array_act d = record d { place = place.TypeEnd; level = record d.level { ty = array_type d.level.ty } }
 
+-- the key of an entry, which no entry before it has; a string whose escapes are not UTF-8 is refused
 abbrev pub key_act : Option (List ℕ) → ValueDraft → Acted
 key_act None d = Err NotUtf8
 key_act (Some key) d = if has_key key d.level.entries then Err DuplicateSpec else Ok (record d { place = place.Equals; level = record d.level { key = key } })
 
+-- the `=` behind a key; a value of the type of the entry has to follow
 abbrev pub equals_act : ValueDraft → ValueDraft
 equals_act d = record d { place = place.Value; level = record d.level { item = entry_shape d.level.ty } }
 
@@ -164,40 +177,49 @@ closes bracket.Array (kind.Mark mark.CloseBracket) = true
 closes bracket.Dict (kind.Mark mark.CloseBrace) = true
 closes b k = false
 
+-- behind a comma, or behind `[`: a value, or the mark that closes the level
 abbrev pub act_value_or_end : TokenKind → List ℕ → ValueDraft → Acted
 act_value_or_end k text d = if closes d.level.bracket k then close_act d else act_value k text d
 
+-- behind a member: a comma, or the mark that closes the level
 abbrev pub act_behind_member : TokenKind → ValueDraft → Acted
 act_behind_member (kind.Mark mark.Comma) d = Ok (at_place place.ValueOrEnd d)
 act_behind_member k d = if closes d.level.bracket k then close_act d else Err Syntax
 
+-- where an entry may begin: its type, or the end of the dictionary
 abbrev pub act_entry : TokenKind → List ℕ → ValueDraft → Acted
 act_entry (kind.Mark mark.CloseBrace) text d = close_act d
 act_entry kind.Name text d = type_act text d
 act_entry k text d = Err Syntax
 
+-- the key of an entry is a name or a string
 abbrev pub act_key : TokenKind → List ℕ → ValueDraft → Acted
 act_key kind.Name text d = key_act (Some text) d
 act_key kind.String text d = key_act (string_text text) d
 act_key k text d = Err Syntax
 
+-- behind the type of an entry: brackets, or the key
 abbrev pub act_behind_type : TokenKind → List ℕ → ValueDraft → Acted
 act_behind_type (kind.Mark mark.OpenBracket) text d = Ok (array_act d)
 act_behind_type k text d = act_key k text d
 
+-- behind the `[` of a type: its `]`
 abbrev pub act_type_end : TokenKind → ValueDraft → Acted
 act_type_end (kind.Mark mark.CloseBracket) d = Ok (at_place place.Key d)
 act_type_end k d = Err Syntax
 
+-- behind a key: the `=`
 abbrev pub act_equals : TokenKind → ValueDraft → Acted
 act_equals (kind.Mark mark.Equals) d = Ok (equals_act d)
 act_equals k d = Err Syntax
 
+-- behind an entry: one `,` or `;`, another entry, or the end of the dictionary
 abbrev pub act_behind_entry : TokenKind → List ℕ → ValueDraft → Acted
 act_behind_entry (kind.Mark mark.Comma) text d = Ok (at_place place.EntryType d)
 act_behind_entry (kind.Mark mark.Semicolon) text d = Ok (at_place place.EntryType d)
 act_behind_entry k text d = act_entry k text d
 
+-- where no other value than a dictionary may stand
 abbrev pub act_dictionary : TokenKind → ValueDraft → Acted
 act_dictionary (kind.Mark mark.OpenBrace) d = open_dict d
 act_dictionary k d = Err Syntax
@@ -224,6 +246,7 @@ abbrev pub is_complete_at : Place → Bool
 is_complete_at place.Complete = true
 is_complete_at p = false
 
+-- the value is read to its end
 abbrev pub is_complete : ValueDraft → Bool
 is_complete d = is_complete_at d.place
 
@@ -232,5 +255,6 @@ abbrev pub value_of_last : Option Value → Value
 value_of_last (Some v) = v
 value_of_last None = value.Block
 
+-- the value that a complete draft has read
 abbrev pub value_of : ValueDraft → Value
 value_of d = value_of_last (last d.level.values)

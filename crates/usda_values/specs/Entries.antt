@@ -14,6 +14,7 @@ Table = List (List ℕ × DictItem)
 abbrev pub has_key : List ℕ → Table → Bool
 has_key key table = is_some (lookup (is_at (slice_cmp nat_cmp key)) table)
 
+-- the entries with this one at its key
 abbrev pub with_entry : List ℕ → DictItem → Table → Table
 with_entry key item table = insert_entry (slice_cmp nat_cmp) table key item
 

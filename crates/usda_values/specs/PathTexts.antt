@@ -7,6 +7,7 @@ use Rattle.sdf_paths.specs.Reader.{after, finish}
 use Rattle.sdf_paths.specs.declared.reader.Reader.{Reader}
 use Rattle.usda_lexer.specs.Blanks.{begins}
 
+-- a path may end where the reader stands
 abbrev pub finishes : Option Reader → Bool
 finishes None = false
 finishes (Some r) = is_some (finish r)

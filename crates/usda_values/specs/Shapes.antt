@@ -23,6 +23,7 @@ abbrev pub for_metadata : Value → Value
 for_metadata (value.Number x) = by_value x
 for_metadata v = v
 
+-- `None` stands for a default or a sample of any type, and never inside a value; no other token is an array
 abbrev pub take_typed : Bool → TypeName → Value → Taken
 take_typed is_statement t value.Block = if is_statement then Ok value.Block else Err ValueShape
 take_typed is_statement t v = if t.array then Err ValueShape else take_element t.element v
@@ -38,22 +39,26 @@ take_value Dictionary is_statement v = Err ValueShape
 abbrev pub Members : Type 0
 Members = Option (Shape × Option ℕ)
 
+-- the members of a tuple: so many of one type
 abbrev pub counted_members : Option (ElementType × ℕ) → Members
 counted_members (Some m) = Some (Typed (one m.0), Some m.1)
 counted_members None = None
 
+-- a tuple: where a type is expected it is one of tuples, which says what the members are and how many
 abbrev pub tuple_members : Shape → Members
 tuple_members Untyped = Some (Untyped, None)
 tuple_members Metadata = Some (Metadata, None)
 tuple_members (Typed t) = if t.array then None else counted_members (members_of t.element)
 tuple_members Dictionary = None
 
+-- an array, of any length: where a type is expected it is one of arrays, which says what the members are
 abbrev pub array_members : Shape → Members
 array_members Untyped = Some (Untyped, None)
 array_members Metadata = Some (Metadata, None)
 array_members (Typed t) = if t.array then Some (Typed (one t.element), None) else None
 array_members Dictionary = None
 
+-- a dictionary may stand where no value type is expected
 abbrev pub takes_dictionary : Shape → Bool
 takes_dictionary (Typed t) = false
 takes_dictionary s = true

@@ -45,6 +45,7 @@ abbrev pub as_array : TakenAll → Taken
 as_array (Ok vs) = Ok (value.Array vs)
 as_array (Err k) = Err k
 
+-- a tuple, where the type is one of tuples
 abbrev pub take_tuple : Option (ElementType × ℕ) → List Taking → Taken
 take_tuple None cs = Err ValueShape
 take_tuple (Some m) cs = as_tuple (take_counted m.1 cs (one m.0))
@@ -53,6 +54,7 @@ take_tuple (Some m) cs = as_tuple (take_counted m.1 cs (one m.0))
 abbrev pub take_leaf : Value → TypeName → Taken
 take_leaf v t = if t.array then Err ValueShape else take_element t.element v
 
+-- what a value is as one of a type, by what its members are; no type takes a dictionary, nor a block inside a value
 abbrev pub take_step : Value-F Taking Taking → Taking
 take_step (Value-F.Bool b) t = take_leaf (value.Bool b) t
 take_step (Value-F.Whole n) t = take_leaf (value.Whole n) t
@@ -74,6 +76,7 @@ take_item item = item.value
 abbrev pub taken : Value → Taking
 taken = fold-Value Taking Taking take_step take_item
 
+-- the block as it is, and any other value as one of the type
 abbrev pub take_shape_step : Value → TypeName → Taken
 take_shape_step value.Block t = Ok value.Block
 take_shape_step v t = taken v t
@@ -88,6 +91,7 @@ AnswersShape (Ok v) t = t ≡ Ok v
 AnswersShape (Err (Refused k at)) t = (t ≡ Err k) × (at ≡ 0)
 AnswersShape (Err NoMemory) t = Unit {0}
 
+-- what a call gives for all members, unless memory ran out
 abbrev pub GivesAll : Result (List Value) ActFault → TakenAll → Type 0
 GivesAll (Ok vs) t = t ≡ Ok vs
 GivesAll (Err (fault.Refused k)) t = t ≡ Err k

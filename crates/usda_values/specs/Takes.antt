@@ -5,6 +5,7 @@ use Rattle.usda_values.specs.declared.fault.ActFault.{ActFault}
 use Rattle.usda_values.specs.declared.fault.ActFault.TheVariants.{Refused, NoMemory}
 use Rattle.usda_values.specs.Scalars.{Taken}
 
+-- what a call gives: what is taken, unless memory ran out
 abbrev pub Gives : Result Value ActFault → Taken → Type 0
 Gives (Ok v) taken = taken ≡ Ok v
 Gives (Err (Refused k)) taken = taken ≡ Err k

@@ -1,4 +1,4 @@
--- Layers and their texts, each form once.
+-- Layers and their texts: forms of lists, sublayers, relationships and variant sets, and two of connections.
 use Rattle.std.specs.Prelude.{◌≡◌, ℕ, ℤ, pos, negsuc, true, false, List, [], ◌∷◌, ◌++◌, codes, Option, Some, None}
 use Rattle.list_ops.specs.declared.op.ListOp.{ListOp}
 use Rattle.sdf_paths.specs.declared.element.Element.{Element}
@@ -28,7 +28,7 @@ one e = record { element = e; array = false }
 abbrev pub empty_layer : LayerTable
 empty_layer = record { head = blank_head; specs = [] }
 
--- each form of lists, connections, relationships and variants; texts of values are told by the crate of values
+-- forms of lists, sublayers, relationships and variants, and two of connections; texts of values are told by the crate of values
 abbrev pub forms : LayerTable
 forms = record {
   head = record blank_head {

@@ -11,6 +11,7 @@ use Rattle.value_resolve.specs.declared.decision.Decision.{Decision}
 abbrev pub gives : OnStage → Given
 gives g = record { default = g.default; samples = g.samples; left_out = g.left_out }
 
+-- nothing is decided yet: any opinion may give the default, and the samples
 abbrev pub undecided : Decision
 undecided = record { default = None; samples = []; waits = true }
 

@@ -5,6 +5,7 @@ use Rattle.sdf_values.specs.contracts.time.TimeCodeOrd.TheImpl.{ghosts as time_o
 use Rattle.sdf_values.specs.declared.value.Value.{Value}
 use Rattle.spec_properties.specs.Entries.{SampleEntries}
 
+-- nothing is there
 abbrev pub is_missing : {T : Type 0} → Option T → Bool
 is_missing (Some x) = false
 is_missing None = true
