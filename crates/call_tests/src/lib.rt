@@ -1,4 +1,4 @@
-//! Calls of the libraries of this repository, each once with ample memory and with answers from the rules; no part of the program.
+//! Calls of tables, maps, grammars and files, each once with ample memory and with answers from the rules; no part of the program.
 #![tactic(auto)]
 
 #[cfg(test)]
@@ -12,8 +12,6 @@ mod editions;
 #[cfg(test)]
 mod grammar;
 #[cfg(test)]
-mod layers;
-#[cfg(test)]
 mod lists;
 #[cfg(test)]
 mod machine;
@@ -22,18 +20,6 @@ mod names;
 #[cfg(test)]
 mod ordered_tables;
 #[cfg(test)]
-mod parts;
-#[cfg(test)]
-mod properties;
-#[cfg(test)]
-mod questions;
-#[cfg(test)]
-mod returns;
-#[cfg(test)]
-mod shapes;
-#[cfg(test)]
 mod shared_copies;
 #[cfg(test)]
 mod variants;
-#[cfg(test)]
-mod words;

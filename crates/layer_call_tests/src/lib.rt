@@ -1,0 +1,13 @@
+//! Calls of words, values, specs and layers, each once with ample memory and with answers from the rules; no part of the program.
+#![tactic(auto)]
+
+#[cfg(test)]
+mod layers;
+#[cfg(test)]
+mod parts;
+#[cfg(test)]
+mod properties;
+#[cfg(test)]
+mod shapes;
+#[cfg(test)]
+mod words;
