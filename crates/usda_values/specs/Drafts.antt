@@ -242,6 +242,12 @@ act_at place.Complete k text d = Err Syntax
 unfoldable pub value_act : TokenKind → List ℕ → ValueDraft → Acted
 value_act k text d = act_at d.place k text d
 
+-- a value may stand there, and so may a number
+abbrev pub awaits_value : Place → Bool
+awaits_value place.Value = true
+awaits_value place.ValueOrEnd = true
+awaits_value p = false
+
 abbrev pub is_complete_at : Place → Bool
 is_complete_at place.Complete = true
 is_complete_at p = false

@@ -11,7 +11,8 @@ use Rattle.usda_values.specs.declared.fault.ActFault.TheVariants as fault
 use Rattle.usda_values.specs.declared.fault.ValueFault.{ValueFault}
 use Rattle.usda_values.specs.declared.fault.ValueFault.TheVariants.{Refused, NoMemory}
 use Rattle.usda_values.specs.declared.draft.ValueDraft.{ValueDraft}
-use Rattle.usda_values.specs.Drafts.{Acted, value_act, is_complete, value_of}
+use Rattle.usda_values.specs.declared.level.Place.{Place}
+use Rattle.usda_values.specs.Drafts.{Acted, value_act, awaits_value, is_complete, value_of}
 
 -- what a call that may want memory makes of a draft
 abbrev pub Does : Result (Unit {0}) ActFault → ValueDraft → Acted → Type 0
@@ -24,11 +25,13 @@ pub data Reading : Type 0 where
   got : Value → Lexing → Reading
   refused : RefusalKind → ℕ → Lexing → Reading
 
-abbrev pub kind_of_fault : LexFault → RefusalKind
-kind_of_fault (lexing.NumberTooLong at) = NumberTooLong
-kind_of_fault (lexing.NotUtf8 at) = NotUtf8
-kind_of_fault (lexing.Unclosed at) = Syntax
-kind_of_fault (lexing.BadByte at) = Syntax
+-- The kind of a fault, by the place that a draft has reached. A number that is too long is a number, so it is refused for syntax where
+-- no number may stand.
+abbrev pub kind_of_fault : LexFault → Place → RefusalKind
+kind_of_fault (lexing.NumberTooLong at) p = if awaits_value p then NumberTooLong else Syntax
+kind_of_fault (lexing.NotUtf8 at) p = NotUtf8
+kind_of_fault (lexing.Unclosed at) p = Syntax
+kind_of_fault (lexing.BadByte at) p = Syntax
 
 abbrev pub place_of_fault : LexFault → ℕ
 place_of_fault (lexing.NumberTooLong at) = at
@@ -39,10 +42,10 @@ place_of_fault (lexing.BadByte at) = at
 abbrev pub lexing_of : List Word → Option LexFault → Lexing
 lexing_of ws f = record { words = ws; fault = f }
 
--- at the end of the tokens, which is that of the text or a fault
-abbrev pub no_more : Option LexFault → ℕ → Reading
-no_more None end = refused Syntax end (lexing_of [] None)
-no_more (Some f) end = refused (kind_of_fault f) (place_of_fault f) (lexing_of [] (Some f))
+-- at the end of the tokens, which is that of the text or a fault, where a draft has reached this place
+abbrev pub no_more : Option LexFault → ℕ → Place → Reading
+no_more None end p = refused Syntax end (lexing_of [] None)
+no_more (Some f) end p = refused (kind_of_fault f p) (place_of_fault f) (lexing_of [] (Some f))
 
 abbrev pub behind_act : Acted → Word → List Word → Option LexFault → (ValueDraft → Reading) → Reading
 behind_act (Err k) w ws f more = refused k w.start (lexing_of (w ∷ ws) f)
@@ -50,7 +53,7 @@ behind_act (Ok next) w ws f more = if is_complete next then got (value_of next) 
 
 -- The value that these tokens complete. The text ends at `end`, behind them or behind the fault.
 abbrev pub reads : List Word → Option LexFault → ℕ → ValueDraft → Reading
-reads [] f end d = no_more f end
+reads [] f end d = no_more f end d.place
 reads (w ∷ ws) f end d = behind_act (value_act w.kind w.text d) w ws f (λ next. reads ws f end next)
 
 -- the value that the tokens of a lexer complete

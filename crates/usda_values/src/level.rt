@@ -1,6 +1,6 @@
 //! The levels of a value that is being read.
 ghost use Rattle.std.specs.Prelude.{◌≡◌, OnOk, IfOk};
-ghost use Rattle.usda_values.specs.Drafts.{new_level, one_fewer, is_full, is_lacking, give, give_member, give_entry, behind_value, is_statement, wrap_as, closes, array_type};
+ghost use Rattle.usda_values.specs.Drafts.{new_level, one_fewer, is_full, is_lacking, give, give_member, give_entry, behind_value, is_statement, wrap_as, awaits_value, closes, array_type};
 
 use crate::entries::Entries;
 use crate::shape::Shape;
@@ -102,6 +102,16 @@ pub fn behind_value(bracket: Bracket) -> Place
         Bracket::Statement => Place::Complete,
         Bracket::Tuple | Bracket::Array => Place::BehindMember,
         Bracket::Dict => Place::BehindEntry,
+    }
+}
+
+/// Whether a value may stand there, and so a number.
+pub fn awaits_value(place: Place) -> bool
+    ensures { result ≡ awaits_value place }
+{
+    match place {
+        Place::Value | Place::ValueOrEnd => true,
+        _ => false,
     }
 }
 

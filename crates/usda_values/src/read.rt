@@ -1,19 +1,21 @@
 //! Values and dictionaries from tokens.
 ghost use Rattle.std.specs.Prelude.{◌≡◌, IfOk};
 ghost use Rattle.usda_values.specs.Drafts.{draft_of};
-ghost use Rattle.usda_values.specs.declared.level.Place.TheVariants as place;
 ghost use Rattle.usda_values.specs.Reads.{AnswersRead, AnswersStep, kind_of_fault, place_of_fault};
 
 use crate::draft::ValueDraft;
 use crate::fault::{ActFault, ValueFault};
+use crate::level::{Place, awaits_value};
 use crate::shape::Shape;
 use sdf_values::{RefusalKind, Value};
 use std::alloc::Global;
 use usda_lexer::{LexFault, Tokens};
 
 /// Reads one value, of which nothing is known. After a refusal the tokens stand at the one that was refused.
+///
+/// A number that is too long is `NumberTooLong` where a value may stand, and `Syntax` elsewhere, as behind a member.
 pub fn read_value(alloc: Global, tokens: &mut Tokens<'_>) -> Result<Value, ValueFault>
-    ensures { AnswersRead result (draft_of place.Value Shape.Untyped) tokens.old tokens.new }
+    ensures { AnswersRead result (draft_of Place.Value Shape.Untyped) tokens.old tokens.new }
 {
     read(ValueDraft::new(alloc, Shape::Untyped), tokens)
 }
@@ -24,14 +26,14 @@ pub fn read_shaped(
     shape: Shape,
     tokens: &mut Tokens<'_>,
 ) -> Result<Value, ValueFault>
-    ensures { AnswersRead result (draft_of place.Value shape) tokens.old tokens.new }
+    ensures { AnswersRead result (draft_of Place.Value shape) tokens.old tokens.new }
 {
     read(ValueDraft::new(alloc, shape), tokens)
 }
 
 /// Reads a dictionary. After a refusal the tokens stand at the one that was refused.
 pub fn read_dict(alloc: Global, tokens: &mut Tokens<'_>) -> Result<Value, ValueFault>
-    ensures { AnswersRead result (draft_of place.Dictionary Shape.Dictionary) tokens.old tokens.new }
+    ensures { AnswersRead result (draft_of Place.Dictionary Shape.Dictionary) tokens.old tokens.new }
 {
     read(ValueDraft::dictionary(alloc), tokens)
 }
@@ -70,17 +72,22 @@ fn step(draft: &mut ValueDraft, tokens: &mut Tokens<'_>) -> Result<bool, ValueFa
             kind: RefusalKind::Syntax,
             at: tokens.source_len(),
         }),
-        Err(fault) => Err(fault_of(fault)),
+        Err(fault) => Err(fault_of(fault, draft.place)),
     }
 }
 
-// Why there is no further token.
-fn fault_of(fault: LexFault) -> ValueFault
-    ensures { result ≡ ValueFault.Refused (kind_of_fault fault) (place_of_fault fault) }
+// Why there is no further token, where a draft has reached this place. A number that is too long is `Syntax` where no number
+// may stand.
+fn fault_of(fault: LexFault, place: Place) -> ValueFault
+    ensures { result ≡ ValueFault.Refused (kind_of_fault fault place) (place_of_fault fault) }
 {
     match fault {
         LexFault::NumberTooLong { at } => ValueFault::Refused {
-            kind: RefusalKind::NumberTooLong,
+            kind: if awaits_value(place) {
+                RefusalKind::NumberTooLong
+            } else {
+                RefusalKind::Syntax
+            },
             at,
         },
         LexFault::NotUtf8 { at } => ValueFault::Refused {

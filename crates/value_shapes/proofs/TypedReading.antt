@@ -166,12 +166,12 @@ value_good : (t : TypeName) (p : Place) (l : Level) (outer : List Level) → Goo
 value_good t p l outer (ongoing _ _ _ is below) complete = absurd (no_open p is complete)
 value_good t _ l outer (finished _ _ v is fits) complete = subst (λ x. conforms (value_of_last (last x)) t ≡ true) (sym is) fits
 
-no_value : (f : Option LexFault) (end : ℕ) (v : Value) (left : Lexing) → no_more f end ≡ got v left → ⊥
-no_value None end v left h = cc
-no_value (Some f) end v left h = cc
+no_value : (f : Option LexFault) (end : ℕ) (p : Place) (v : Value) (left : Lexing) → no_more f end p ≡ got v left → ⊥
+no_value None end p v left h = cc
+no_value (Some f) end p v left h = cc
 
 pub read_good : (ws : List Word) (f : Option LexFault) (end : ℕ) (t : TypeName) (d : ValueDraft) (v : Value) (left : Lexing) → IsGood t d → reads ws f end d ≡ got v left → conforms v t ≡ true
-read_good [] f end t d v left good h = absurd (no_value f end v left h)
+read_good [] f end t d v left good h = absurd (no_value f end d.place v left h)
 read_good (w ∷ ws) f end t d v left good h = acted (value_act w.kind w.text d) refl h (λ next g k. read_good ws f end t next v left g k)
   where
     complete : (next : ValueDraft) (b : Bool) → is_complete next ≡ b → IsGood t next → (if b then got (value_of next) (lexing_of ws f) else reads ws f end next) ≡ got v left

@@ -1,6 +1,6 @@
 -- The draft of a value goes with the grammar.
 use Rattle.std.proofs.Common.{◌≡◌, ◌∙◌, ℕ, ◌==◌, nat_le, Bool, true, false, not, ◌&&◌, ◌||◌, List, [], ◌∷◌, ◌++◌, append_assoc, length, Option, Some, None, Ok, Err, ap, sym, refl, subst, inl, inr}
-use Rattle.std.specs.Prelude.{if◌then◌else◌, ◌⊎◌, codes}
+use Rattle.std.specs.Prelude.{if◌then◌else◌, ◌↔◌, ◌⊎◌, codes}
 use Rattle.std.specs.List.{list_all}
 use Rattle.std.specs.Cmp.Lexicographic.{pointwise, bytes_decides}
 use Rattle.plain_data.specs.Ends.{last, front, last-push, front-push}
@@ -26,6 +26,7 @@ use Rattle.usda_lexer.specs.declared.token.TokenKind.TheVariants as form
 use Rattle.usda_values.specs.Drafts.{Acted, value_act, act_at, act_value, act_entry, act_key, put_act, given, give, behind_value, is_full, is_lacking, is_statement, is_complete, is_complete_at, open_members, open_dict, deeper, close_act, go_out, wrap_as, new_level, type_act, typed_entry, find_element, key_act}
 use Rattle.usda_values.specs.Entries.{has_key}
 use Rattle.usda_values.specs.PathTexts.{is_path_text}
+use Rattle.usda_values.specs.Reads.{kind_of_fault}
 use Rattle.usda_values.specs.Scalars.{Taken, token_value}
 use Rattle.usda_values.specs.Shapes.{take_value, Members, tuple_members, array_members, takes_dictionary}
 use Rattle.usda_values.specs.declared.draft.ValueDraft.{ValueDraft}
@@ -40,7 +41,7 @@ use Rattle.usda_lexer.specs.declared.token.LexFault.{LexFault}
 use Rattle.usda_lexer.specs.declared.token.LexFault.TheVariants as lex_fault
 use Rattle.usda_words.specs.Words.{Word, kind_of, words_behind, if_joined, is_dot, behind, at_start}
 use Rattle.usda_words.specs.declared.word.Before.{Before}
-use Rattle.value_texts.specs.Following.{awaited, awaited_at, awaited_behind, awaited_outside, awaited_entry, is_formed, is_place_of, is_inner, are_levels, GoesWith, IsOfToken, AreOfTokens, AreFollowing}
+use Rattle.value_texts.specs.Following.{awaited, awaited_at, awaited_behind, awaited_outside, awaited_entry, is_formed, is_place_of, is_inner, are_levels, IsNoPath, GoesWith, IsOfToken, AreOfTokens, AreFollowing}
 use Rattle.value_texts.proofs.NumberParts.{both}
 use Rattle.value_texts.proofs.LevelsFollow.{outside_push, levels_push, levels_pop, Pushed, stands_in, draft, formed, give_bracket, behind_goes}
 use Rattle.value_texts.proofs.PlainTakes.{Plain, plain_value, Said, said}
@@ -388,6 +389,32 @@ pub no_path : (d : ValueDraft) (text : List ℕ) → is_path_text (path_text tex
 unfolding value_act
 no_path d text h = no_path_at d.place d.level.bracket d.level d.outer text h
 
+-- ---- a number that is too long
+
+-- where a value stands no number is refused for syntax
+number_stands : (d : ValueDraft) (text : List ℕ) (t : Taken) → Said form.Number text t → put_act t d ≡ Err Syntax → ⊥
+number_stands d text (Err k) s h = let e : k ≡ Syntax = cc in let p : IsNoPath form.Number text = s e in cc p.0
+number_stands d text (Ok v) s h = by_room (is_full d.level.room) (take_value d.level.item (is_statement d.level.bracket) v) (plain_value d.level.item (is_statement d.level.bracket) v) h
+  where
+    by_room : (t : Bool) (r : Taken) → Plain r → (if t then Err ValueShape else given r d) ≡ Err Syntax → ⊥
+    by_room true r p g = cc
+    by_room false (Err k) p g = p (let e : k ≡ Syntax = cc in e)
+    by_room false (Ok w) p g = cc
+
+number_at : (p : Place) (b : Bracket) (l : Level) (outer : List Level) (text : List ℕ) (at : ℕ)
+    → (kind_of_fault (lex_fault.NumberTooLong at) p ≡ Syntax) ↔ (act_at p form.Number text (within p b l outer) ≡ Err Syntax)
+number_at place.Value b l outer text at = (λ h. absurd cc, λ h. absurd (number_stands (within place.Value b l outer) text (token_value form.Number text) (said form.Number text refl) h))
+number_at place.ValueOrEnd bracket.Statement l outer text at =
+    (λ h. absurd cc, λ h. absurd (number_stands (within place.ValueOrEnd bracket.Statement l outer) text (token_value form.Number text) (said form.Number text refl) h))
+number_at place.ValueOrEnd b l outer text at = (λ h. absurd cc, λ h. absurd (number_stands (within place.ValueOrEnd b l outer) text (token_value form.Number text) (said form.Number text refl) h))
+number_at place.BehindMember bracket.Statement l outer text at = (λ h. refl, λ h. refl)
+number_at place.BehindMember b l outer text at = (λ h. refl, λ h. refl)
+number_at _ b l outer text at = (λ h. refl, λ h. refl)
+
+too_long : (d : ValueDraft) (text : List ℕ) (at : ℕ) → (kind_of_fault (lex_fault.NumberTooLong at) d.place ≡ Syntax) ↔ (value_act form.Number text d ≡ Err Syntax)
+unfolding value_act
+too_long d text at = number_at d.place d.level.bracket d.level d.outer text at
+
 -- ---- the words of a text
 
 joined : (k : TokenKind) (b : Bool) → (if_joined b k ≡ k) ⊎ (if_joined b k ≡ kind.Fault)
@@ -410,5 +437,6 @@ followed = record {
   taken = taken;
   refused = refused;
   no_path = no_path;
+  too_long = too_long;
   words = λ text. are_of_tokens at_start (tokens_of text).words (tokens_of text).fault;
 }

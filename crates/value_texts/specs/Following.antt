@@ -1,5 +1,5 @@
 -- What the grammar awaits of a value that is being read, and that its draft goes with the grammar.
-use Rattle.std.specs.Prelude.{◌≡◌, ◌⊎◌, ℕ, Bool, true, false, not, ◌&&◌, List, [], ◌∷◌, ◌++◌, Some, None, Ok, Err}
+use Rattle.std.specs.Prelude.{◌≡◌, ◌↔◌, ◌⊎◌, ℕ, Bool, true, false, not, ◌&&◌, List, [], ◌∷◌, ◌++◌, Some, None, Ok, Err}
 use Rattle.std.specs.List.{list_all}
 use Rattle.sdf_values.specs.declared.refusal.RefusalKind.TheVariants.{Syntax}
 use Rattle.usda_grammar.specs.Machine.{step}
@@ -7,10 +7,12 @@ use Rattle.usda_grammar.specs.declared.kinds.TokenKind.TheVariants as kind
 use Rattle.usda_grammar.specs.declared.symbols.Symbol.{Symbol}
 use Rattle.usda_grammar.specs.declared.symbols.Symbol.TheVariants as symbol
 use Rattle.usda_lexer.specs.Meanings.{path_text}
+use Rattle.usda_lexer.specs.declared.token.LexFault.TheVariants.{NumberTooLong}
 use Rattle.usda_lexer.specs.declared.token.TokenKind.{TokenKind as Form}
 use Rattle.usda_lexer.specs.declared.token.TokenKind.TheVariants as form
 use Rattle.usda_values.specs.Drafts.{Acted, draft_of, value_act, is_complete, is_statement}
 use Rattle.usda_values.specs.PathTexts.{is_path_text}
+use Rattle.usda_values.specs.Reads.{kind_of_fault}
 use Rattle.usda_values.specs.declared.draft.ValueDraft.{ValueDraft}
 use Rattle.usda_values.specs.declared.level.Bracket.{Bracket}
 use Rattle.usda_values.specs.declared.level.Bracket.TheVariants as bracket
@@ -131,5 +133,7 @@ pub record AreFollowing : Type 0 where
       → step (awaited d ++ below) (kind_of f text) ≡ None → value_act f text d ≡ Err Syntax
   -- a path that is none, wherever it stands
   pub no_path : (d : ValueDraft) (text : List ℕ) → is_path_text (path_text text) ≡ false → value_act form.Path text d ≡ Err Syntax
+  -- a number that is too long is refused for syntax exactly where any number is
+  pub too_long : (d : ValueDraft) (text : List ℕ) (at : ℕ) → (kind_of_fault (NumberTooLong at) d.place ≡ Syntax) ↔ (value_act form.Number text d ≡ Err Syntax)
   -- each word of a text is one of these
   pub words : (text : List ℕ) → AreOfTokens (words_of text)

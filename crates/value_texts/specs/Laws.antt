@@ -1,5 +1,5 @@
 -- What holds of the canonical texts of values.
-use Rattle.std.specs.Prelude.{◌≡◌, ℕ, ◌+◌, ◌≤◌, Bool, true, false, List, ◌++◌, length, Ok}
+use Rattle.std.specs.Prelude.{◌≡◌, ℕ, ◌+◌, ◌≤◌, true, false, List, ◌++◌, length, Ok}
 use Rattle.sdf_values.specs.Conforms.{conforms}
 use Rattle.sdf_values.specs.Print.{print}
 use Rattle.sdf_values.specs.declared.type_name.TypeName.{TypeName}
@@ -7,10 +7,9 @@ use Rattle.sdf_values.specs.declared.value.DictItem.{DictItem}
 use Rattle.sdf_values.specs.declared.value.Value.{Value}
 use Rattle.sdf_values.specs.declared.value.Value.TheVariants.{Dict}
 use Rattle.usda_lexer.specs.Words.{lexing_from, left}
-use Rattle.usda_values.specs.Drafts.{draft_of, give_act, is_full, is_statement}
+use Rattle.usda_values.specs.Drafts.{draft_of, give_act, awaits_value, is_full, is_statement}
 use Rattle.usda_values.specs.Reads.{got, reads, reads_left}
 use Rattle.usda_values.specs.declared.draft.ValueDraft.{ValueDraft}
-use Rattle.usda_values.specs.declared.level.Place.{Place}
 use Rattle.usda_values.specs.declared.level.Place.TheVariants as place
 use Rattle.usda_values.specs.declared.shape.Shape.{Shape}
 use Rattle.usda_values.specs.declared.shape.Shape.TheVariants.{Typed, Dictionary}
@@ -30,12 +29,6 @@ AreTokens = (v : Value) → is_writable v ≡ true → (indent : ℕ) → Cuts (
 -- and the value's words, behind any word but a `.`
 abbrev pub AreWords : Type 0
 AreWords = (v : Value) → is_writable v ≡ true → (indent at : ℕ) (before : Before) (rest : List ℕ) → before.is_dot ≡ false → may_follow rest ≡ true → IsWorded at before (print v indent) (words_of_value v) rest
-
--- a value may stand there
-abbrev pub awaits_value : Place → Bool
-awaits_value place.Value = true
-awaits_value place.ValueOrEnd = true
-awaits_value p = false
 
 -- a draft in which a value has to come, and the value that its tokens put there, which is no deeper than the levels that may still be
 -- opened

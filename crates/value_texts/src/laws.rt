@@ -65,7 +65,8 @@ pub fn examples_are_told()
 {}
 
 /// The draft of a value goes with the grammar: what it awaits are the symbols that the grammar has on its stack, and it
-/// answers `Syntax` to exactly the tokens that the grammar does not take there, but for a path that is none.
+/// answers `Syntax` to exactly the tokens that the grammar does not take there, but for a path that is none. A number that is
+/// too long is `Syntax` exactly where any number is.
 pub fn values_follow_the_grammar()
     ensures { AreFollowing }
 {}
