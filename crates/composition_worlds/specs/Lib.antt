@@ -1,5 +1,7 @@
 pub mod Listed
+pub mod Looks
 pub mod Replies
+pub mod Short
 pub mod World001
 pub mod World002
 pub mod World003
@@ -48,12 +50,19 @@ pub mod WorldAClassBelowItself
 pub mod WorldALayerBelowItself
 pub mod WorldAReferenceToItself
 pub mod WorldClassesAcrossAReference
+pub mod WorldDates
 pub mod WorldLocalClassOfAReference
+pub mod WorldMetadata
+pub mod WorldPayloads
 pub mod WorldPayloadsThatMeet
+pub mod WorldProperties
 pub mod WorldReferenceToAChild
 pub mod WorldReferencesThatMeet
+pub mod WorldRefusedArcs
 pub mod WorldSamplesThroughAnOffset
 pub mod WorldSelectionInAVariant
 pub mod WorldSelectionsOfAnAncestor
+pub mod WorldSession
 pub mod WorldSpecializesAcrossAReference
+pub mod WorldSpecifiers
 pub mod WorldTargetsThroughAReference

@@ -1,7 +1,11 @@
 //! Small worlds of layers, and what composition makes of them, as closed equations.
 #![tactic(auto)]
 
+pub mod dates;
+pub mod fields;
+pub mod loading;
 pub mod reads;
+pub mod refused_arcs;
 pub mod world_001;
 pub mod world_002;
 pub mod world_003;

@@ -2,7 +2,10 @@
 ghost use Rattle.std.specs.Prelude.{◌≡◌, codes, true, [], ◌∷◌};
 ghost use Rattle.sdf_paths.specs.declared.element.Element.TheVariants.{Prim, Property, Selection};
 ghost use Rattle.composition.specs.Paths.{limits};
+ghost use Rattle.composition.specs.Faults.{overgrown};
 ghost use Rattle.composition.specs.Keys.{reads, same_keys, load, head, arcs, body};
+ghost use Rattle.composition.specs.Views.{view, empty_view};
+ghost use Rattle.composition_worlds.specs.Short.{with_room_for};
 ghost use Rattle.composition_worlds.specs.WorldClassesAcrossAReference.{world as across_a_reference};
 
 /// A prim that refers to a prim with a class: the rules and arcs at its levels, the class looked up in both stacks, the heads of
@@ -16,6 +19,20 @@ pub fn a_prim_reads_its_classes_in_both_stacks()
         ∷ head (codes "root.usda") ∷ head (codes "m.usda")
         ∷ body (codes "root.usda") (Prim (codes "World") ∷ Prim (codes "char") ∷ []) ∷ body (codes "root.usda") (Prim (codes "_class") ∷ [])
         ∷ body (codes "m.usda") (Prim (codes "Model") ∷ []) ∷ body (codes "m.usda") (Prim (codes "_class") ∷ []) ∷ []) ≡ true }
+{}
+
+/// Where a listing has room for three nodes, that prim is overgrown, an `over` with this one fault: it reads what was visited up to
+/// then and no bodies. With room for its four nodes it reads all.
+#[tactic(auto, unfolding(composition::specs::Compose::meaning, composition::specs::Visits::visits))]
+pub fn an_overgrown_prim_reads_no_bodies()
+    ensures is_over { view (with_room_for 3) across_a_reference (Prim (codes "World") ∷ Prim (codes "char") ∷ []) ≡ record empty_view { faults = overgrown ∷ [] } }
+    ensures no_bodies { same_keys (reads (with_room_for 3) across_a_reference (Prim (codes "World") ∷ Prim (codes "char") ∷ []))
+        (load (Prim (codes "World") ∷ Prim (codes "char") ∷ []) ∷ load (Prim (codes "World") ∷ [])
+        ∷ arcs (codes "root.usda") (Prim (codes "World") ∷ Prim (codes "char") ∷ []) ∷ arcs (codes "root.usda") (Prim (codes "World") ∷ [])
+        ∷ arcs (codes "m.usda") (Prim (codes "Model") ∷ []) ∷ arcs (codes "m.usda") (Prim (codes "_class") ∷ [])
+        ∷ head (codes "root.usda") ∷ head (codes "m.usda") ∷ []) ≡ true }
+    ensures with_room { reads (with_room_for 4) across_a_reference (Prim (codes "World") ∷ Prim (codes "char") ∷ [])
+        ≡ reads limits across_a_reference (Prim (codes "World") ∷ Prim (codes "char") ∷ []) }
 {}
 
 /// A prim without arcs reads its own specs alone.
