@@ -1,4 +1,4 @@
-ghost use Rattle.std.specs.Prelude.{◌≡◌, ◌↔◌, ◌<◌, ◌+◌, ◌^◌, [], cond, length, slice_get, is_some, IfOk, IfErr, OnOk, OnErr, IsTrue};
+ghost use Rattle.std.specs.Prelude.{◌≡◌, ◌↔◌, ◌<◌, ◌+◌, ◌^◌, [], cond, length, is_some, IfOk, IfErr, OnOk, OnErr, IsTrue};
 ghost use Rattle.std.specs.Option.{option_copied, option_map};
 ghost use Rattle.std.specs.Map.Iter.{ShowsInOrder, deref_pair};
 ghost use Rattle.spec_tables.specs.Tables.{IsTable, at_key, with_key, without_key, with_value, entries_from};
@@ -83,14 +83,6 @@ impl<K: Ord, V> SharedTable<K, V> {
         ensures { result ≡ is_some (at_key K.cmp key.now self.now) }
     {
         self.get(key).is_some()
-    }
-
-    /// The entry at this place, counted from 0; nothing past the end. It walks to the place: `iter` goes over all entries.
-    pub fn at(&self, i: usize) -> Option<(&K, &V)>
-        ensures entry { option_map (λ e. (e.0.now, e.1.now)) result ≡ slice_get self.now i }
-        ensures order { IsTable K.cmp self.now }
-    {
-        self.iter().nth(i)
     }
 
     /// The entries in the order of keys. It takes no memory, and goes from each to the next by a search.
