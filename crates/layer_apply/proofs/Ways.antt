@@ -8,6 +8,7 @@ use Rattle.layer_edit.specs.Outcomes.{Made, given, Does}
 use Rattle.layer_edit.specs.declared.fault.EditFault.TheVariants.{NoLayer}
 use Rattle.layer_edit.specs.declared.fault.OpRefused.{OpRefused}
 use Rattle.layer_edit.specs.declared.fault.OpRefused.TheVariants.{Fault, NoMemory}
+use Rattle.layer_apply.specs.Answers.{DoesOne}
 use Rattle.layer_apply.specs.Edits.{put_back, in_layer}
 
 module _ (name : List ℕ) (change : LayerTable → Made LayerTable) (w : WorldData) where
@@ -19,8 +20,8 @@ module _ (name : List ℕ) (change : LayerTable → Made LayerTable) (w : WorldD
   unfolding in_layer given
   on_it layer h = ap (λ (l : Option LayerTable). given NoLayer l (λ layer. put_back name (change layer) w)) (sym h)
 
-  pub refused : (layer after : LayerTable) (mid : WorldData) (why : OpRefused) → Some layer ≡ present_layer (held_at w name) → Does (Err why) after (change layer) → Does (Err why) mid (in_layer name change w)
-  refused layer after mid (Fault fault) h made = on_it layer h ∙ ap (λ (m : Made LayerTable). put_back name m w) made
+  pub refused : (layer after : LayerTable) (mid : WorldData) (why : OpRefused) → Some layer ≡ present_layer (held_at w name) → Does (Err why) layer after (change layer) → DoesOne (Err why) mid (in_layer name change w)
+  refused layer after mid (Fault fault) h made = on_it layer h ∙ ap (λ (m : Made LayerTable). put_back name m w) made.0
   refused layer after mid NoMemory h made = tt
 
   pub done : (layer after : LayerTable) (mid new : WorldData) → Some layer ≡ present_layer (held_at w name) → change layer ≡ Ok after

@@ -1,8 +1,7 @@
 // Operations one after the other.
 ghost use Rattle.std.specs.Prelude.{◌≡◌, Ok, Err, IfOk, IfErr};
-ghost use Rattle.layer_edit.specs.Outcomes.{Does};
 ghost use Rattle.layer_apply.specs.Edits.{edited, edit};
-ghost use Rattle.layer_apply.specs.Answers.{DoesAll, IfOp};
+ghost use Rattle.layer_apply.specs.Answers.{DoesOne, DoesAll, IfOp};
 
 use crate::layers::{edit_in_layer, layer_of};
 use crate::worlds::edit_world;
@@ -12,7 +11,7 @@ use std::alloc::Global;
 
 /// Carries out one operation.
 fn edit_by(alloc: Global, world: &mut World, op: &Op) -> Result<(), OpRefused>
-    ensures { Does result world.new (edited op.now world.old) }
+    ensures { DoesOne result world.new (edited op.now world.old) }
 {
     match layer_of(op) {
         Some(name) => edit_in_layer(alloc, world, name, op),

@@ -4,6 +4,7 @@ ghost use Rattle.std.specs.Option.{option_copied};
 ghost use Rattle.layer_edit.specs.Outcomes.{Does};
 ghost use Rattle.layer_apply.specs.Edits.{in_layer};
 ghost use Rattle.layer_apply.specs.Parts.{layer_of, layer_edited};
+ghost use Rattle.layer_apply.specs.Answers.{DoesOne};
 
 use asset_names::AssetId;
 use layer_edit::{
@@ -47,7 +48,7 @@ pub fn layer_of(op: &Op) -> Option<&AssetId>
 
 /// Carries out an operation on its layer; any other leaves the layer.
 fn edit_layer(alloc: Global, layer: &mut Layer, op: &Op) -> Result<(), OpRefused>
-    ensures { Does result layer.new (layer_edited op.now layer.old) }
+    ensures { Does result layer.old layer.new (layer_edited op.now layer.old) }
 {
     match op {
         Op::AddPrim {
@@ -117,7 +118,7 @@ pub fn edit_in_layer(
     name: &AssetId,
     op: &Op,
 ) -> Result<(), OpRefused>
-    ensures { Does result world.new (in_layer name.now (layer_edited op.now) world.old) }
+    ensures { DoesOne result world.new (in_layer name.now (layer_edited op.now) world.old) }
 {
     match world.take_layer(name)? {
         Some(layer) => {

@@ -1,9 +1,10 @@
 // Operations on whole layers and on load rules.
 ghost use Rattle.std.specs.Prelude.{◌≡◌, Some, true};
 ghost use Rattle.std.specs.Option.{option_copied};
-ghost use Rattle.layer_edit.specs.Outcomes.{Does, Gives};
+ghost use Rattle.layer_edit.specs.Outcomes.{Gives};
 ghost use Rattle.layer_apply.specs.Edits.{is_present, is_over, layer_or_fault, new_layer, layer_added, is_named, is_root_name, layer_put, rule_set};
 ghost use Rattle.layer_apply.specs.Parts.{world_edited};
+ghost use Rattle.layer_apply.specs.Answers.{DoesOne};
 ghost use Rattle.usda_reader.specs.Reading.{read};
 
 use asset_names::AssetId;
@@ -62,7 +63,7 @@ fn add_layer(
     name: &AssetId,
     text: &Option<Text>,
 ) -> Result<(), OpRefused>
-    ensures { Does result world.new (layer_added name.now text.now world.old) }
+    ensures { DoesOne result world.new (layer_added name.now text.now world.old) }
 {
     if is_present(world.held(name)) {
         return Err(OpRefused::Fault(EditFault::LayerThere));
@@ -93,7 +94,7 @@ fn is_root_name(world: &World, name: &AssetId) -> bool
 /// Puts what stands at a name.
 #[tactic(auto, unfolding(crate::specs::Edits::layer_put, layer_edit::specs::Outcomes::passing))]
 fn put_layer(world: &mut World, name: &AssetId, held: &Held) -> Result<(), OpRefused>
-    ensures { Does result world.new (layer_put name.now held.now world.old) }
+    ensures { DoesOne result world.new (layer_put name.now held.now world.old) }
 {
     if is_root_name(world, name) && !is_present(held) {
         return Err(OpRefused::Fault(EditFault::RootLayer));
@@ -108,7 +109,7 @@ fn put_layer(world: &mut World, name: &AssetId, held: &Held) -> Result<(), OpRef
 /// Puts a load rule on a prim of the stage, or takes it away.
 #[tactic(auto, unfolding(crate::specs::Edits::rule_set, layer_edit::specs::Outcomes::passing))]
 fn set_rule(world: &mut World, path: &Path, rule: Option<bool>) -> Result<(), OpRefused>
-    ensures { Does result world.new (rule_set path.now rule world.old) }
+    ensures { DoesOne result world.new (rule_set path.now rule world.old) }
 {
     if !is_stage_prim(path) {
         return Err(OpRefused::Fault(EditFault::WrongPath));
@@ -119,7 +120,7 @@ fn set_rule(world: &mut World, path: &Path, rule: Option<bool>) -> Result<(), Op
 
 /// Carries out an operation on a world; one on a layer that has to be present leaves it.
 pub fn edit_world(alloc: Global, world: &mut World, op: &Op) -> Result<(), OpRefused>
-    ensures { Does result world.new (world_edited op.now world.old) }
+    ensures { DoesOne result world.new (world_edited op.now world.old) }
 {
     match op {
         Op::NewLayer { layer, text } => add_layer(alloc, world, layer, text),

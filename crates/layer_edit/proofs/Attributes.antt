@@ -38,9 +38,9 @@ module _ {A : Type 0} (make : TypeName → Made A) where
   attribute_missed path layer fault h = missed (first_fault ((not (is_property_path path), WrongPath) ∷ [])) (type_of (property_in path layer)) fault h
 
 module _ {A : Type 0} (make : TypeName → Made A) where
-  pub does_missed : (e : OpRefused) (path : List Element) (layer : LayerTable) (after : A) → Gives {A = TypeName} (Err e) (at_attribute path layer (λ t. Ok t)) → Does (Err e) after (at_attribute path layer make)
-  does_missed (refused.Fault fault) path layer after h = attribute_missed make path layer fault h
-  does_missed refused.NoMemory path layer after h = tt
+  pub does_missed : (e : OpRefused) (path : List Element) (layer : LayerTable) (kept : A) → Gives {A = TypeName} (Err e) (at_attribute path layer (λ t. Ok t)) → Does (Err e) kept kept (at_attribute path layer make)
+  does_missed (refused.Fault fault) path layer kept h = (attribute_missed make path layer fault h, refl)
+  does_missed refused.NoMemory path layer kept h = tt
 
-  pub does_found : (r : Result (Unit {0}) OpRefused) (path : List Element) (layer : LayerTable) (after : A) (ty : TypeName) → at_attribute path layer (λ t. Ok t) ≡ Ok ty → Does r after (make ty) → Does r after (at_attribute path layer make)
-  does_found r path layer after ty h does = subst (λ (m : Made A). Does r after m) (sym (attribute_found make path layer ty h)) does
+  pub does_found : (r : Result (Unit {0}) OpRefused) (path : List Element) (layer : LayerTable) (old after : A) (ty : TypeName) → at_attribute path layer (λ t. Ok t) ≡ Ok ty → Does r old after (make ty) → Does r old after (at_attribute path layer make)
+  does_found r path layer old after ty h does = subst (λ (m : Made A). Does r old after m) (sym (attribute_found make path layer ty h)) does

@@ -35,8 +35,8 @@ Gives (Ok a) made = made ≡ Ok a
 Gives (Err (Fault fault)) made = made ≡ Err fault
 Gives (Err NoMemory) made = Unit {0}
 
--- a call on a layer: it is now what is made, or the fault is told, unless memory ran out
-abbrev pub Does : {A : Type 0} → Result (Unit {0}) OpRefused → A → Made A → Type 0
-Does (Ok u) after made = made ≡ Ok after
-Does (Err (Fault fault)) after made = made ≡ Err fault
-Does (Err NoMemory) after made = Unit {0}
+-- a call on a layer: it is now what is made, or the fault is told and it is as before; nothing is said of it where memory ran out
+abbrev pub Does : {A : Type 0} → Result (Unit {0}) OpRefused → A → A → Made A → Type 0
+Does (Ok u) old after made = made ≡ Ok after
+Does (Err (Fault fault)) old after made = (made ≡ Err fault) × (after ≡ old)
+Does (Err NoMemory) old after made = Unit {0}

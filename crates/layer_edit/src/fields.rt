@@ -1,5 +1,5 @@
 // Lists of fields, selections, orders and sublayers.
-ghost use Rattle.std.specs.Prelude.{◌≡◌, OnOk};
+ghost use Rattle.std.specs.Prelude.{◌≡◌, OnOk, OnErr};
 ghost use Rattle.std.specs.Option.{option_copied};
 ghost use Rattle.layer_edit.specs.Outcomes.{Does};
 ghost use Rattle.layer_edit.specs.Places.{property_in};
@@ -29,7 +29,7 @@ fn set_paths(
     edit: ListEdit,
     items: &Items<Path>,
 ) -> Result<(), OpRefused>
-    ensures { Does result layer.new (paths_set field edit items.now path.now layer.old) }
+    ensures { Does result layer.old layer.new (paths_set field edit items.now path.now layer.old) }
 {
     if !is_spec_path(path) {
         return Err(OpRefused::Fault(EditFault::WrongPath));
@@ -55,7 +55,7 @@ fn set_references(
     edit: ListEdit,
     written: &Items<WrittenReference>,
 ) -> Result<(), OpRefused>
-    ensures { Does result layer.new (references_set name.now field edit written.now path.now layer.old) }
+    ensures { Does result layer.old layer.new (references_set name.now field edit written.now path.now layer.old) }
 {
     if !is_spec_path(path) {
         return Err(OpRefused::Fault(EditFault::WrongPath));
@@ -83,7 +83,7 @@ fn set_texts(
     edit: ListEdit,
     items: &Items<Text>,
 ) -> Result<(), OpRefused>
-    ensures { Does result layer.new (texts_set field edit items.now path.now layer.old) }
+    ensures { Does result layer.old layer.new (texts_set field edit items.now path.now layer.old) }
 {
     if !is_spec_path(path) {
         return Err(OpRefused::Fault(EditFault::WrongPath));
@@ -124,7 +124,7 @@ fn set_targets(
     edit: ListEdit,
     items: &Items<Path>,
 ) -> Result<(), OpRefused>
-    ensures { Does result layer.new (targets_set edit items.now path.now layer.old) }
+    ensures { Does result layer.old layer.new (targets_set edit items.now path.now layer.old) }
 {
     if !is_property_path(path) {
         return Err(OpRefused::Fault(EditFault::WrongPath));
@@ -146,7 +146,7 @@ fn set_connections(
     edit: ListEdit,
     items: &Items<Path>,
 ) -> Result<(), OpRefused>
-    ensures { Does result layer.new (connections_set edit items.now path.now layer.old) }
+    ensures { Does result layer.old layer.new (connections_set edit items.now path.now layer.old) }
 {
     if !is_property_path(path) {
         return Err(OpRefused::Fault(EditFault::WrongPath));
@@ -164,7 +164,7 @@ fn set_connections(
 ///
 /// # Errors
 ///
-/// `WrongPath`; `NoSpec`; `OffsetRange` of any item; `BadArc` of any item.
+/// `WrongPath`; `NoSpec`; `OffsetRange` of any item; `BadArc` of any item. The layer is then as before, unless memory ran out.
 pub fn set_list(
     alloc: Global,
     name: &AssetId,
@@ -173,7 +173,7 @@ pub fn set_list(
     edit: ListEdit,
     list: &FieldList,
 ) -> Result<(), OpRefused>
-    ensures { Does result layer.new (list_set name.now path.now edit list.now layer.old) }
+    ensures { Does result layer.old layer.new (list_set name.now path.now edit list.now layer.old) }
 {
     match list {
         FieldList::Paths { field, items } => set_paths(alloc, layer, path, *field, edit, items),
@@ -190,7 +190,7 @@ pub fn set_list(
 ///
 /// # Errors
 ///
-/// `WrongPath`; `NoSpec`.
+/// `WrongPath`; `NoSpec`. The layer is then as before, unless memory ran out.
 #[tactic(auto, unfolding(crate::specs::Fields::selection_set, crate::specs::Outcomes::passing))]
 pub fn set_selection(
     alloc: Global,
@@ -199,7 +199,7 @@ pub fn set_selection(
     set: &Text,
     variant: Option<Text>,
 ) -> Result<(), OpRefused>
-    ensures { Does result layer.new (selection_set path.now set.now variant layer.old) }
+    ensures { Does result layer.old layer.new (selection_set path.now set.now variant layer.old) }
 {
     if !is_spec_path(path) {
         return Err(OpRefused::Fault(EditFault::WrongPath));
@@ -249,7 +249,7 @@ fn reorder(
 ///
 /// # Errors
 ///
-/// `WrongPath`; `NoSpec`.
+/// `WrongPath`; `NoSpec`. The layer is then as before, unless memory ran out.
 #[tactic(auto, unfolding(crate::specs::Fields::order_set, crate::specs::Outcomes::passing))]
 pub fn set_order(
     alloc: Global,
@@ -258,7 +258,7 @@ pub fn set_order(
     word: OrderWord,
     names: &Items<Text>,
 ) -> Result<(), OpRefused>
-    ensures { Does result layer.new (order_set path.now word names.now layer.old) }
+    ensures { Does result layer.old layer.new (order_set path.now word names.now layer.old) }
 {
     if !takes_order(word, path) {
         return Err(OpRefused::Fault(EditFault::WrongPath));
@@ -282,14 +282,15 @@ fn put_sublayers(alloc: Global, layer: &mut Layer, sublayers: Items<SubLayer>)
 ///
 /// # Errors
 ///
-/// `OffsetRange` of any sublayer.
+/// `OffsetRange` of any sublayer. The layer is then as before, also where memory ran out.
 #[tactic(auto, unfolding(crate::specs::Fields::sublayers_set, crate::specs::Outcomes::given))]
 pub fn set_sublayers(
     alloc: Global,
     layer: &mut Layer,
     written: &Items<WrittenSubLayer>,
 ) -> Result<(), OpRefused>
-    ensures { Does result layer.new (sublayers_set written.now layer.old) }
+    ensures made { Does result layer.old layer.new (sublayers_set written.now layer.old) }
+    ensures kept { OnErr result (layer.new ≡ layer.old) }
 {
     match sublayers_of(alloc, written.as_slice())? {
         Some(sublayers) => {

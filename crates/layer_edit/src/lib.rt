@@ -1,4 +1,8 @@
 //! Edits of worlds: what a batch of operations is, and the operations on one layer.
+//!
+//! Each operation judges all its faults before it changes anything: one that is refused with a fault leaves the layer as it was. Where
+//! memory runs out, `set_sublayers` leaves the layer so too. Any other may by then have taken a spec out to change it, and nothing is
+//! said of the layer: its owner gives it up, as `layer_apply` does with the copy of the world that a batch is tried on.
 #![tactic(auto)]
 
 mod batch;

@@ -87,7 +87,7 @@ fn give_meta(
 ///
 /// # Errors
 ///
-/// `NoSpec`; `ValueShape` where the key does not take the value.
+/// `NoSpec`; `ValueShape` where the key does not take the value. The layer is then as before, unless memory ran out.
 #[tactic(auto, unfolding(crate::specs::Metadata::meta_set, crate::specs::Outcomes::passing, crate::specs::Outcomes::given))]
 pub fn set_meta(
     alloc: Global,
@@ -96,7 +96,7 @@ pub fn set_meta(
     key: &Text,
     value: &Value,
 ) -> Result<(), OpRefused>
-    ensures { Does result layer.new (meta_set path.now key.now value.now layer.old) }
+    ensures { Does result layer.old layer.new (meta_set path.now key.now value.now layer.old) }
 {
     if !has_spec(alloc, layer, path)? {
         return Err(OpRefused::Fault(EditFault::NoSpec));
@@ -115,7 +115,7 @@ pub fn set_meta(
 ///
 /// # Errors
 ///
-/// `NoSpec`.
+/// `NoSpec`. The layer is then as before, unless memory ran out.
 #[tactic(auto, unfolding(crate::specs::Metadata::meta_cleared, crate::specs::Outcomes::passing))]
 pub fn clear_meta(
     alloc: Global,
@@ -123,7 +123,7 @@ pub fn clear_meta(
     path: &Path,
     key: &Text,
 ) -> Result<(), OpRefused>
-    ensures { Does result layer.new (meta_cleared path.now key.now layer.old) }
+    ensures { Does result layer.old layer.new (meta_cleared path.now key.now layer.old) }
 {
     if !has_spec(alloc, layer, path)? {
         return Err(OpRefused::Fault(EditFault::NoSpec));

@@ -105,7 +105,7 @@ fn put_new_spec(alloc: Global, layer: &mut Layer, path: &Path, spec: Spec) -> Re
     requires prim { is_property path.now ≡ false }
     requires below { path.now ≢ [] }
     requires owned { has_parent path.now layer.old.specs ≡ true }
-    ensures { Does result layer.new (Ok (with_new_spec path.now spec layer.old)) }
+    ensures { Does result layer.old layer.new (Ok (with_new_spec path.now spec layer.old)) }
 {
     let owner = above(alloc, path)?;
     match layer.put(path, spec) {
@@ -130,6 +130,7 @@ fn prim_spec(alloc: Global, specifier: Specifier, type_name: Option<Text>) -> Sp
 /// # Errors
 ///
 /// `WrongPath`; `NoParent` where its owner has no spec; `SpecThere` where the path has one.
+/// The layer is then as before, unless memory ran out.
 #[tactic(auto, unfolding(crate::specs::Prims::prim_added, crate::specs::Outcomes::passing))]
 pub fn add_prim(
     alloc: Global,
@@ -138,7 +139,7 @@ pub fn add_prim(
     specifier: Specifier,
     type_name: &Option<Text>,
 ) -> Result<(), OpRefused>
-    ensures { Does result layer.new (prim_added path.now specifier type_name.now layer.old) }
+    ensures { Does result layer.old layer.new (prim_added path.now specifier type_name.now layer.old) }
 {
     if !is_prim_path(path) {
         return Err(OpRefused::Fault(EditFault::WrongPath));
@@ -159,9 +160,10 @@ pub fn add_prim(
 /// # Errors
 ///
 /// `WrongPath`; `NoParent` where its owner has no spec; `SpecThere` where the path has one.
+/// The layer is then as before, unless memory ran out.
 #[tactic(auto, unfolding(crate::specs::Prims::variant_added, crate::specs::Outcomes::passing))]
 pub fn add_variant(alloc: Global, layer: &mut Layer, path: &Path) -> Result<(), OpRefused>
-    ensures { Does result layer.new (variant_added path.now layer.old) }
+    ensures { Does result layer.old layer.new (variant_added path.now layer.old) }
 {
     if !is_variant_path(path) {
         return Err(OpRefused::Fault(EditFault::WrongPath));
@@ -208,10 +210,10 @@ fn remove_part(alloc: Global, layer: &mut Layer, path: &Path) -> Result<(), Allo
 ///
 /// # Errors
 ///
-/// `WrongPath` where the path is `/`; `NoSpec` where nothing is there.
+/// `WrongPath` where the path is `/`; `NoSpec` where nothing is there. The layer is then as before, unless memory ran out.
 #[tactic(auto, unfolding(crate::specs::Prims::removed, crate::specs::Outcomes::passing))]
 pub fn remove(alloc: Global, layer: &mut Layer, path: &Path) -> Result<(), OpRefused>
-    ensures { Does result layer.new (removed path.now layer.old) }
+    ensures { Does result layer.old layer.new (removed path.now layer.old) }
 {
     if path.is_root() {
         return Err(OpRefused::Fault(EditFault::WrongPath));

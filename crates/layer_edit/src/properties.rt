@@ -90,6 +90,7 @@ fn put_relationship(
 /// # Errors
 ///
 /// `WrongPath`; `NoParent` where its owner has no spec; `SpecThere` where the path has a property; `NoSuchType` where there is no type.
+/// The layer is then as before, unless memory ran out.
 #[tactic(auto, unfolding(crate::specs::Properties::attribute_added, crate::specs::Outcomes::passing, crate::specs::Outcomes::given))]
 pub fn add_attribute(
     alloc: Global,
@@ -99,7 +100,7 @@ pub fn add_attribute(
     custom: bool,
     uniform: bool,
 ) -> Result<(), OpRefused>
-    ensures { Does result layer.new (attribute_added path.now ty custom uniform layer.old) }
+    ensures { Does result layer.old layer.new (attribute_added path.now ty custom uniform layer.old) }
 {
     if !is_property_path(path) {
         return Err(OpRefused::Fault(EditFault::WrongPath));
@@ -124,6 +125,7 @@ pub fn add_attribute(
 /// # Errors
 ///
 /// `WrongPath`; `NoParent` where its owner has no spec; `SpecThere` where the path has a property.
+/// The layer is then as before, unless memory ran out.
 #[tactic(auto, unfolding(crate::specs::Properties::relationship_added, crate::specs::Outcomes::passing))]
 pub fn add_relationship(
     alloc: Global,
@@ -131,7 +133,7 @@ pub fn add_relationship(
     path: &Path,
     custom: bool,
 ) -> Result<(), OpRefused>
-    ensures { Does result layer.new (relationship_added path.now custom layer.old) }
+    ensures { Does result layer.old layer.new (relationship_added path.now custom layer.old) }
 {
     if !is_property_path(path) {
         return Err(OpRefused::Fault(EditFault::WrongPath));
@@ -179,7 +181,7 @@ fn give_default(
     ty: TypeName,
     value: &Value,
 ) -> Result<(), OpRefused>
-    ensures { Does result layer.new (default_given path.now ty value.now layer.old) }
+    ensures { Does result layer.old layer.new (default_given path.now ty value.now layer.old) }
 {
     if !has_form(alloc, ty, value)? {
         return Err(OpRefused::Fault(EditFault::ValueShape));
@@ -199,14 +201,14 @@ fn give_default(
 /// # Errors
 ///
 /// `WrongPath`; `NoSpec` where no attribute is there; `ValueShape` where the type does not take the value; `TimeRange` where a time in
-/// it is out of range.
+/// it is out of range. The layer is then as before, unless memory ran out.
 pub fn set_default(
     alloc: Global,
     layer: &mut Layer,
     path: &Path,
     value: &Value,
 ) -> Result<(), OpRefused>
-    ensures { Does result layer.new (default_set path.now value.now layer.old) }
+    ensures { Does result layer.old layer.new (default_set path.now value.now layer.old) }
 {
     match attribute_type(alloc, layer, path) {
         Ok(ty) => give_default(alloc, layer, path, ty, value),
@@ -216,7 +218,7 @@ pub fn set_default(
 
 #[tactic(auto, unfolding(crate::specs::Properties::default_dropped))]
 fn drop_default(alloc: Global, layer: &mut Layer, path: &Path) -> Result<(), OpRefused>
-    ensures { Does result layer.new (default_dropped path.now layer.old) }
+    ensures { Does result layer.old layer.new (default_dropped path.now layer.old) }
 {
     let change = PropertyChange::Default { value: None };
     change_property_at(alloc, layer, path, change)?;
@@ -227,9 +229,9 @@ fn drop_default(alloc: Global, layer: &mut Layer, path: &Path) -> Result<(), OpR
 ///
 /// # Errors
 ///
-/// `WrongPath`; `NoSpec` where no attribute is there.
+/// `WrongPath`; `NoSpec` where no attribute is there. The layer is then as before, unless memory ran out.
 pub fn clear_default(alloc: Global, layer: &mut Layer, path: &Path) -> Result<(), OpRefused>
-    ensures { Does result layer.new (default_cleared path.now layer.old) }
+    ensures { Does result layer.old layer.new (default_cleared path.now layer.old) }
 {
     match attribute_type(alloc, layer, path) {
         Ok(_ty) => drop_default(alloc, layer, path),
@@ -246,7 +248,7 @@ fn give_sample(
     time: Num,
     value: &Value,
 ) -> Result<(), OpRefused>
-    ensures { Does result layer.new (sample_given path.now ty time value.now layer.old) }
+    ensures { Does result layer.old layer.new (sample_given path.now ty time value.now layer.old) }
 {
     if !has_form(alloc, ty, value)? {
         return Err(OpRefused::Fault(EditFault::ValueShape));
@@ -269,7 +271,7 @@ fn give_sample(
 /// # Errors
 ///
 /// `WrongPath`; `NoSpec` where no attribute is there; `ValueShape` where the type does not take the value; `TimeRange` where the time
-/// or one in the value is out of range.
+/// or one in the value is out of range. The layer is then as before, unless memory ran out.
 pub fn set_sample(
     alloc: Global,
     layer: &mut Layer,
@@ -277,7 +279,7 @@ pub fn set_sample(
     time: Num,
     value: &Value,
 ) -> Result<(), OpRefused>
-    ensures { Does result layer.new (sample_set path.now time value.now layer.old) }
+    ensures { Does result layer.old layer.new (sample_set path.now time value.now layer.old) }
 {
     match attribute_type(alloc, layer, path) {
         Ok(ty) => give_sample(alloc, layer, path, ty, time, value),
@@ -287,7 +289,7 @@ pub fn set_sample(
 
 #[tactic(auto, unfolding(crate::specs::Properties::sample_dropped, crate::specs::Outcomes::given))]
 fn drop_sample(alloc: Global, layer: &mut Layer, path: &Path, time: Num) -> Result<(), OpRefused>
-    ensures { Does result layer.new (sample_dropped path.now time layer.old) }
+    ensures { Does result layer.old layer.new (sample_dropped path.now time layer.old) }
 {
     match time_at(time) {
         Some(time) => {
@@ -303,13 +305,14 @@ fn drop_sample(alloc: Global, layer: &mut Layer, path: &Path, time: Num) -> Resu
 /// # Errors
 ///
 /// `WrongPath`; `NoSpec` where no attribute is there; `TimeRange` where the time is out of range.
+/// The layer is then as before, unless memory ran out.
 pub fn clear_sample(
     alloc: Global,
     layer: &mut Layer,
     path: &Path,
     time: Num,
 ) -> Result<(), OpRefused>
-    ensures { Does result layer.new (sample_cleared path.now time layer.old) }
+    ensures { Does result layer.old layer.new (sample_cleared path.now time layer.old) }
 {
     match attribute_type(alloc, layer, path) {
         Ok(_ty) => drop_sample(alloc, layer, path, time),

@@ -10,4 +10,4 @@ returns-in-Err c =
 pub returns-in-Ok : goal.returns-in-Ok
 unfolding default_cleared
 returns-in-Ok c =
-    does_found (λ ty. default_dropped c.args.path.now c.args.layer.now) c.drop_default.result c.args.path.now c.args.layer.now c.drop_default.new.layer c.in-Ok._ty c.in-Ok.ensures c.drop_default.ensures
+    does_found (λ ty. default_dropped c.args.path.now c.args.layer.now) c.drop_default.result c.args.path.now c.args.layer.now c.args.layer.now c.drop_default.new.layer c.in-Ok._ty c.in-Ok.ensures c.drop_default.ensures

@@ -10,4 +10,4 @@ returns-in-Err c =
 pub returns-in-Ok : goal.returns-in-Ok
 unfolding sample_cleared
 returns-in-Ok c =
-    does_found (λ ty. sample_dropped c.args.path.now c.args.time c.args.layer.now) c.drop_sample.result c.args.path.now c.args.layer.now c.drop_sample.new.layer c.in-Ok._ty c.in-Ok.ensures c.drop_sample.ensures
+    does_found (λ ty. sample_dropped c.args.path.now c.args.time c.args.layer.now) c.drop_sample.result c.args.path.now c.args.layer.now c.args.layer.now c.drop_sample.new.layer c.in-Ok._ty c.in-Ok.ensures c.drop_sample.ensures

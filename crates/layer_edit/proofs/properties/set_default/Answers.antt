@@ -10,4 +10,4 @@ returns-in-Err c =
 pub returns-in-Ok : goal.returns-in-Ok
 unfolding default_set
 returns-in-Ok c =
-    does_found (λ ty. default_given c.args.path.now ty c.args.value.now c.args.layer.now) c.give_default.result c.args.path.now c.args.layer.now c.give_default.new.layer c.in-Ok.ty c.in-Ok.ensures c.give_default.ensures
+    does_found (λ ty. default_given c.args.path.now ty c.args.value.now c.args.layer.now) c.give_default.result c.args.path.now c.args.layer.now c.args.layer.now c.give_default.new.layer c.in-Ok.ty c.in-Ok.ensures c.give_default.ensures

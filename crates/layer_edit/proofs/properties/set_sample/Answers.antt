@@ -10,4 +10,4 @@ returns-in-Err c =
 pub returns-in-Ok : goal.returns-in-Ok
 unfolding sample_set
 returns-in-Ok c =
-    does_found (λ ty. sample_given c.args.path.now ty c.args.time c.args.value.now c.args.layer.now) c.give_sample.result c.args.path.now c.args.layer.now c.give_sample.new.layer c.in-Ok.ty c.in-Ok.ensures c.give_sample.ensures
+    does_found (λ ty. sample_given c.args.path.now ty c.args.time c.args.value.now c.args.layer.now) c.give_sample.result c.args.path.now c.args.layer.now c.args.layer.now c.give_sample.new.layer c.in-Ok.ty c.in-Ok.ensures c.give_sample.ensures
