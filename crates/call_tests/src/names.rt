@@ -1,6 +1,8 @@
 // Each call with ample memory.
 use std::test::Fail;
-use usd_names::{goes_on, is_continue, is_identifier, is_name, is_start, is_variant_character};
+use usd_names::{
+    goes_on, is_continue, is_identifier, is_name, is_number_word, is_start, is_variant_character,
+};
 
 #[test]
 fn names_are_identifiers_joined_by_colons(rt: HostRuntime) -> Result<(), Fail> {
@@ -23,6 +25,10 @@ fn names_are_identifiers_joined_by_colons(rt: HostRuntime) -> Result<(), Fail> {
         "", ":", "a:", ":a", "a::b", "1a", "a b", "inf", "nan", "a-b", "a:1",
     ] {
         assert!(rt; !is_name(text));
+    }
+    assert!(rt; is_number_word("inf") && is_number_word("nan"));
+    for text in ["", "in", "infx", "inf:nan", "-inf", "Inf"] {
+        assert!(rt; !is_number_word(text));
     }
     Ok(())
 }

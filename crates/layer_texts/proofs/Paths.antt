@@ -10,7 +10,7 @@ use Rattle.std.proofs.lemmas.List.Folds.{list_any-append}
 use Rattle.std.proofs.lemmas.Str.{IsUtf8-from_is_utf8}
 use Rattle.unicode_ident.specs.Ident.{is_xid_continue}
 use Rattle.unicode_ident.proofs.IdentLemmas.{is_xid_start-ascii, is_xid_continue-ascii}
-use Rattle.usd_names.specs.Names.{is_start, is_variant_character, spells_identifier, spells_joined, spells_run, spells_variant, is_identifier, is_variant, is_property_name}
+use Rattle.usd_names.specs.Names.{is_start, is_variant_character, spells_identifier, spells_joined, spells_run, spells_variant, is_identifier, is_number_word, is_name, is_variant, is_property_name}
 use Rattle.sdf_paths.specs.Paths.{IsPath, is_well_named, is_selection, written, written_all, printed}
 use Rattle.sdf_paths.specs.declared.element.Element.{Element}
 use Rattle.sdf_paths.specs.declared.element.Element.TheVariants.{Prim, Property, Selection}
@@ -117,7 +117,10 @@ variant_bytes t h = let p = both (is_utf8 t) (spells_variant (chars t)) h in fro
 
 property_bytes : (t : List ℕ) → is_property_name t ≡ true → list_any closes t ≡ false
 unfolding is_property_name
-property_bytes t h = let p = both (is_utf8 t) (spells_joined false (chars t)) h in from_chars t p.0 (joined_open false (chars t) p.1)
+property_bytes t h =
+    let p = both (is_utf8 t) (is_name t) h in
+    let joined = both (spells_joined false (chars t)) (not (is_number_word t)) p.1 in
+    from_chars t p.0 (joined_open false (chars t) joined.0)
 
 -- one text behind another
 two_open : (s t : List ℕ) → list_any closes s ≡ false → list_any closes t ≡ false → list_any closes (s ++ t) ≡ false

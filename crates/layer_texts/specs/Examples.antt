@@ -90,7 +90,7 @@ pub record AreTold : Type 0 where
   -- a colon joins names, and a keyword is a name
   pub joined_name : is_writable_property (named (codes "a:b")) ≡ true
   pub keyword_name : is_writable_property (named (codes "custom")) ≡ true
-  -- a property's name that is a number to the tokens, so that its line is not the words that are meant
+  -- `inf` is a number to the tokens and no property's name: its line would not be the words that are meant
   pub number_name : is_writable_property (named (codes "inf")) ≡ false
   pub meant : map (λ w. (as_word w).kind) (property_words (named (codes "inf"))) ≡ kind.Word keyword.Rel ∷ kind.Word keyword.Other ∷ []
   pub read : map (λ w. w.kind) (words_of (codes "rel inf\n")) ≡ kind.Word keyword.Rel ∷ kind.Number ∷ []

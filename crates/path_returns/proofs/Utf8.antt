@@ -4,7 +4,7 @@ use Rattle.std.specs.List.{list_all}
 use Rattle.std.specs.Str.{chars, is_utf8, IsUtf8, IsAscii}
 use Rattle.std.proofs.lemmas.Bool.{and_parts}
 use Rattle.std.proofs.lemmas.Str.{IsUtf8-append, IsUtf8-from_ascii, IsUtf8-from_is_utf8, IsUtf8-nil, is_utf8-from_IsUtf8}
-use Rattle.usd_names.specs.Names.{spells_identifier, spells_joined, spells_variant, is_identifier, is_variant, is_property_name}
+use Rattle.usd_names.specs.Names.{spells_identifier, spells_variant, is_identifier, is_name, is_variant, is_property_name}
 use Rattle.sdf_paths.specs.Paths.{IsPath, is_well_named, is_selection, written, written_all, printed}
 use Rattle.sdf_paths.specs.declared.element.Element.{Element}
 use Rattle.sdf_paths.specs.declared.element.Element.TheVariants.{Prim, Property, Selection}
@@ -28,7 +28,7 @@ variant_utf8 t h = IsUtf8-from_is_utf8 t (and_parts (is_utf8 t) (spells_variant 
 
 property_utf8 : (t : List ℕ) → is_property_name t ≡ true → IsUtf8 t
 unfolding is_property_name
-property_utf8 t h = IsUtf8-from_is_utf8 t (and_parts (is_utf8 t) (spells_joined false (chars t)) h).0
+property_utf8 t h = IsUtf8-from_is_utf8 t (and_parts (is_utf8 t) (is_name t) h).0
 
 element_utf8 : (after : Bool) (e : Element) → is_well_named e ≡ true → IsUtf8 (written after e)
 element_utf8 true (Prim name) h = identifier_utf8 name h

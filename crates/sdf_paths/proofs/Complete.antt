@@ -1,12 +1,12 @@
 -- The reader reads every text of every path.
-use Rattle.std.proofs.Common.{◌≡◌, ℕ, ◌+◌, ◌≤◌, Bool, true, false, cond, ◌&&◌, List, [], ◌∷◌, ◌++◌, Some, refl, sym, ap, ◌∙◌, subst, append_assoc, append-nil, arith, lit<, add_comm}
-use Rattle.std.specs.Prelude.{encode_utf8, nat_lt}
+use Rattle.std.proofs.Common.{◌≡◌, ℕ, ◌+◌, ◌≤◌, Bool, true, false, cond, ◌&&◌, List, [], ◌∷◌, ◌++◌, Some, None, refl, sym, ap, ◌∙◌, subst, append_assoc, append-nil, arith, lit<, add_comm}
+use Rattle.std.specs.Prelude.{encode_utf8, nat_lt, if◌then◌else◌}
 use Rattle.std.specs.List.{list_all}
 use Rattle.std.specs.Str.{encode_utf8_all}
 use Rattle.std.proofs.lemmas.Bool.{and_parts}
 use Rattle.std.proofs.lemmas.List.Sums.{sum_by-cons}
 use Rattle.std.proofs.lemmas.Str.{encodes-append, encode_ascii}
-use Rattle.usd_names.specs.Names.{is_start, spells_identifier, is_identifier, is_variant, is_property_name}
+use Rattle.usd_names.specs.Names.{is_start, spells_identifier, is_identifier, is_variant, is_number_word, is_property_name}
 use Rattle.unicode_ident.specs.Ident.{is_xid_continue}
 use Rattle.sdf_paths.specs.Paths.{is_prim_name, is_well_named, is_ordered, depth, written, Spells, IsTextOf, IsWellFormed}
 use Rattle.sdf_paths.specs.Reader.{reader, start, step, finish, after_all}
@@ -15,7 +15,7 @@ use Rattle.sdf_paths.specs.declared.element.Element.TheVariants.{Prim, Property,
 use Rattle.sdf_paths.specs.declared.reader.Reader.{Reader}
 use Rattle.sdf_paths.specs.declared.reader.Open.TheVariants.{Name, Set, AfterSet, Variant, Selected, PropertyName}
 use Rattle.std.proofs.lemmas.Bool.Decides.{nat_tests}
-use Rattle.sdf_paths.proofs.NameRuns.{after_more, run_name, run_name_rest, run_set, run_variant, run_joined, identifier_chars, variant_chars, property_chars, continue_slash, continue_open, continue_dot, continue_equals, start_slash, start_open, start_dot, variant_close}
+use Rattle.sdf_paths.proofs.NameRuns.{after_more, run_name, run_name_rest, run_set, run_variant, run_joined, identifier_chars, variant_chars, property_chars, property_no_number, continue_slash, continue_open, continue_dot, continue_equals, start_slash, start_open, start_dot, variant_close}
 
 -- the reader stands after the whole elements `done`, of which `names` are names of prims
 record Stands (r : Reader) (done : List Element) (names : ℕ) (after_selection : Bool) : Type 0 where
@@ -120,9 +120,9 @@ run_property r done names n dot good =
     let spelled = property_chars n good in
     (46 ∷ spelled.cs, (rw (encode_ascii 46 (lit< tt), spelled.bytes) refl, ap (after_all spelled.cs) dot ∙ run_joined done names false spelled.cs [] spelled.good ∙ ap (λ m. Some (reader done names (PropertyName m true))) spelled.bytes))
 
-pub property_finishes : (done : List Element) (names : ℕ) (n : List ℕ) → finish (reader done names (PropertyName n true)) ≡ Some (done ++ Property n ∷ [])
+pub property_finishes : (done : List Element) (names : ℕ) (n : List ℕ) → is_number_word n ≡ false → finish (reader done names (PropertyName n true)) ≡ Some (done ++ Property n ∷ [])
 unfolding finish
-property_finishes done names n = refl
+property_finishes done names n other = ap (λ b. if b then None else Some (done ++ Property n ∷ [])) other
 
 room : (names more : ℕ) → names + (more + 1) ≤ 64 → nat_lt names 64 ≡ true
 room names more h = grind (arith, nat_tests)
@@ -172,7 +172,7 @@ reads_rest (Property n ∷ []) r done names after_selection text stands (is_bare
       bytes = front.1.0 ∙ sym (text_is ∙ ap (λ l. (46 ∷ n) ++ l) spelled ∙ append-nil (46 ∷ n));
       last = reader done names (PropertyName n true);
       ran = front.1.1;
-      finishes = property_finishes done names n;
+      finishes = property_finishes done names n (property_no_number n good.0);
     }
 reads_rest (Property n ∷ e ∷ rest) r done names after_selection text stands spelled named ordered few = absurd cc
 

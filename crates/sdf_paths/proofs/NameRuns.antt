@@ -1,13 +1,14 @@
 -- How the reader runs over names, and which characters stand between them.
-use Rattle.std.proofs.Common.{◌≡◌, ℕ, Bool, true, false, ◌&&◌, ◌==◌, List, [], ◌∷◌, ◌++◌, Option, Some, None, refl, sym, ap, ◌∙◌, append_assoc, append-nil, inl, inr, lit<}
-use Rattle.std.specs.List.{list_all}
+use Rattle.std.proofs.Common.{◌≡◌, ℕ, Bool, true, false, not, ◌&&◌, ◌||◌, ◌==◌, List, [], ◌∷◌, ◌++◌, Option, Some, None, refl, sym, ap, ◌∙◌, append_assoc, append-nil, inl, inr, lit<}
+use Rattle.std.specs.Cmp.Lexicographic.{pointwise}
+use Rattle.std.specs.List.{list_all, list_any}
 use Rattle.std.specs.Str.{chars, is_utf8, encode_utf8_all}
-use Rattle.std.specs.Prelude.{encode_utf8}
+use Rattle.std.specs.Prelude.{encode_utf8, codes}
 use Rattle.std.proofs.lemmas.Bool.{and_parts, cases_Bool, eqb-true}
-use Rattle.std.proofs.lemmas.Str.{encodes-chars, IsUtf8-from_is_utf8}
+use Rattle.std.proofs.lemmas.Str.{encodes-chars, encode_ascii, IsUtf8-from_is_utf8}
 use Rattle.unicode_ident.specs.Ident.{is_xid_continue}
 use Rattle.unicode_ident.proofs.IdentLemmas.{is_xid_start-ascii, is_xid_continue-ascii}
-use Rattle.usd_names.specs.Names.{is_start, is_variant_character, goes_on, spells_identifier, spells_joined, spells_run, spells_variant, is_identifier, is_variant, is_property_name}
+use Rattle.usd_names.specs.Names.{is_start, is_variant_character, goes_on, spells_identifier, spells_joined, spells_run, spells_variant, is_identifier, is_variant, is_number_word, is_name, is_property_name}
 use Rattle.sdf_paths.specs.Reader.{reader, step, after_all}
 use Rattle.sdf_paths.specs.declared.element.Element.{Element}
 use Rattle.sdf_paths.specs.declared.reader.Reader.{Reader}
@@ -48,6 +49,15 @@ start_dot = rw (is_xid_start-ascii 46 (lit< tt)) refl
 pub start_a : is_start 97 ≡ true
 unfolding is_start
 start_a = rw (is_xid_start-ascii 97 (lit< tt)) refl
+
+start_x : is_start 120 ≡ true
+unfolding is_start
+start_x = rw (is_xid_start-ascii 120 (lit< tt)) refl
+
+-- each name goes on with `x`
+pub goes_on_x : (begun : Bool) → goes_on begun 120 ≡ true
+goes_on_x true = is_xid_continue-ascii 120 (lit< tt)
+goes_on_x false = start_x
 
 pub variant_dot : is_variant_character 46 ≡ false
 unfolding is_variant_character
@@ -200,6 +210,49 @@ pub variant_chars : (name : List ℕ) → is_variant name ≡ true → IsSpelled
 unfolding is_variant
 variant_chars name h = spelled_by spells_variant name h
 
-pub property_chars : (name : List ℕ) → is_property_name name ≡ true → IsSpelledBy (spells_joined false) name
+-- what a property's name is: UTF-8, identifiers joined by colons, and no number
+record IsPropertyName (name : List ℕ) : Type 0 where
+  pub utf8 : is_utf8 name ≡ true
+  pub joined : spells_joined false (chars name) ≡ true
+  pub other : is_number_word name ≡ false
+
+property_parts : (name : List ℕ) → is_property_name name ≡ true → IsPropertyName name
 unfolding is_property_name
-property_chars name h = spelled_by (spells_joined false) name h
+property_parts name h =
+    let both = and_parts (is_utf8 name) (is_name name) h in
+    let parts = and_parts (spells_joined false (chars name)) (not (is_number_word name)) both.1 in
+    record { utf8 = both.0; joined = parts.0; other = not_so (is_number_word name) parts.1 }
+  where
+    not_so : (b : Bool) → not b ≡ true → b ≡ false
+    not_so true h = absurd cc
+    not_so false h = refl
+
+pub property_chars : (name : List ℕ) → is_property_name name ≡ true → IsSpelledBy (spells_joined false) name
+property_chars name h =
+    let parts = property_parts name h in
+    record { cs = chars name; bytes = encodes-chars name (IsUtf8-from_is_utf8 name parts.utf8); good = parts.joined }
+
+pub property_no_number : (name : List ℕ) → is_property_name name ≡ true → is_number_word name ≡ false
+property_no_number name h = (property_parts name h).other
+
+neither : (a b : Bool) → (a || b) ≡ false → (a ≡ false) × (b ≡ false)
+neither true b h = absurd cc
+neither false b h = (refl, h)
+
+pub and_false : (b : Bool) → (b && false) ≡ false
+and_false true = refl
+and_false false = refl
+
+-- a text that ends in `x` is no word without one
+ends_in_x : (name word : List ℕ) → list_any (λ c. 120 == c) word ≡ false → pointwise ◌==◌ (name ++ 120 ∷ []) word ≡ false
+ends_in_x [] [] h = refl
+ends_in_x [] (w ∷ word) h = ap (λ b. b && pointwise ◌==◌ [] word) (neither (120 == w) (list_any (λ c. 120 == c) word) h).0
+ends_in_x (c ∷ name) [] h = refl
+ends_in_x (c ∷ name) (w ∷ word) h = ap (λ b. (c == w) && b) (ends_in_x name word (neither (120 == w) (list_any (λ c. 120 == c) word) h).1) ∙ and_false (c == w)
+
+-- so it is no number
+pub no_number_with_x : (name : List ℕ) → is_number_word (name ++ encode_utf8 120) ≡ false
+no_number_with_x name =
+    ap (λ l. is_number_word (name ++ l)) (encode_ascii 120 (lit< tt))
+    ∙ ap (λ b. b || pointwise ◌==◌ (name ++ 120 ∷ []) (codes "nan")) (ends_in_x name (codes "inf") refl)
+    ∙ ends_in_x name (codes "nan") refl

@@ -13,7 +13,7 @@ use Rattle.sdf_paths.specs.declared.element.Element.TheVariants.{Prim, Property,
 use Rattle.sdf_paths.specs.declared.reader.Reader.{Reader}
 use Rattle.sdf_paths.specs.declared.reader.Open.{Open}
 use Rattle.sdf_paths.specs.declared.reader.Open.TheVariants.{Nothing, Name, Set, AfterSet, Variant, Selected, PropertyName}
-use Rattle.sdf_paths.proofs.NameRuns.{after_none, after_more, name_step, set_step, variant_step, after_set_run, property_step, start_a, variant_a}
+use Rattle.sdf_paths.proofs.NameRuns.{after_none, after_more, name_step, set_step, variant_step, after_set_run, property_step, start_a, variant_a, goes_on_x, no_number_with_x}
 use Rattle.sdf_paths.proofs.Complete.{reads, RunsOver, equals_step, close_step, property_finishes}
 use Rattle.sdf_paths.proofs.Sound.{holds_start, all_hold, finish_holds, IsSpelled}
 
@@ -87,6 +87,17 @@ complete_variant elements names set variant begun = record {
   done = selection_ends _ names;
 }
 
+-- also where what has been read of the name is a number
+complete_property : (elements : List Element) (names : ℕ) (name : List ℕ) (begun : Bool) → Completes (reader elements names (PropertyName name begun))
+complete_property elements names name begun = record {
+  rest = 120 ∷ [];
+  valid = refl;
+  last = reader elements names (PropertyName (name ++ encode_utf8 120) true);
+  path = elements ++ Property (name ++ encode_utf8 120) ∷ [];
+  ran = property_step elements names name begun 120 (goes_on_x begun);
+  done = property_finishes elements names (name ++ encode_utf8 120) (no_number_with_x name);
+}
+
 after_set_runs : (elements : List Element) (names : ℕ) (set : List ℕ) → after_all (97 ∷ 125 ∷ []) (Some (reader elements names (AfterSet set))) ≡ Some (reader (elements ++ Selection set (encode_utf8 97) ∷ []) names Selected)
 after_set_runs elements names set = ap (after_all (125 ∷ [])) (after_set_run elements names set 97 variant_a) ∙ close_step elements names set (encode_utf8 97)
 
@@ -132,22 +143,7 @@ completes_open elements names (AfterSet set) = record {
 }
 completes_open elements names (Variant set variant begun) = complete_variant elements names set variant begun
 completes_open elements names Selected = record { rest = []; valid = refl; last = reader elements names Selected; path = elements; ran = refl; done = selection_ends elements names }
-completes_open elements names (PropertyName name true) = record {
-  rest = [];
-  valid = refl;
-  last = reader elements names (PropertyName name true);
-  path = elements ++ Property name ∷ [];
-  ran = refl;
-  done = property_finishes elements names name;
-}
-completes_open elements names (PropertyName name false) = record {
-  rest = 97 ∷ [];
-  valid = refl;
-  last = reader elements names (PropertyName (name ++ encode_utf8 97) true);
-  path = elements ++ Property (name ++ encode_utf8 97) ∷ [];
-  ran = property_step elements names name false 97 start_a;
-  done = property_finishes elements names (name ++ encode_utf8 97);
-}
+completes_open elements names (PropertyName name begun) = complete_property elements names name begun
 
 completes : (r : Reader) → Completes r
 completes r = completes_open r.elements r.names r.open_part

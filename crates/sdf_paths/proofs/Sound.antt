@@ -9,15 +9,15 @@ use Rattle.std.proofs.lemmas.List.Folds.{list_all-append, list_any-append}
 use Rattle.std.proofs.lemmas.List.Sums.{sum_by_push}
 use Rattle.std.proofs.lemmas.Str.{encodes-append, encode_ascii, chars-encodes, is_utf8-from_IsUtf8}
 use Rattle.unicode_ident.specs.Ident.{is_xid_continue}
-use Rattle.usd_names.specs.Names.{is_start, is_variant_character, goes_on, spells_identifier, identifier_rest, spells_joined, spells_run, spells_variant, is_identifier, is_variant, is_property_name}
+use Rattle.usd_names.specs.Names.{is_start, is_variant_character, goes_on, spells_identifier, identifier_rest, spells_joined, spells_run, spells_variant, is_identifier, is_variant, is_number_word, is_name, is_property_name}
 use Rattle.sdf_paths.specs.Paths.{is_selection, is_prim_name, is_well_named, is_ordered, is_empty, is_property, is_property_part, depth, written, Spells, IsTextOf, IsWellFormed, ends_selected}
-use Rattle.sdf_paths.specs.Reader.{reader, start, step, finish, begins, step_name, step_set, step_after_set, step_variant, step_selected, step_property, step_nothing, step_open, finish_name, finish_open, after_all}
+use Rattle.sdf_paths.specs.Reader.{reader, start, step, finish, begins, step_name, step_set, step_after_set, step_variant, step_selected, step_property, step_nothing, step_open, finish_name, finish_property, finish_open, after_all}
 use Rattle.sdf_paths.specs.declared.element.Element.{Element}
 use Rattle.sdf_paths.specs.declared.element.Element.TheVariants.{Prim, Property, Selection}
 use Rattle.sdf_paths.specs.declared.reader.Reader.{Reader}
 use Rattle.sdf_paths.specs.declared.reader.Open.{Open}
 use Rattle.sdf_paths.specs.declared.reader.Open.TheVariants.{Nothing, Name, Set, AfterSet, Variant, Selected, PropertyName}
-use Rattle.sdf_paths.proofs.NameRuns.{variant_dot, continue_colon, after_none}
+use Rattle.sdf_paths.proofs.NameRuns.{variant_dot, continue_colon, after_none, and_false}
 
 -- ---- parts of names
 
@@ -62,10 +62,6 @@ pub record IsRead (elements : List Element) (names : ℕ) (text : List ℕ) : Ty
   pub spelled : Spells false elements text
   pub count : depth elements ≡ names
   pub few : names ≤ 64
-
-and_false : (b : Bool) → (b && false) ≡ false
-and_false true = refl
-and_false false = refl
 
 spells_push : (elements : List Element) (after_selection : Bool) (text : List ℕ) (e : Element) (is_bare : Bool) → Spells after_selection elements text
     → Spells after_selection (elements ++ e ∷ []) (text ++ written (ends_selected after_selection elements && is_bare) e)
@@ -289,9 +285,11 @@ variant_done : (name : List ℕ) → IsPart spells_variant (variant_rest true) n
 unfolding is_variant
 variant_done name part = part_done spells_variant (variant_rest true) name part refl
 
-property_done : (name : List ℕ) → IsPart (spells_joined false) (spells_joined true) name → is_property_name name ≡ true
+property_done : (name : List ℕ) → IsPart (spells_joined false) (spells_joined true) name → is_number_word name ≡ false → is_property_name name ≡ true
 unfolding is_property_name
-property_done name part = part_done (spells_joined false) (spells_joined true) name part refl
+property_done name part other =
+    let joined = and_parts (is_utf8 name) (spells_joined false (chars name)) (part_done (spells_joined false) (spells_joined true) name part refl) in
+    both_hold (is_utf8 name) (is_name name) joined.0 (both_hold (spells_joined false (chars name)) (not (is_number_word name)) joined.1 (ap not other))
 
 marked : (elements : List Element) (names : ℕ) (mark mark' text : List ℕ) → mark ≡ mark' → InElement elements names mark text → InElement elements names mark' text
 marked elements names mark mark' text e h = subst (λ (m : List ℕ). InElement elements names m text) e h
@@ -518,6 +516,16 @@ finish_name_holds [] names name false text path h e = the_path [] path text e (r
 })
 finish_name_holds (x ∷ elements) names name false text path h e = absurd (cc e)
 
+finish_property_holds : (elements : List Element) (names : ℕ) (name : List ℕ) (begun : Bool) (text : List ℕ) (path : List Element) → InElement elements names (46 ∷ name) text
+    → IsPart (spells_joined false) (spells_joined begun) name → finish_property elements name begun ≡ Some path → IsSpelled path text
+finish_property_holds elements names name true text path h part e = elim (taken (is_number_word name) _ _ path e) [
+  | inl number ↦ absurd (cc number.1)
+  | inr other ↦
+      let ended = closes elements names text (Property name) h (property_done name part other.0) refl in
+      the_path _ path text other.1 (spelled_path (elements ++ Property name ∷ []) names text ended (some_push elements (Property name)))
+]
+finish_property_holds elements names name false text path h part e = absurd (cc e)
+
 finish_open_holds : (elements : List Element) (names : ℕ) (o : Open) (text : List ℕ) (path : List Element) → Holds elements names o text → finish_open elements o ≡ Some path → IsSpelled path text
 finish_open_holds elements names Nothing text path h e = absurd (cc e)
 finish_open_holds elements names (Name name begun) text path h e = finish_name_holds elements names name begun text path h e
@@ -525,9 +533,7 @@ finish_open_holds elements names (Set set begun) text path h e = absurd (cc e)
 finish_open_holds elements names (AfterSet set) text path h e = absurd (cc e)
 finish_open_holds elements names (Variant set variant begun) text path h e = absurd (cc e)
 finish_open_holds elements names Selected text path h e = the_path elements path text e (spelled_path elements names text h.0.whole h.0.some)
-finish_open_holds elements names (PropertyName name true) text path h e =
-    the_path _ path text e (spelled_path (elements ++ Property name ∷ []) names text (closes elements names text (Property name) h.0 (property_done name h.1) refl) (some_push elements (Property name)))
-finish_open_holds elements names (PropertyName name false) text path h e = absurd (cc e)
+finish_open_holds elements names (PropertyName name begun) text path h e = finish_property_holds elements names name begun text path h.0 h.1 e
 
 pub finish_holds : (r : Reader) (text : List ℕ) (path : List Element) → HoldsRead r text → finish r ≡ Some path → IsSpelled path text
 unfolding finish

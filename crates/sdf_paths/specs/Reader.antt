@@ -1,7 +1,7 @@
 -- A reader of paths as a machine over characters: what each character adds to what has been read.
 use Rattle.std.specs.Prelude.{◌≡◌, ℕ, ◌+◌, nat_lt, Bool, true, false, ◌==◌, List, [], ◌∷◌, ◌++◌, Option, Some, None, if◌then◌else◌, encode_utf8, length, ◌≤◌, ◌<◌, ◌⊎◌}
 use Rattle.std.specs.Str.{chars, encode_utf8_all}
-use Rattle.usd_names.specs.Names.{is_start, is_variant_character, goes_on}
+use Rattle.usd_names.specs.Names.{is_start, is_variant_character, goes_on, is_number_word}
 use Rattle.sdf_paths.specs.declared.element.Element.{Element}
 use Rattle.sdf_paths.specs.declared.element.Element.TheVariants.{Prim, Property, Selection}
 use Rattle.sdf_paths.specs.declared.fault.PathFault.{PathFault}
@@ -77,6 +77,11 @@ finish_name elements name true = Some (elements ++ Prim name ∷ [])
 finish_name [] name false = Some []
 finish_name (e ∷ rest) name false = None
 
+-- `inf` and `nan` are numbers and name no property, though a name may go on from them
+abbrev pub finish_property : List Element → List ℕ → Bool → Option (List Element)
+finish_property elements name true = if is_number_word name then None else Some (elements ++ Property name ∷ [])
+finish_property elements name false = None
+
 abbrev pub finish_open : List Element → Open → Option (List Element)
 finish_open elements Nothing = None
 finish_open elements (Name name begun) = finish_name elements name begun
@@ -84,8 +89,7 @@ finish_open elements (Set set begun) = None
 finish_open elements (AfterSet set) = None
 finish_open elements (Variant set variant begun) = None
 finish_open elements Selected = Some elements
-finish_open elements (PropertyName name true) = Some (elements ++ Property name ∷ [])
-finish_open elements (PropertyName name false) = None
+finish_open elements (PropertyName name begun) = finish_property elements name begun
 
 -- the path that has been read, where the text may end here
 unfoldable pub finish : Reader → Option (List Element)

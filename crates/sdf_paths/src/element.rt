@@ -5,7 +5,7 @@ use plain_data::{ExactClone, ExactEq, ExactOrd, Text};
 pub enum Element {
     /// The name of a prim, an identifier.
     Prim(Text),
-    /// The name of a property: identifiers joined by `:`.
+    /// The name of a property: identifiers joined by `:`, but not `inf` or `nan`, which are numbers.
     Property(Text),
     /// The choice of a variant in a variant set.
     Selection { set: Text, variant: Text },

@@ -6,7 +6,7 @@ use crate::element::Element;
 use crate::fault::PathFault;
 use plain_data::{Items, Text};
 use std::alloc::{AllocError, Global};
-use usd_names::{goes_on, is_start, is_variant_character};
+use usd_names::{goes_on, is_number_word, is_start, is_variant_character};
 
 /// The most names of prims in a path.
 pub const MAX_NAMES: usize = 64;
@@ -86,7 +86,12 @@ impl Reader {
                 }
             }
             Open::Selected => {}
-            Open::PropertyName { name, begun: true } => elements.push(Element::Property(name))?,
+            Open::PropertyName { name, begun: true } => {
+                if is_number_word(name.as_str()) {
+                    return Ok(None);
+                }
+                elements.push(Element::Property(name))?;
+            }
             _ => return Ok(None),
         }
         Ok(Some(elements))

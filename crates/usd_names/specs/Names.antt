@@ -52,10 +52,6 @@ is_identifier bytes = is_utf8 bytes && spells_identifier (chars bytes)
 unfoldable pub is_variant : List ℕ → Bool
 is_variant bytes = is_utf8 bytes && spells_variant (chars bytes)
 
--- the bytes are the name of a property
-unfoldable pub is_property_name : List ℕ → Bool
-is_property_name bytes = is_utf8 bytes && spells_joined false (chars bytes)
-
 -- the words that are numbers and no names
 abbrev pub is_number_word : List ℕ → Bool
 is_number_word t = pointwise ◌==◌ t (codes "inf") || pointwise ◌==◌ t (codes "nan")
@@ -63,3 +59,7 @@ is_number_word t = pointwise ◌==◌ t (codes "inf") || pointwise ◌==◌ t (c
 -- what a text that is valid UTF-8 spells is a name: identifiers joined by colons, and no number
 abbrev pub is_name : List ℕ → Bool
 is_name t = spells_joined false (chars t) && not (is_number_word t)
+
+-- the bytes are the name of a property
+unfoldable pub is_property_name : List ℕ → Bool
+is_property_name bytes = is_utf8 bytes && is_name bytes

@@ -3,4 +3,6 @@
 
 mod names;
 
-pub use names::{goes_on, is_continue, is_identifier, is_name, is_start, is_variant_character};
+pub use names::{
+    goes_on, is_continue, is_identifier, is_name, is_number_word, is_start, is_variant_character,
+};

@@ -56,11 +56,18 @@ pub fn is_identifier(text: &str) -> bool
     spells_identifier(text)
 }
 
+/// Whether the text is a word that stands for a number: `inf` or `nan`.
+pub fn is_number_word(text: &str) -> bool
+    ensures { result ≡ is_number_word text.now }
+{
+    text == "inf" || text == "nan"
+}
+
 /// Whether the text may stand as a name: identifiers joined by `:`, but not `inf` or `nan`, which are numbers.
 pub fn is_name(text: &str) -> bool
     ensures { result ≡ is_name text.now }
 {
-    is_chain(text) && text != "inf" && text != "nan"
+    is_chain(text) && !is_number_word(text)
 }
 
 // Identifiers joined by colons.

@@ -8,7 +8,7 @@ use Rattle.std.proofs.lemmas.Bool.Decides.{nat_tests}
 use Rattle.std.proofs.lemmas.Str.{IsUtf8-from_is_utf8}
 use Rattle.unicode_ident.specs.Ident.{is_xid_continue}
 use Rattle.unicode_ident.proofs.IdentLemmas.{is_xid_start-ascii, is_xid_continue-ascii}
-use Rattle.usd_names.specs.Names.{is_start, is_variant_character, spells_identifier, spells_joined, spells_run, spells_variant, is_identifier, is_variant, is_property_name}
+use Rattle.usd_names.specs.Names.{is_start, is_variant_character, spells_identifier, spells_joined, spells_run, spells_variant, is_identifier, is_variant}
 use Rattle.sdf_values.specs.Print.{is_escaped, escape, escaped, quoted}
 use Rattle.value_texts.proofs.AsciiTests.{or_parts, no_byte}
 use Rattle.value_texts.proofs.NumberParts.{both}
@@ -102,6 +102,5 @@ pub variant_quoted : (t : List ℕ) → is_variant t ≡ true → quoted t ≡ c
 unfolding is_variant
 variant_quoted t h = let p = both (is_utf8 t) (spells_variant (chars t)) h in from_chars t p.0 (variant_plain (chars t) p.1)
 
-pub name_quoted : (t : List ℕ) → is_property_name t ≡ true → quoted t ≡ codes "\"" ++ t ++ codes "\""
-unfolding is_property_name
-name_quoted t h = let p = both (is_utf8 t) (spells_joined false (chars t)) h in from_chars t p.0 (joined_plain false (chars t) p.1)
+pub name_quoted : (t : List ℕ) → is_utf8 t ≡ true → spells_joined false (chars t) ≡ true → quoted t ≡ codes "\"" ++ t ++ codes "\""
+name_quoted t u h = from_chars t u (joined_plain false (chars t) h)

@@ -2,8 +2,8 @@
 use Rattle.std.specs.Prelude.{◌≡◌, ◌<◌, ◌↔◌, ℕ, ◌+◌, ◌^◌, nat_le, Bool, true, false, ◌&&◌, List, [], ◌∷◌, ◌++◌, length, map, codes, Some, ℤ, unsigned_abs}
 use Rattle.std.specs.Fmt.{signed_decimal}
 use Rattle.std.specs.List.{list_all}
-use Rattle.std.specs.Str.{is_utf8}
-use Rattle.usd_names.specs.Names.{is_name, is_identifier, is_variant, is_property_name}
+use Rattle.std.specs.Str.{chars, is_utf8}
+use Rattle.usd_names.specs.Names.{spells_joined, is_name, is_identifier, is_variant}
 use Rattle.sdf_values.specs.NumberTexts.{is_number}
 use Rattle.sdf_values.specs.Numbers.{DecimalNumber, IsDecimal}
 use Rattle.sdf_values.specs.Print.{num_text, time_text, whole_text, quoted, asset_text}
@@ -85,4 +85,5 @@ pub record AreMeant : Type 0 where
 pub record AreQuotedPlainly : Type 0 where
   pub identifier : (t : List ℕ) → is_identifier t ≡ true → quoted t ≡ codes "\"" ++ t ++ codes "\""
   pub variant : (t : List ℕ) → is_variant t ≡ true → quoted t ≡ codes "\"" ++ t ++ codes "\""
-  pub name : (t : List ℕ) → is_property_name t ≡ true → quoted t ≡ codes "\"" ++ t ++ codes "\""
+  -- identifiers joined by `:`, also `inf` and `nan`, which name no property
+  pub name : (t : List ℕ) → is_utf8 t ≡ true → spells_joined false (chars t) ≡ true → quoted t ≡ codes "\"" ++ t ++ codes "\""
