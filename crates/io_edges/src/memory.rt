@@ -1,8 +1,10 @@
 //! Files, sources and sinks in memory: the ones that never fail, and the same with faults at calls of given numbers.
 
-ghost use Rattle.std.specs.Prelude.{◌≡◌, ◌+◌, ◌++◌, ◌<◌, ◌≤◌, [], Some, length, take, drop, map, OnOk, OnErr};
+ghost use Rattle.std.specs.Prelude.{◌≡◌, ◌+◌, ◌++◌, ◌<◌, ◌≤◌, ◌↔◌, [], Some, length, take, drop, map, OnOk, OnErr, IfSome, Contains};
 ghost use Rattle.std.specs.Option.{option_copied};
-ghost use Rattle.io_edges.specs.Edges.{most, FetchTells, FetchLeaves, WriteTakes};
+ghost use Rattle.io_edges.specs.Causes.{one_more, Rose};
+ghost use Rattle.io_edges.specs.Edges.{most, FetchTells, FetchLeaves, ReadTakes, WriteTakes};
+ghost use Rattle.io_edges.specs.Plans.{IsCalled};
 ghost use Rattle.io_edges.specs.Stores.{entry_of, file_named};
 
 use crate::faults::FaultPlan;
@@ -112,7 +114,14 @@ impl LayerFiles for MemoryFiles {
 
     ghost faults = { λ s. s.plan.faults };
 
-    fn fetch(&mut self, name: &str, into: &mut Vec<u8>) -> Fetched {
+    fn fetch(&mut self, name: &str, into: &mut Vec<u8>) -> Fetched
+        ensures same { Some (file_named self.new.files) ≡ Some (file_named self.old.files) }
+        ensures tells { IfSome (Some (file_named self.old.files)) (λ f. FetchTells result (f name.now) into.old.items into.new.items) }
+        ensures leaves { FetchLeaves result into.old.items into.new.items }
+        ensures later { self.old.plan.faults ≤ self.new.plan.faults }
+        ensures cause { result ≡ Fetched.Failed → Rose self.old.plan.faults self.new.plan.faults }
+        ensures planned { IsCalled self.old.plan self.new.plan (result ≡ Fetched.Failed) }
+    {
         if self.plan.fails_now() {
             return Fetched::Failed;
         }
@@ -220,7 +229,13 @@ impl Source for MemorySource {
 
     ghost faults = { λ s. s.plan.faults };
 
-    fn read(&mut self, into: &mut [u8]) -> Got {
+    fn read(&mut self, into: &mut [u8]) -> Got
+        requires { 0 < length into.old }
+        ensures takes { ReadTakes result (Some self.old.stream.left) (Some self.new.stream.left) into.new }
+        ensures later { self.old.plan.faults ≤ self.new.plan.faults }
+        ensures cause { result ≡ Got.Failed → Rose self.old.plan.faults self.new.plan.faults }
+        ensures planned { IsCalled self.old.plan self.new.plan (result ≡ Got.Failed) }
+    {
         if self.plan.fails_now() {
             return Got::Failed;
         }
@@ -332,7 +347,13 @@ impl Sink for MemorySink {
 
     ghost faults = { λ s. s.plan.faults };
 
-    fn write(&mut self, piece: &[u8]) -> Put {
+    fn write(&mut self, piece: &[u8]) -> Put
+        requires { 0 < length piece.now }
+        ensures takes { WriteTakes result (Some self.old.store.taken) (Some self.new.store.taken) piece.now }
+        ensures later { self.old.plan.faults ≤ self.new.plan.faults }
+        ensures cause { result ≡ Put.Failed → Rose self.old.plan.faults self.new.plan.faults }
+        ensures planned { IsCalled self.old.plan self.new.plan (result ≡ Put.Failed) }
+    {
         if self.plan.fails_now() {
             return Put::Failed;
         }
