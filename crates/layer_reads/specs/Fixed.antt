@@ -12,6 +12,7 @@ abbrev pub IsFixedAs : List Element → TokenKind → List ℕ → Type 0
 IsFixedAs base form.Path text = absolute_from base (path_text text) ≡ Some text
 IsFixedAs base k text = Unit {0}
 
+-- the word means in the statements of this prim what it means from the root down
 abbrev pub IsFixed : List Element → Said → Type 0
 IsFixed base w = IsFixedAs base w.kind w.text
 

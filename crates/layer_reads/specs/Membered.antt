@@ -10,10 +10,12 @@ use Rattle.usda_grammar.specs.Machine.{steps}
 use Rattle.value_texts.specs.Cuts.{Said}
 use Rattle.value_texts.specs.Words.{as_word}
 
+-- there is a member
 abbrev pub are_some : List Bool → Bool
 are_some [] = false
 are_some (b ∷ bs) = true
 
+-- the grammar has no tuple without members; arrays and dictionaries may be empty
 abbrev pub membered_step : Value-F Bool Bool → Bool
 membered_step (Value-F.Tuple bs) = are_some bs && all_true bs
 membered_step (Value-F.Array bs) = all_true bs
@@ -27,6 +29,7 @@ membered_item item = item.value
 abbrev pub is_membered : Value → Bool
 is_membered = fold-Value Bool Bool membered_step membered_item
 
+-- each tuple in the value of an entry has a member
 abbrev pub is_membered_item : DictItem → Bool
 is_membered_item = fold-DictItem Bool Bool membered_step membered_item
 

@@ -5,6 +5,7 @@ use Rattle.layer_returns.specs.Layers.{IsLayerKept}
 use Rattle.layer_returns.specs.Theorem.{IsTree}
 use Rattle.std.specs.Prelude.{◌≡◌, true}
 
+-- what has to hold of a layer that comes back holds of this one
 pub record ExamplesComeBack : Type 0 where
   pub small_kept : IsLayerKept small
   pub small_tree : IsTree small

@@ -18,6 +18,7 @@ use Rattle.layer_returns.specs.Trees.{behind_body}
 abbrev pub HasVariants : SpecEntries → List Element → VariantSet → Type 0
 HasVariants specs path s = AreAll (λ name. is_some (spec_below specs path (Selection s.set name)) ≡ true) s.variants
 
+-- each child and each variant that the spec names has a spec
 pub record HasAllBelow (specs : SpecEntries) (path : List Element) (spec : Spec) : Type 0 where
   pub children : AreAll (λ name. is_some (spec_below specs path (Prim name)) ≡ true) spec.body.children
   pub variants : AreAll (HasVariants specs path) spec.body.variant_names

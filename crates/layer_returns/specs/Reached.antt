@@ -11,18 +11,22 @@ use Rattle.layer_returns.specs.Whole.{AreChildrenWhole, IsWhole}
 
 -- `Below` tells whether a path is reached from a prim or a variant further down
 module _ (specs : SpecEntries) (Below : List Element → Spec → List Element → Type 0) where
+  -- a path is that of a prim or a variant which has a spec, or is reached from it
   abbrev pub IsFrom : List Element → Option Spec → List Element → Type 0
   IsFrom path None p = ⊥
   IsFrom path (Some spec) p = (p ≡ path) ⊎ Below path spec p
 
+  -- a path is reached from one of the children of these names
   abbrev pub IsFromChildren : List Element → List (List ℕ) → List Element → Type 0
   IsFromChildren path [] p = ⊥
   IsFromChildren path (name ∷ names) p = IsFrom (path ++ Prim name ∷ []) (spec_below specs path (Prim name)) p ⊎ IsFromChildren path names p
 
+  -- a path is reached from one of these variants of a set
   abbrev pub IsFromVariants : List Element → List ℕ → List (List ℕ) → List Element → Type 0
   IsFromVariants path set [] p = ⊥
   IsFromVariants path set (name ∷ names) p = IsFrom (path ++ Selection set name ∷ []) (spec_below specs path (Selection set name)) p ⊎ IsFromVariants path set names p
 
+  -- a path is reached from a variant of one of these sets
   abbrev pub IsFromSets : List Element → List VariantSet → List Element → Type 0
   IsFromSets path [] p = ⊥
   IsFromSets path (s ∷ ss) p = IsFromVariants path s.set s.variants p ⊎ IsFromSets path ss p

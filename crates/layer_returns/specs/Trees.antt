@@ -49,10 +49,12 @@ module _ (specs : SpecEntries) (behind : List Element → Specifier → Spec →
   abbrev pub inside_prim : List ℕ → List Element → Spec → Standing → Standing
   inside_prim name path spec at = inside path spec.body.specifier spec.body.type_name spec (with_child name at.owner) at
 
+  -- behind a child and its body; a name without a spec is no prim
   abbrev pub behind_child : List ℕ → List Element → Option Spec → Standing → Standing
   behind_child name path None at = at
   behind_child name path (Some spec) at = closed (with_child name at.owner) at (behind path spec.body.specifier spec (inside_prim name path spec at))
 
+  -- behind the children of these names, one after the other
   abbrev pub behind_children : List Element → List (List ℕ) → Standing → Standing
   behind_children path [] at = at
   behind_children path (name ∷ names) at = behind_children path names (behind_child name (path ++ Prim name ∷ []) (spec_below specs path (Prim name)) at)
@@ -61,17 +63,21 @@ module _ (specs : SpecEntries) (behind : List Element → Specifier → Spec →
   abbrev pub inside_variant : List ℕ → List Element → Spec → Standing → Standing
   inside_variant name path spec at = inside path Over None spec (with_variant name at.owner) at
 
+  -- behind a variant and its body; a name without a spec is no variant
   abbrev pub behind_variant : List ℕ → List Element → Option Spec → Standing → Standing
   behind_variant name path None at = at
   behind_variant name path (Some spec) at = closed (with_variant name at.owner) at (behind path Over spec (inside_variant name path spec at))
 
+  -- behind these variants of a set, one after the other
   abbrev pub behind_variants : List Element → List ℕ → List (List ℕ) → Standing → Standing
   behind_variants path set [] at = at
   behind_variants path set (name ∷ names) at = behind_variants path set names (behind_variant name (path ++ Selection set name ∷ []) (spec_below specs path (Selection set name)) at)
 
+  -- a variant set has begun
   abbrev pub in_set : List ℕ → Standing → Standing
   in_set set at = record at { owner = with_set set at.owner }
 
+  -- behind these variant sets, one after the other
   abbrev pub behind_sets : List Element → List VariantSet → Standing → Standing
   behind_sets path [] at = at
   behind_sets path (s ∷ ss) at = behind_sets path ss (behind_variants path s.set s.variants (in_set s.set at))
@@ -80,41 +86,50 @@ module _ (specs : SpecEntries) (behind : List Element → Specifier → Spec →
   abbrev pub from_properties : List Element → Specifier → Spec → Standing → Standing
   from_properties path specifier spec at = saying (behind_orders path specifier spec) at
 
+  -- behind the properties, where the variant sets begin
   abbrev pub from_sets : List Element → Specifier → Spec → Standing → Standing
   from_sets path specifier spec at = behind_properties spec.body.properties (from_properties path specifier spec at)
 
+  -- behind the variant sets, where the children begin
   abbrev pub from_children : List Element → Specifier → Spec → Standing → Standing
   from_children path specifier spec at = behind_sets path spec.body.variant_names (from_sets path specifier spec at)
 
+  -- behind the children, and so behind the whole body
   abbrev pub behind_statements : List Element → Specifier → Spec → Standing → Standing
   behind_statements path specifier spec at = behind_children path spec.body.children (from_children path specifier spec at)
 
   -- `Kept` tells of statements further down whether they may stand there
   module _ (Kept : List Element → Specifier → Spec → Standing → Type 0) where
+    -- a child has a place of its own, and its metadata and its body come back; of a name without a spec nothing is asked
     abbrev pub IsChildKept : List ℕ → List Element → Option Spec → Standing → Type 0
     IsChildKept name path None at = Unit {0}
     IsChildKept name path (Some spec) at = IsPrimPlace name path at × IsSpecKept (plain path) spec × Kept path spec.body.specifier spec (inside_prim name path spec at)
 
+    -- the children of these names may stand there, one after the other
     abbrev pub AreChildrenKept : List Element → List (List ℕ) → Standing → Type 0
     AreChildrenKept path [] at = Unit {0}
     AreChildrenKept path (name ∷ names) at =
         IsChildKept name (path ++ Prim name ∷ []) (spec_below specs path (Prim name)) at × AreChildrenKept path names (behind_child name (path ++ Prim name ∷ []) (spec_below specs path (Prim name)) at)
 
+    -- a variant has a place of its own, and its metadata and its body come back; of a name without a spec nothing is asked
     abbrev pub IsVariantKept : List ℕ → List Element → Option Spec → Standing → Type 0
     IsVariantKept name path None at = Unit {0}
     IsVariantKept name path (Some spec) at = IsVariantPlace name path at × IsSpecKept (plain path) spec × Kept path Over spec (inside_variant name path spec at)
 
+    -- these variants of a set may stand there, one after the other
     abbrev pub AreVariantsKept : List Element → List ℕ → List (List ℕ) → Standing → Type 0
     AreVariantsKept path set [] at = Unit {0}
     AreVariantsKept path set (name ∷ names) at =
         IsVariantKept name (path ++ Selection set name ∷ []) (spec_below specs path (Selection set name)) at
         × AreVariantsKept path set names (behind_variant name (path ++ Selection set name ∷ []) (spec_below specs path (Selection set name)) at)
 
+    -- these variant sets may stand there: each has a name that is an identifier and that no set before it has
     abbrev pub AreSetsKept : List Element → List VariantSet → Standing → Type 0
     AreSetsKept path [] at = Unit {0}
     AreSetsKept path (s ∷ ss) at =
         (is_utf8 s.set ≡ true) × (is_identifier s.set ≡ true) × (has_set s.set at.owner ≡ false) × AreVariantsKept path s.set s.variants (in_set s.set at) × AreSetsKept path ss (behind_variants path s.set s.variants (in_set s.set at))
 
+    -- orders, properties, variant sets and children that may stand there in this order
     pub record AreStatementsKept (path : List Element) (specifier : Specifier) (spec : Spec) (at : Standing) : Type 0 where
       pub child_order : AreAll (λ t. is_utf8 t ≡ true) spec.body.child_order
       pub property_order : AreAll (λ t. is_utf8 t ≡ true) spec.body.property_order
@@ -144,6 +159,7 @@ AreRootsRead =
     (specs : SpecEntries) (levels : ℕ) (path : List Element) (names : List (List ℕ)) (at : Standing) → AreChildrenKept specs (behind_body specs levels) (IsBodyKept specs levels) path names at
     → AreItems symbol.RootStatements (children_words specs (body_words specs levels) path names) (IsAt at) (IsAt (behind_children specs (behind_body specs levels) path names at))
 
+-- bodies and root prims come back with all that stands below them
 pub record AreTreesRead : Type 0 where
   pub bodies : AreBodiesRead
   pub roots : AreRootsRead

@@ -12,6 +12,7 @@ use Rattle.layer_returns.specs.Layers.{layer_at, behind_layer}
 
 -- `Whole` tells of a prim or a variant further down whether all that it names has specs
 module _ (specs : SpecEntries) (Whole : List Element → Spec → Type 0) where
+  -- a child has a spec, and so has all that it names
   abbrev pub IsChildWhole : List Element → Option Spec → Type 0
   IsChildWhole path None = ⊥
   IsChildWhole path (Some spec) = Whole path spec
@@ -21,12 +22,15 @@ module _ (specs : SpecEntries) (Whole : List Element → Spec → Type 0) where
   IsVariantWhole path None = ⊥
   IsVariantWhole path (Some spec) = (spec.body.specifier ≡ Over) × (spec.body.type_name ≡ None) × Whole path spec
 
+  -- each child of these names is whole
   abbrev pub AreChildrenWhole : List Element → List (List ℕ) → Type 0
   AreChildrenWhole path names = AreAll (λ name. IsChildWhole (path ++ Prim name ∷ []) (spec_below specs path (Prim name))) names
 
+  -- each variant of the set is whole
   abbrev pub AreVariantsWhole : List Element → VariantSet → Type 0
   AreVariantsWhole path s = AreAll (λ name. IsVariantWhole (path ++ Selection s.set name ∷ []) (spec_below specs path (Selection s.set name))) s.variants
 
+  -- all children and all variants of a spec are whole
   pub record AreAllWhole (path : List Element) (spec : Spec) : Type 0 where
     pub children : AreChildrenWhole path spec.body.children
     pub variants : AreAll (AreVariantsWhole path) spec.body.variant_names

@@ -51,6 +51,7 @@ small = record {
       ∷ [];
 }
 
+-- the words of its canonical text, whose first line has none
 abbrev pub small_words : List Said
 small_words =
     open_paren ∷ name (codes "subLayers") ∷ equals ∷ open_bracket ∷ asset_said (codes "@s@") ∷ close_bracket ∷ close_paren
@@ -71,6 +72,7 @@ attribute =
     (record no_edits { appended = (path.Prim (codes "A") ∷ path.Property (codes "y") ∷ []) ∷ [] })
     ((codes "comment", value.Text (codes "c")) ∷ (codes "doc", value.Word (codes "w")) ∷ [])
 
+-- its declaration with metadata, its samples, and its connections
 abbrev pub attribute_said : List Said
 attribute_said =
     name (codes "uniform") ∷ name (codes "int") ∷ open_bracket ∷ close_bracket ∷ name (codes "x") ∷ open_paren ∷ string (codes "\"c\"") ∷ name (codes "doc") ∷ equals ∷ name (codes "w") ∷ close_paren
@@ -78,9 +80,11 @@ attribute_said =
     ∷ number_said (codes "1") ∷ colon ∷ name (codes "None") ∷ comma ∷ close_brace
     ∷ name (codes "append") ∷ name (codes "int") ∷ open_bracket ∷ close_bracket ∷ name (codes "x") ∷ dot ∷ name (codes "connect") ∷ equals ∷ open_bracket ∷ path_said (codes "</A.y>") ∷ close_bracket ∷ []
 
+-- a relationship of this name that says nothing else
 abbrev pub named : List ℕ → Property
 named t = Rel t false no_edits []
 
+-- the words of the layer and of the attribute, and which layers, properties and paths can be written
 pub record AreTold : Type 0 where
   pub layer : layer_words small ≡ small_words
   pub property : property_words attribute ≡ attribute_said

@@ -17,6 +17,7 @@ abbrev pub edit_words : {T : Type 0} → List Said → List Said → (T → List
 edit_words edit name g [] = []
 edit_words edit name g (x ∷ xs) = edit ++ name ++ (equals ∷ []) ++ bracketed_words g (x ∷ xs)
 
+-- an explicit list of this name, which is said also where it is empty
 abbrev pub explicit_line_words : {T : Type 0} → List Said → (T → List Said) → Option (List T) → List Said
 explicit_line_words name g None = []
 explicit_line_words name g (Some xs) = name ++ (equals ∷ []) ++ explicit_words g xs

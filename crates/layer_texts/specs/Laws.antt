@@ -48,6 +48,7 @@ pub record IsMetadataSpelled : Type 0 where
   pub spec : (level : ℕ) (spec : Spec) → is_writable_spec spec ≡ true → AreLines (spec_lines level spec) (spec_words spec)
   pub block : (level : ℕ) (text : List ℕ) (said : List Said) → AreLines text said → IsSpelled may_follow (metadata_block level text) (block_words said)
 
+-- the canonical lines of a property that can be written are its words
 abbrev pub ArePropertiesSpelled : Type 0
 ArePropertiesSpelled = (level : ℕ) (p : Property) → is_writable_property p ≡ true → IsSpelled anything (property_lines level p) (property_words p)
 

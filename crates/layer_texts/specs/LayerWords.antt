@@ -47,9 +47,11 @@ module _ (specs : SpecEntries) (body : List Element → Spec → List Said) wher
   child_words name None path = []
   child_words name (Some spec) path = prim_head_words name spec ++ body path spec ++ (close_brace ∷ [])
 
+  -- the child of this name below a path
   abbrev pub child_words_below : List Element → List ℕ → List Said
   child_words_below path name = child_words name (spec_below specs path (Prim name)) (path ++ Prim name ∷ [])
 
+  -- the children of these names, one behind the other
   abbrev pub children_words : List Element → List (List ℕ) → List Said
   children_words path names = flat_map (child_words_below path) names
 
@@ -58,9 +60,11 @@ module _ (specs : SpecEntries) (body : List Element → Spec → List Said) wher
   variant_words name None path = []
   variant_words name (Some spec) path = variant_head_words name spec ++ body path spec ++ (close_brace ∷ [])
 
+  -- the variant of this name of a set
   abbrev pub variant_words_below : List Element → List ℕ → List ℕ → List Said
   variant_words_below path set name = variant_words name (spec_below specs path (Selection set name)) (path ++ Selection set name ∷ [])
 
+  -- a variant set, with its variants between braces in their order
   abbrev pub set_words : List Element → VariantSet → List Said
   set_words path s = set_head_words s.set ++ flat_map (variant_words_below path s.set) s.variants ++ (close_brace ∷ [])
 

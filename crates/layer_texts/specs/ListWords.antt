@@ -18,6 +18,7 @@ word t = name_said t ∷ []
 abbrev pub string_words : List ℕ → List Said
 string_words t = string_said (quoted t) ∷ []
 
+-- a path between `<` and `>`
 abbrev pub path_words : List Element → List Said
 path_words path = path_said (path_text path) ∷ []
 
@@ -26,6 +27,7 @@ abbrev pub more_words : {T : Type 0} → (T → List Said) → List T → List S
 more_words g [] = []
 more_words g (x ∷ xs) = comma ∷ g x ++ more_words g xs
 
+-- the items of a list, with commas between them
 abbrev pub listed_words : {T : Type 0} → (T → List Said) → List T → List Said
 listed_words g [] = []
 listed_words g (x ∷ xs) = g x ++ more_words g xs
@@ -45,6 +47,7 @@ words_unless_identity true o = []
 words_unless_identity false o =
     open_paren ∷ name_said (codes "offset") ∷ equals ∷ number_said (signed_decimal o.offset) ∷ semicolon ∷ name_said (codes "scale") ∷ equals ∷ number_said (signed_decimal o.scale) ∷ close_paren ∷ []
 
+-- the offset of an item, unless it changes no time
 abbrev pub offset_words : Offset → List Said
 offset_words o = words_unless_identity (is_identity o) o
 
@@ -55,8 +58,10 @@ target_words None (Some p) = path_words p
 target_words (Some a) None = asset_said (asset_text a) ∷ []
 target_words (Some a) (Some p) = asset_said (asset_text a) ∷ path_said (path_text p) ∷ []
 
+-- an item of references or payloads: what it names, and its offset
 abbrev pub reference_words : RefItem → List Said
 reference_words r = target_words r.asset r.path ++ offset_words r.offset
 
+-- a sublayer: its asset and its offset
 abbrev pub sublayer_words : SubLayer → List Said
 sublayer_words s = asset_said (asset_text s.asset) ∷ offset_words s.offset

@@ -15,6 +15,7 @@ use Rattle.value_texts.specs.ValueWords.{name_said, number_said, mark_said, open
 use Rattle.layer_texts.specs.ListWords.{word, path_words, explicit_words}
 use Rattle.layer_texts.specs.FieldWords.{block_words, edits_words, list_words, meta_words}
 
+-- the mark between a time and its value
 abbrev pub colon : Said
 colon = mark_said mark.Colon (codes ":")
 
@@ -39,10 +40,12 @@ typed_words ty name = type_said ty ++ name_said name ∷ []
 abbrev pub joined_words : TypeName → List ℕ → List ℕ → List Said
 joined_words ty name part = type_said ty ++ name_said name ∷ dot ∷ name_said part ∷ []
 
+-- the samples of an attribute, a comma behind each; without samples nothing is said
 abbrev pub samples_words : TypeName → List ℕ → SampleEntries → List Said
 samples_words ty name [] = []
 samples_words ty name (s ∷ ss) = joined_words ty name (codes "timeSamples") ++ (equals ∷ open_brace ∷ []) ++ flat_map sample_words (s ∷ ss) ++ (close_brace ∷ [])
 
+-- the declaration of an attribute: its flags, type and name, its default, and its metadata
 abbrev pub attribute_words : TypeName → List ℕ → Bool → Bool → Option Value → MetaEntries → List Said
 attribute_words ty name custom uniform default meta = flag_words custom (codes "custom") ++ flag_words uniform (codes "uniform") ++ typed_words ty name ++ default_words default ++ block_words (meta_words meta)
 
@@ -56,6 +59,7 @@ abbrev pub targets_words : Option (List (List Element)) → List Said
 targets_words None = []
 targets_words (Some paths) = equals ∷ explicit_words path_words paths
 
+-- `rel` and the name of a relationship
 abbrev pub named_words : List ℕ → List Said
 named_words name = name_said (codes "rel") ∷ name_said name ∷ []
 
@@ -65,6 +69,7 @@ relationship_words name custom targets meta =
     flag_words custom (codes "custom") ++ named_words name ++ targets_words targets.explicit ++ block_words (meta_words meta)
     ++ edits_words (named_words name) path_words targets
 
+-- an attribute or a relationship, with all its statements
 abbrev pub property_words : Property → List Said
 property_words (Attr name ty custom uniform default samples connections meta) = attributes_words ty name custom uniform default samples connections meta
 property_words (Rel name custom targets meta) = relationship_words name custom targets meta

@@ -9,6 +9,7 @@ use Rattle.value_texts.specs.Words.{IsWorded}
 pub record IsSpelled (may_follow : List ℕ → Bool) (text : List ℕ) (said : List Said) : Type 0 where
   pub worded : (at : ℕ) (before : Before) (rest : List ℕ) → before.is_dot ≡ false → may_follow rest ≡ true → IsWorded at before text said rest
 
+-- there are no bytes, or no words
 abbrev pub is_nothing : {T : Type 0} → List T → Bool
 is_nothing [] = true
 is_nothing (x ∷ xs) = false

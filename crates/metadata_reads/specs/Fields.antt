@@ -33,10 +33,12 @@ text_word text_field.VariantSets = codes "variantSets"
 text_word text_field.ApiSchemas = codes "apiSchemas"
 text_word text_field.ClipSets = codes "clipSets"
 
+-- `inherits` or `specializes`
 abbrev pub path_word : PathField → List ℕ
 path_word path_field.Inherits = codes "inherits"
 path_word path_field.Specializes = codes "specializes"
 
+-- `references` or `payload`
 abbrev pub reference_word : ReferenceField → List ℕ
 reference_word reference_field.References = codes "references"
 reference_word reference_field.Payload = codes "payload"
@@ -45,14 +47,17 @@ reference_word reference_field.Payload = codes "payload"
 abbrev pub with_strings : TextField → ListOp (List ℕ) → GivenLists → OwnerDraft → OwnerDraft
 with_strings field op lists s = with_texts field op (record s { given = with_given_at (Texts field) lists s.given })
 
+-- the same for `inherits` and `specializes`
 abbrev pub with_path_lists : PathField → ListOp (List Element) → GivenLists → OwnerDraft → OwnerDraft
 with_path_lists field op lists s = with_paths field op (record s { given = with_given_at (Paths field) lists s.given })
 
+-- the same for `references` and `payload`
 abbrev pub with_references : ReferenceField → ListOp RefItem → GivenLists → OwnerDraft → OwnerDraft
 with_references field op lists s = with_items field op (record s { given = with_given_at (References field) lists s.given })
 
 -- what may stand in a list of the statements of this prim
 
+-- a name in a list of names may be any UTF-8
 abbrev pub IsString : List Element → List ℕ → Type 0
 IsString base t = is_utf8 t ≡ true
 
@@ -62,10 +67,12 @@ IsAssetOrNone None = Unit {0}
 IsAssetOrNone (Some []) = ⊥
 IsAssetOrNone (Some (c ∷ cs)) = Unit {0}
 
+-- no path, or one whose text means it in the statements of this prim
 abbrev pub IsPathOrNone : List Element → Option (List Element) → Type 0
 IsPathOrNone base None = Unit {0}
 IsPathOrNone base (Some path) = IsPathHere base path
 
+-- an item of references or payloads: no empty asset, a path that means itself there, and an offset within its limits
 pub record IsReferenceHere (base : List Element) (r : RefItem) : Type 0 where
   pub asset : IsAssetOrNone r.asset
   pub path : IsPathOrNone base r.path

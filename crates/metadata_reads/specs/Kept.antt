@@ -13,6 +13,7 @@ module _ {T : Type 0} (same : T → T → Bool) (W : T → Type 0) where
     pub each : AreAll W xs
     pub once : firsts same xs ≡ xs
 
+  -- edits without an explicit list; the items of each may stand there, each once
   pub record AreEditsKept (op : ListOp T) : Type 0 where
     pub inexplicit : op.explicit ≡ None
     pub deleted : AreKept op.deleted
@@ -26,6 +27,7 @@ module _ {T : Type 0} (same : T → T → Bool) (W : T → Type 0) where
     pub alone : op ≡ record no_edits { explicit = Some xs }
     pub items : AreKept xs
 
+  -- either an explicit list alone, or edits alone
   abbrev pub IsKeptBy : Option (List T) → ListOp T → Type 0
   IsKeptBy None op = AreEditsKept op
   IsKeptBy (Some xs) op = IsExplicitKept xs op
@@ -34,6 +36,7 @@ module _ {T : Type 0} (same : T → T → Bool) (W : T → Type 0) where
   abbrev pub IsListKept : ListOp T → Type 0
   IsListKept op = IsKeptBy op.explicit op
 
+-- the list has an item
 abbrev pub has_items : {T : Type 0} → List T → Bool
 has_items [] = false
 has_items (x ∷ xs) = true

@@ -40,10 +40,12 @@ pub record IsKeyKept (is_plain : Keyword → Bool) (base : List Element) (key : 
   pub deep : depth v ≤ 64
   pub fixed : AreFixed base (words_of_value v)
 
+-- the comment comes back as a string, any other key with its value
 abbrev pub IsKeptAs : Bool → (Keyword → Bool) → List Element → List ℕ → Value → Type 0
 IsKeptAs true is_plain base key v = IsCommentKept v
 IsKeptAs false is_plain base key v = IsKeyKept is_plain base key v
 
+-- a key and its value that come back
 abbrev pub IsEntryKept : (Keyword → Bool) → List Element → List ℕ × Value → Type 0
 IsEntryKept is_plain base e = IsKeptAs (is_comment e.0) is_plain base e.0 e.1
 

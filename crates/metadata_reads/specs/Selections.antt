@@ -12,6 +12,7 @@ use Rattle.metadata_reads.specs.Items.{AreItems}
 use Rattle.metadata_reads.specs.Kept.{has_items}
 use Rattle.metadata_reads.specs.Standing.{Standing, saying, IsAt}
 
+-- the set and the variant are any UTF-8
 abbrev pub IsSelectionKept : List ℕ × List ℕ → Type 0
 IsSelectionKept s = (is_utf8 s.0 ≡ true) × (is_utf8 s.1 ≡ true)
 

@@ -16,6 +16,7 @@ pub record Standing : Type 0 where
   pub sublayers : List SubLayer
   pub has_sublayers : Bool
 
+-- where a draft stands
 abbrev pub standing_of : Draft → Standing
 standing_of d = record { specs = d.specs; owner = d.owner; outer = d.outer; sublayers = d.sublayers; has_sublayers = d.has_sublayers }
 

@@ -9,6 +9,7 @@ use Rattle.metadata_reads.specs.Items.{AreItems}
 use Rattle.metadata_reads.specs.Kept.{has_items}
 use Rattle.metadata_reads.specs.Standing.{Standing, IsAt}
 
+-- its offset is within its limits
 abbrev pub IsSublayerKept : SubLayer → Type 0
 IsSublayerKept s = IsOffset s.offset
 

@@ -36,6 +36,7 @@ pub record Rests (s : Standing) (d : Draft) : Type 0 where
 
 -- ---- orders of children and of properties
 
+-- the word of an order
 abbrev pub order_name : OrderWord → List ℕ
 order_name NameChildren = codes "nameChildren"
 order_name PropertyNames = codes "properties"
@@ -104,6 +105,7 @@ IsSetRead =
     → AreItems symbol.VariantList variants (IsAt (record at { owner = with_set set at.owner })) (IsAt done)
     → AreItems symbol.PrimBody (set_head_words set ++ variants ++ close_brace ∷ []) (Rests at) (Rests done)
 
+-- variants and their sets come back from their words
 pub record AreVariantsRead : Type 0 where
   pub variant : IsVariantRead
   pub set : IsSetRead

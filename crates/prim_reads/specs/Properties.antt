@@ -70,6 +70,7 @@ pub record IsValueKept (base : List Element) (ty : TypeName) (v : Value) : Type 
   pub deep : depth v ≤ 64
   pub fixed : AreFixed base (words_of_value v)
 
+-- no default, or one of the type that comes back
 abbrev pub IsDefaultKept : List Element → TypeName → Option Value → Type 0
 IsDefaultKept base ty None = Unit {0}
 IsDefaultKept base ty (Some v) = IsValueKept base ty v
@@ -82,6 +83,7 @@ IsSampleKept base ty s = (unsigned_abs s.0 ≤ 10 ^ 30) × IsValueKept base ty s
 abbrev pub is_any_key : Keyword → Bool
 is_any_key w = true
 
+-- a default and samples of the type, the samples in order of times and each time once, and connections and metadata that come back
 pub record IsAttributeKept (base : List Element) (ty : TypeName) (v : Option Value) (s : SampleEntries) (op : ListOp (List Element)) (m : MetaEntries) : Type 0 where
   pub default : IsDefaultKept base ty v
   pub times : IsTable int_cmp s
@@ -89,10 +91,12 @@ pub record IsAttributeKept (base : List Element) (ty : TypeName) (v : Option Val
   pub connections : IsListKept same_path (IsTargetHere base) op
   pub meta : IsMetaKept is_any_key base m
 
+-- targets and metadata that come back
 pub record IsRelationshipKept (base : List Element) (op : ListOp (List Element)) (m : MetaEntries) : Type 0 where
   pub targets : IsListKept same_path (IsTargetHere base) op
   pub meta : IsMetaKept is_any_key base m
 
+-- a property that comes back in the statements of this prim
 abbrev pub IsPropertyKept : List Element → Property → Type 0
 IsPropertyKept base (Attr name ty custom uniform default samples connections meta) = IsAttributeKept base ty default samples connections meta
 IsPropertyKept base (Rel name custom targets meta) = IsRelationshipKept base targets meta

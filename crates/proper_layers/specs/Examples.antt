@@ -23,9 +23,11 @@ hollow_spec = record (blank_spec Over) { body = record (blank_body Over) { varia
 abbrev pub of_prim : Spec → LayerTable
 of_prim spec = record { head = record blank_head { root_names = codes "A" ∷ [] }; specs = (Prim (codes "A") ∷ [], spec) ∷ [] }
 
+-- a layer of this one prim
 abbrev pub hollow : LayerTable
 hollow = of_prim hollow_spec
 
+-- a text that says it
 abbrev pub hollow_text : List ℕ
 hollow_text = codes "#usda 1.0\n\nover \"A\"\n{\n    variantSet \"s\" = {\n    }\n}\n"
 
@@ -49,6 +51,7 @@ having v = of_prim (record (blank_spec Over) { body = record (blank_body Over) {
 abbrev pub saying : Value → LayerTable
 saying v = of_prim (record (blank_spec Over) { body = record (blank_body Over) { meta = (codes "k", v) ∷ [] } })
 
+-- layers that are proper, one with an empty variant set among them, and layers that are not
 pub record ProperExamples : Type 0 where
   pub small_proper : IsProper small
   pub hollow_proper : IsProper hollow

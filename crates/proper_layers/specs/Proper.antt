@@ -34,6 +34,7 @@ pub record AreNamesBelow (specs : SpecEntries) (path : List Element) (named : Li
   pub each : AreAll (λ name. is_some (spec_below specs path (named name)) ≡ true) names
   pub all : (name : List ℕ) → is_some (spec_below specs path (named name)) ≡ true → is_among name names ≡ true
 
+-- the names of the variant sets, in their order
 abbrev pub set_names : List VariantSet → List (List ℕ)
 set_names sets = map (λ s. s.set) sets
 

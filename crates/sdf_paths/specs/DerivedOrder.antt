@@ -11,6 +11,7 @@ use Rattle.sdf_paths.specs.contracts.element.ElementOrd.TheImpl.{ghosts as eleme
 use Rattle.sdf_paths.specs.declared.element.Element.{Element}
 use Rattle.sdf_paths.specs.declared.element.Element.TheVariants.{Prim, Property, Selection}
 
+-- elements that compare as equal are one
 pub element_cmp_same : (x y : Element) → element_cmp x y ≡ Equal → x ≡ y
 element_cmp_same (Prim a) (Prim b) h = ap Prim (exact_bytes a b h)
 element_cmp_same (Prim a) (Property b) h = cc
@@ -26,6 +27,7 @@ element_cmp_same (Selection s v) (Selection t w) h =
     let variant = exact_bytes v w both.1 in
     cc
 
+-- paths that compare as equal are one
 pub path_cmp_same : (x y : List Element) → path_cmp x y ≡ Equal → x ≡ y
 path_cmp_same x y h = slice_cmp_same element_cmp element_cmp_same x y h
 
@@ -41,6 +43,7 @@ element_cmp_is (Selection s v) (Prim b) = refl
 element_cmp_is (Selection s v) (Property b) = refl
 element_cmp_is (Selection s v) (Selection t w) = refl
 
+-- elements that the derived `Ord` takes for equal are one
 pub element_tie : (x y : Element) → element_order.cmp x y ≡ Equal → x ≡ y
 element_tie x y h = element_cmp_same x y (sym (element_cmp_is x y) ∙ h)
 
@@ -48,5 +51,6 @@ element_tie x y h = element_cmp_same x y (sym (element_cmp_is x y) ∙ h)
 pub element_order_is : ◌≡◌ {A = Element → Element → Ordering} element_order.cmp element_cmp
 element_order_is = λ i x y. element_cmp_is x y i
 
+-- the derived order of paths is the readable one
 pub path_order_is : ◌≡◌ {A = List Element → List Element → Ordering} (slice_cmp element_order.cmp) path_cmp
 path_order_is = ap slice_cmp element_order_is

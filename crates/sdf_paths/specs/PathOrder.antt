@@ -15,9 +15,11 @@ use Rattle.sdf_paths.specs.declared.element.Element.{Element}
 element_equal : (x y : Element) → element_eq.eq x y ≡ true → x ≡ y
 element_equal = search rules
 
+-- paths that the derived equality takes for one are one
 pub path_equal : (x y : List Element) → path_eq.eq x y ≡ true → x ≡ y
 path_equal x y h = pointwise_same element_eq.eq element_equal x y h
 
+-- the derived comparison of paths is the readable one
 pub path_cmp_is : (x y : List Element) → path_order.cmp x y ≡ path_cmp x y
 path_cmp_is x y = λ i. path_order_is i x y
 
@@ -25,5 +27,6 @@ path_cmp_is x y = λ i. path_order_is i x y
 pub order_is : ◌≡◌ {A = List Element → List Element → Ordering} path_order.cmp path_cmp
 order_is = path_order_is
 
+-- paths that the derived `Ord` takes for equal are one
 pub path_tie : (x y : List Element) → path_order.cmp x y ≡ Equal → x ≡ y
 path_tie x y h = path_cmp_same x y (sym (path_cmp_is x y) ∙ h)

@@ -9,6 +9,7 @@ use Rattle.sdf_paths.specs.declared.element.Element.TheVariants.{Prim, Property,
 use Rattle.sdf_paths.specs.declared.fault.PathFault.{PathFault}
 use Rattle.sdf_paths.specs.declared.fault.PathFault.TheVariants.{Bad, NoMemory}
 
+-- the element selects a variant of a set
 abbrev pub is_selection : Element → Bool
 is_selection (Prim name) = false
 is_selection (Property name) = false
@@ -20,6 +21,7 @@ is_well_named (Prim name) = is_identifier name
 is_well_named (Property name) = is_property_name name
 is_well_named (Selection set variant) = is_identifier set && is_variant variant
 
+-- there is no element; the path without elements is `/`
 abbrev pub is_empty : List Element → Bool
 is_empty [] = true
 is_empty (e ∷ rest) = false
@@ -32,6 +34,7 @@ is_ordered named (Prim name ∷ rest) = is_ordered true rest
 is_ordered named (Selection set variant ∷ rest) = named && is_ordered true rest
 is_ordered named (Property name ∷ rest) = named && is_empty rest
 
+-- the element is the name of a prim
 abbrev pub is_prim_name : Element → Bool
 is_prim_name (Prim name) = true
 is_prim_name (Property name) = false
@@ -74,6 +77,7 @@ Spells after [] text = text ≡ []
 Spells after (e ∷ rest) text =
     (bare : Bool) × ((more : List ℕ) × ((text ≡ written (after && bare) e ++ more) × Spells (is_selection e) rest more))
 
+-- the text spells the path; that of the path without elements is `/`
 abbrev pub IsTextOf : List Element → List ℕ → Type 0
 IsTextOf [] text = text ≡ 47 ∷ []
 IsTextOf (e ∷ rest) text = Spells false (e ∷ rest) text
@@ -84,6 +88,7 @@ pub record IsReadAs (text : List ℕ) (path : List Element) : Type 0 where
   pub spelled : IsTextOf path text
   pub short : length text ≤ 4096
 
+-- the element is the name of a property
 abbrev pub is_property_part : Element → Bool
 is_property_part (Prim name) = false
 is_property_part (Property name) = true
@@ -117,6 +122,7 @@ last_name path = option_map name_of (slice_get path (length path - 1))
 abbrev pub plain : List Element → List Element
 plain path = filter (λ e. not (is_selection e)) path
 
+-- the path selects no variant
 abbrev pub is_plain : List Element → Bool
 is_plain path = list_all (λ e. not (is_selection e)) path
 
@@ -124,6 +130,7 @@ is_plain path = list_all (λ e. not (is_selection e)) path
 abbrev pub owner : List Element → List Element
 owner path = filter (λ e. not (is_property_part e)) path
 
+-- elements are one where both are of one kind and their names have the same bytes
 abbrev pub same_element : Element → Element → Bool
 same_element (Prim a) (Prim b) = bytes_eq a b
 same_element (Property a) (Property b) = bytes_eq a b

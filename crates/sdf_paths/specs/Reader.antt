@@ -10,6 +10,7 @@ use Rattle.sdf_paths.specs.declared.reader.Open.{Open}
 use Rattle.sdf_paths.specs.declared.reader.Open.TheVariants.{Nothing, Name, Set, AfterSet, Variant, Selected, PropertyName}
 use Rattle.sdf_paths.specs.declared.reader.Reader.{Reader}
 
+-- what has been read: the elements, how many names of prims they are with the open one, and the part that is open
 abbrev pub reader : List Element → ℕ → Open → Reader
 reader elements names open_part = record { elements = elements; names = names; open_part = open_part }
 
@@ -21,44 +22,52 @@ begins elements names c =
     else if c == 46 then Some (reader elements names (PropertyName [] false))
     else None
 
+-- the name of a prim goes on, or it is complete and what may follow it begins
 abbrev pub step_name : List Element → ℕ → List ℕ → Bool → ℕ → Option Reader
 step_name elements names name begun c =
     if goes_on begun c then Some (reader elements names (Name (name ++ encode_utf8 c) true))
     else if begun then begins (elements ++ Prim name ∷ []) names c
     else None
 
+-- the name of a variant set goes on, or a `=` ends it
 abbrev pub step_set : List Element → ℕ → List ℕ → Bool → ℕ → Option Reader
 step_set elements names set begun c =
     if goes_on begun c then Some (reader elements names (Set (set ++ encode_utf8 c) true))
     else if c == 61 then (if begun then Some (reader elements names (AfterSet set)) else None)
     else None
 
+-- the name of a variant begins with one of its characters, or with one `.` before them
 abbrev pub step_after_set : List Element → ℕ → List ℕ → ℕ → Option Reader
 step_after_set elements names set c =
     if is_variant_character c then Some (reader elements names (Variant set (encode_utf8 c) true))
     else if c == 46 then Some (reader elements names (Variant set (encode_utf8 c) false))
     else None
 
+-- the name of a variant goes on, or a `}` ends the selection
 abbrev pub step_variant : List Element → ℕ → List ℕ → List ℕ → Bool → ℕ → Option Reader
 step_variant elements names set variant begun c =
     if is_variant_character c then Some (reader elements names (Variant set (variant ++ encode_utf8 c) true))
     else if c == 125 then (if begun then Some (reader (elements ++ Selection set variant ∷ []) names Selected) else None)
     else None
 
+-- behind a selection the name of a prim begins without a `/`, or what may stand behind any name begins
 abbrev pub step_selected : List Element → ℕ → ℕ → Option Reader
 step_selected elements names c =
     if is_start c then (if nat_lt names 64 then Some (reader elements (names + 1) (Name (encode_utf8 c) true)) else None)
     else begins elements names c
 
+-- the name of a property goes on, or a `:` joins another identifier to it
 abbrev pub step_property : List Element → ℕ → List ℕ → Bool → ℕ → Option Reader
 step_property elements names name begun c =
     if goes_on begun c then Some (reader elements names (PropertyName (name ++ encode_utf8 c) true))
     else if c == 58 then (if begun then Some (reader elements names (PropertyName (name ++ encode_utf8 c) false)) else None)
     else None
 
+-- a path begins with `/`
 abbrev pub step_nothing : List Element → ℕ → Option Reader
 step_nothing elements c = if c == 47 then Some (reader elements 1 (Name [] false)) else None
 
+-- what one more character makes of the part that is open
 abbrev pub step_open : List Element → ℕ → Open → ℕ → Option Reader
 step_open elements names Nothing c = step_nothing elements c
 step_open elements names (Name name begun) c = step_name elements names name begun c
@@ -72,6 +81,7 @@ step_open elements names (PropertyName name begun) c = step_property elements na
 unfoldable pub step : Reader → ℕ → Option Reader
 step r c = step_open r.elements r.names r.open_part c
 
+-- a path ends behind the name of a prim; directly behind a `/` only the path `/` itself does
 abbrev pub finish_name : List Element → List ℕ → Bool → Option (List Element)
 finish_name elements name true = Some (elements ++ Prim name ∷ [])
 finish_name [] name false = Some []
@@ -82,6 +92,7 @@ abbrev pub finish_property : List Element → List ℕ → Bool → Option (List
 finish_property elements name true = if is_number_word name then None else Some (elements ++ Property name ∷ [])
 finish_property elements name false = None
 
+-- a path ends behind `/`, a prim's name, a selection or a property's name, and in the midst of no selection
 abbrev pub finish_open : List Element → Open → Option (List Element)
 finish_open elements Nothing = None
 finish_open elements (Name name begun) = finish_name elements name begun
@@ -95,6 +106,7 @@ finish_open elements (PropertyName name begun) = finish_property elements name b
 unfoldable pub finish : Reader → Option (List Element)
 finish r = finish_open r.elements r.open_part
 
+-- nothing has been read
 abbrev pub start : Reader
 start = reader [] 0 Nothing
 
@@ -104,6 +116,7 @@ after_all [] r = r
 after_all (c ∷ cs) None = None
 after_all (c ∷ cs) (Some r) = after_all cs (step r c)
 
+-- what has been read after the first characters of a text
 abbrev pub after : List ℕ → Option Reader
 after cs = after_all cs (Some start)
 
@@ -129,6 +142,7 @@ pub record RunsOut (text : List ℕ) (at : ℕ) : Type 0 where
   pub why : ((at ≡ length (encode_utf8_all front)) × ((at ≤ 4096) × Fails last back))
       ⊎ ((at ≡ 4096) × ((4096 ≤ length (encode_utf8_all front)) × (4096 < length text)))
 
+-- a refusal stands where the text stops being a path, or is too long; of want of memory nothing is said
 abbrev pub StopsAsTold : List ℕ → PathFault → Type 0
 StopsAsTold text (Bad at) = RunsOut text at
 StopsAsTold text NoMemory = Unit {0}

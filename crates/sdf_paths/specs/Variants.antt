@@ -11,6 +11,7 @@ ends_variant Start cs = spells_variant cs
 ends_variant Dotted cs = spells_run cs
 ends_variant Run cs = list_all is_variant_character cs
 
+-- the name goes on where a character may stand in the name of a variant, and with no other
 abbrev pub run_part : Bool → Option VariantPart
 run_part true = Some Run
 run_part false = None
@@ -20,6 +21,7 @@ abbrev pub part_after : VariantPart → ℕ → Option VariantPart
 part_after Start c = if c == 46 then Some Dotted else run_part (is_variant_character c)
 part_after part c = run_part (is_variant_character c)
 
+-- what has been read may be a whole name: not the empty text, and not a `.` alone
 abbrev pub is_whole : VariantPart → Bool
 is_whole Run = true
 is_whole part = false

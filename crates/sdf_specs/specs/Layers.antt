@@ -16,6 +16,7 @@ PathEntries V = List (List Element × V)
 abbrev pub SpecEntries : Type 0
 SpecEntries = PathEntries Spec
 
+-- a layer: its head, and the specs of its prims and variants by their paths
 pub record LayerTable : Type 0 where
   pub head : Head
   pub specs : SpecEntries
@@ -57,6 +58,7 @@ abbrev pub without_paths : {V : Type 0} → List (List Element) → PathEntries 
 without_paths [] specs = specs
 without_paths (path ∷ paths) specs = without_paths paths (without_key path_cmp path specs)
 
+-- what stands at the path may own others: it is `/` or has a spec; above `/` there is nothing to ask for
 abbrev pub is_owner : {V : Type 0} → Option (List Element) → PathEntries V → Bool
 is_owner None specs = true
 is_owner (Some path) specs = is_empty path || is_some (spec_at path specs)

@@ -13,11 +13,13 @@ use Rattle.sdf_values.specs.declared.type_name.TypeName.{TypeName}
 use Rattle.sdf_values.specs.declared.value.Value.{Value, fold-Value}
 use Rattle.sdf_values.specs.declared.value.Value.TheOpen.{Value-F, DictItem-F}
 
+-- how many members a tuple of this width has
 abbrev pub count_of : Width → ℕ
 count_of width.Two = 2
 count_of width.Three = 3
 count_of width.Four = 4
 
+-- how many numbers a value of a role has: `color3` three, `color4` and `quat` four
 abbrev pub role_width : Role → Width
 role_width role.Point3 = width.Three
 role_width role.Vector3 = width.Three
@@ -28,6 +30,7 @@ role_width role.TexCoord2 = width.Two
 role_width role.TexCoord3 = width.Three
 role_width role.Quat = width.Four
 
+-- how many rows a matrix has, and numbers in each row; `frame4d` is a matrix of four
 abbrev pub matrix_width : Matrix → Width
 matrix_width matrix.Matrix2 = width.Two
 matrix_width matrix.Matrix3 = width.Three
@@ -43,6 +46,7 @@ whole_bounds element.Int64 = Some (negsuc (2 ^ 63 - 1), pos (2 ^ 63 - 1))
 whole_bounds element.Uint64 = Some (pos 0, pos (2 ^ 64 - 1))
 whole_bounds _ = None
 
+-- the number is within the bounds; a type without bounds takes no whole number
 abbrev pub is_between : Option (ℤ × ℤ) → ℤ → Bool
 is_between None n = false
 is_between (Some b) n = int_le b.0 n && int_le n b.1
@@ -64,6 +68,7 @@ abbrev pub all_hold : List (TypeName → Bool) → TypeName → Bool
 all_hold [] t = true
 all_hold (c ∷ cs) t = c t && all_hold cs t
 
+-- as many members as the tuple type has, each a value of its member type; a type that is no tuple takes no tuple
 abbrev pub are_members : Option (ElementType × ℕ) → List (TypeName → Bool) → Bool
 are_members None cs = false
 are_members (Some m) cs = (length cs == m.1) && all_hold cs (one m.0)
@@ -80,10 +85,12 @@ is_element (Value-F.Asset s) element.Asset = true
 is_element (Value-F.Tuple cs) e = are_members (members_of e) cs
 is_element _ _ = false
 
+-- an array type takes arrays of its elements alone, and any other type takes no array
 abbrev pub holds_step : Value-F (TypeName → Bool) (TypeName → Bool) → TypeName → Bool
 holds_step (Value-F.Array cs) t = t.array && all_hold cs (one t.element)
 holds_step v t = not t.array && is_element v t.element
 
+-- an entry of a dictionary, which no type takes
 abbrev pub item_step : DictItem-F (TypeName → Bool) (TypeName → Bool) → TypeName → Bool
 item_step item = item.value
 
@@ -91,6 +98,7 @@ item_step item = item.value
 abbrev pub holds : Value → TypeName → Bool
 holds = fold-Value (TypeName → Bool) (TypeName → Bool) holds_step item_step
 
+-- `None` itself; a value with `None` inside it is no block
 abbrev pub is_block_step : Value-F Bool Bool → Bool
 is_block_step Value-F.Block = true
 is_block_step _ = false
@@ -98,6 +106,7 @@ is_block_step _ = false
 abbrev pub is_block_item : DictItem-F Bool Bool → Bool
 is_block_item item = item.value
 
+-- the value is `None`, which blocks an attribute
 abbrev pub is_block : Value → Bool
 is_block = fold-Value Bool Bool is_block_step is_block_item
 

@@ -19,6 +19,7 @@ both false b h = absurd cc
 same_number : (m n : ℕ) → (m == n) ≡ true → m ≡ n
 same_number m n h = grind (arith, nat_tests)
 
+-- codes that pass the test are one
 pub code_same : (x y : Gv) → same_code x y ≡ true → x ≡ y
 code_same gnil gnil h = refl
 code_same gnil (gnum n) h = absurd cc
@@ -34,6 +35,7 @@ code_same (gcons a b) (gcons c d) h =
     let tail = code_same b d parts.1 in
     cc
 
+-- each code passes the test with itself
 pub code_refl : (x : Gv) → same_code x x ≡ true
 code_refl gnil = refl
 code_refl (gnum m) = eq-eqb m m refl
@@ -43,9 +45,11 @@ code_refl (gcons a b) = ap (λ h. h && same_code b b) (code_refl a) ∙ code_ref
 abbrev pub same_value : {A : Type 0} → Coded A → A → A → Bool
 same_value c x y = same_code (c.code x) (c.code y)
 
+-- values that pass the test are one
 pub value_same : {A : Type 0} (c : Coded A) (x y : A) → same_value c x y ≡ true → x ≡ y
 value_same c x y h = c.inj x y (code_same (c.code x) (c.code y) h)
 
+-- values that are one pass the test
 pub value_refl : {A : Type 0} (c : Coded A) (x y : A) → x ≡ y → same_value c x y ≡ true
 value_refl c x y e = ap (λ z. same_code (c.code x) (c.code z)) (sym e) ∙ code_refl (c.code x)
 
@@ -54,6 +58,7 @@ both_ways true b f g = sym (f refl)
 both_ways false true f g = g refl
 both_ways false false f g = refl
 
+-- the test is an equivalence of values
 pub value_equiv : {A : Type 0} (c : Coded A) → IsEquivalence (same_value c)
 value_equiv c = record {
   refl = λ x. value_refl c x x refl;

@@ -2,6 +2,7 @@
 use Rattle.std.specs.Prelude.{ℕ, ◌≡◌, ◌+◌, ◌-◌, ◌*◌, ◌<◌, ◌≤◌, ◌==◌, nat_le, Bool, true, false, ◌&&◌, ◌||◌, if◌then◌else◌, cond, List, [], ◌∷◌, ◌++◌, length, take, fold, ℤ, pos, ◌-ℤ◌, neg_ℤ, IsTrue}
 use Rattle.sdf_values.specs.Numbers.{DecimalNumber, SameNumber}
 
+-- `0` to `9`
 abbrev pub is_digit : ℕ → Bool
 is_digit c = nat_le 48 c && nat_le c 57
 
@@ -73,6 +74,7 @@ pub record FailsAt (t : List ℕ) (at : ℕ) : Type 0 where
 abbrev pub add_digit : ℕ → ℕ → ℕ
 add_digit n c = if is_digit c then n * 10 + (c - 48) else n
 
+-- all digits of a text as one whole number; other characters are passed over
 abbrev pub digits_number : List ℕ → ℕ
 digits_number t = fold add_digit 0 t
 
@@ -90,10 +92,12 @@ abbrev pub after_point : List ℕ → List ℕ
 after_point [] = []
 after_point (c ∷ t) = elim (c == 46) [ true ↦ t | false ↦ after_point t ]
 
+-- a `-` stands in front
 abbrev pub is_negative : List ℕ → Bool
 is_negative [] = false
 is_negative (c ∷ t) = c == 45
 
+-- the number of this size, negative where the first argument says so
 abbrev pub signed : Bool → ℕ → ℤ
 signed negative n = cond negative (neg_ℤ (pos n)) (pos n)
 

@@ -6,9 +6,11 @@ pub record DecimalNumber : Type 0 where
   pub digits : ℤ
   pub exp : ℤ
 
+-- zero in its one form: its exponent is 0
 abbrev pub zero_number : DecimalNumber
 zero_number = record { digits = pos 0; exp = pos 0 }
 
+-- the number, or 0 where it is negative
 abbrev pub natural : ℤ → ℕ
 natural (pos n) = n
 natural (negsuc n) = 0

@@ -32,6 +32,7 @@ pub record IsShort (n : ℕ) (s : Significant) : Type 0 where
   pub last : s.digits % 10 ≡ 0 → s.digits ≡ 0
   pub none : s.digits ≡ 0 → s.zeros ≡ 0
 
+-- what is kept of the digits of a number: at most 34 of them and the zeros behind, or that they are too many
 pub record Keeps (s : Significant) (n : ℕ) : Type 0 where
   pub short : s.is_long ≡ false → IsShort n s
   pub long : s.is_long ≡ true → IsLong n

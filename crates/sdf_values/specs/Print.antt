@@ -12,6 +12,7 @@ use Rattle.sdf_values.specs.declared.value.DictType.TheVariants as dict_type
 use Rattle.sdf_values.specs.declared.value.Value.{Value, fold-Value}
 use Rattle.sdf_values.specs.declared.value.Value.TheOpen.{Value-F, DictItem-F}
 
+-- a `-` before what is negative, and never a `+`
 abbrev pub sign_text : ℤ → List ℕ
 sign_text (pos n) = []
 sign_text (negsuc n) = codes "-"
@@ -21,6 +22,7 @@ unfoldable pub fraction_digits : ℕ → ℕ → List ℕ
 fraction_digits zero f = []
 fraction_digits (suc k) f = elim (f == 0) [ true ↦ [] | false ↦ (48 + f / 10 ^ k) ∷ fraction_digits k (f % 10 ^ k) ]
 
+-- a point and the digits behind it; where no rest is, no point
 abbrev pub fraction_text : ℕ → ℕ → List ℕ
 fraction_text k f = if f == 0 then [] else 46 ∷ fraction_digits k f
 
@@ -33,9 +35,11 @@ abbrev pub scaled_text : ℕ → ℤ → List ℕ
 scaled_text m (pos e) = decimal m ++ (if nat_le e 34 then replicate e 48 else 101 ∷ decimal e)
 scaled_text m (negsuc e) = if nat_lt e 34 then point_text (suc e) m else decimal m ++ codes "e-" ++ decimal (suc e)
 
+-- a finite number: its sign, and its digits with a point or an exponent where its power of ten asks for one
 abbrev pub decimal_text : DecimalNumber → List ℕ
 decimal_text d = sign_text d.digits ++ scaled_text (unsigned_abs d.digits) d.exp
 
+-- a number; those that are not finite are `inf`, `-inf` and `nan`
 abbrev pub num_text : Num → List ℕ
 num_text (num.Finite d) = decimal_text d
 num_text num.Inf = codes "inf"
@@ -52,9 +56,11 @@ abbrev pub whole_scaled : List ℕ → ℕ → List ℕ
 whole_scaled [] m = decimal m
 whole_scaled (z ∷ zs) m = if m % 10 ^ z == 0 then decimal (m / 10 ^ z) ++ 101 ∷ decimal z else whole_scaled zs m
 
+-- a whole number without its sign: 35 zeros or more at its end become an exponent, and zero has none
 abbrev pub magnitude_text : ℕ → List ℕ
 magnitude_text m = if m == 0 then decimal m else whole_scaled (38 ∷ 37 ∷ 36 ∷ 35 ∷ []) m
 
+-- a whole number with its sign, without a point
 abbrev pub whole_text : ℤ → List ℕ
 whole_text n = sign_text n ++ magnitude_text (unsigned_abs n)
 
@@ -62,6 +68,7 @@ whole_text n = sign_text n ++ magnitude_text (unsigned_abs n)
 abbrev pub hex_digit : ℕ → ℕ
 hex_digit n = if nat_lt n 10 then 48 + n else 87 + n
 
+-- what stands in no string as it is: the backslash, the quote and control characters
 abbrev pub is_escaped : ℕ → Bool
 is_escaped c = (c == 92) || ((c == 34) || (nat_lt c 32 || (c == 127)))
 
@@ -75,6 +82,7 @@ escape c =
     else if c == 9 then codes "\\t"
     else 92 ∷ 120 ∷ hex_digit (c / 16) ∷ hex_digit (c % 16) ∷ []
 
+-- the bytes of a string, those that may not stand there by their escapes
 abbrev pub escaped : List ℕ → List ℕ
 escaped [] = []
 escaped (c ∷ t) = (if is_escaped c then escape c else c ∷ []) ++ escaped t
@@ -87,6 +95,7 @@ quoted t = 34 ∷ escaped t ++ 34 ∷ []
 abbrev pub is_long_asset : List ℕ → Bool
 is_long_asset t = list_any (λ c. (c == 64) || (c == 10)) t
 
+-- an asset between `@`, or between `@@@` where its name has an `@` or a line feed
 abbrev pub asset_text : List ℕ → List ℕ
 asset_text t = if is_long_asset t then codes "@@@" ++ t ++ codes "@@@" else codes "@" ++ t ++ codes "@"
 
@@ -94,6 +103,7 @@ asset_text t = if is_long_asset t then codes "@@@" ++ t ++ codes "@@@" else code
 abbrev pub key_text : List ℕ → List ℕ
 key_text t = if is_name t then t else quoted t
 
+-- the type of an entry: a value type, or the word `dictionary`
 abbrev pub dict_type_text : DictType → List ℕ
 dict_type_text (dict_type.Plain t) = type_text t
 dict_type_text dict_type.Dictionary = codes "dictionary"
@@ -126,6 +136,7 @@ lines (f ∷ fs) indent = blanks indent ++ f indent ++ codes "\n" ++ lines fs in
 abbrev pub deeper : ℕ → ℕ
 deeper indent = min (indent + 1) (2 ^ 64 - 1)
 
+-- a dictionary between braces: an entry on each line, one level further in
 abbrev pub dict_text : List (ℕ → List ℕ) → ℕ → List ℕ
 dict_text fs indent = codes "{\n" ++ lines fs (deeper indent) ++ blanks indent ++ codes "}"
 

@@ -12,21 +12,25 @@ use Rattle.sdf_values.specs.declared.type_name.ElementType.{ElementType}
 use Rattle.sdf_values.specs.declared.type_name.ElementType.TheVariants as element
 use Rattle.sdf_values.specs.declared.type_name.TypeName.{TypeName}
 
+-- the name of a type of one number, with which names of tuple types begin
 abbrev pub precision_word : Precision → List ℕ
 precision_word precision.Half = codes "half"
 precision_word precision.Float = codes "float"
 precision_word precision.Double = codes "double"
 
+-- the letter behind a role, as in `point3f`
 abbrev pub precision_letter : Precision → List ℕ
 precision_letter precision.Half = codes "h"
 precision_letter precision.Float = codes "f"
 precision_letter precision.Double = codes "d"
 
+-- the digit behind the name of a tuple type, as in `float3`
 abbrev pub width_digit : Width → List ℕ
 width_digit width.Two = codes "2"
 width_digit width.Three = codes "3"
 width_digit width.Four = codes "4"
 
+-- the name of a role, without the letter of its precision
 abbrev pub role_word : Role → List ℕ
 role_word role.Point3 = codes "point3"
 role_word role.Vector3 = codes "vector3"
@@ -37,12 +41,14 @@ role_word role.TexCoord2 = codes "texCoord2"
 role_word role.TexCoord3 = codes "texCoord3"
 role_word role.Quat = codes "quat"
 
+-- the name of a matrix type; there are matrices of doubles alone
 abbrev pub matrix_word : Matrix → List ℕ
 matrix_word matrix.Matrix2 = codes "matrix2d"
 matrix_word matrix.Matrix3 = codes "matrix3d"
 matrix_word matrix.Matrix4 = codes "matrix4d"
 matrix_word matrix.Frame4 = codes "frame4d"
 
+-- the name of a type without the brackets of an array
 abbrev pub element_name : ElementType → List ℕ
 element_name element.Bool = codes "bool"
 element_name element.Uchar = codes "uchar"

@@ -10,10 +10,12 @@ use Rattle.spec_properties.specs.declared.property.Property.TheVariants.{Attr, R
 abbrev pub same_name : List ℕ → List ℕ → Bool
 same_name a b = pointwise ◌==◌ a b
 
+-- the name of an attribute or a relationship; both are named from one set of names
 abbrev pub property_name : Property → List ℕ
 property_name (Attr name ty custom uniform default samples connections meta) = name
 property_name (Rel name custom targets meta) = name
 
+-- the names of the properties, in their order
 abbrev pub property_names : List Property → List (List ℕ)
 property_names properties = map property_name properties
 

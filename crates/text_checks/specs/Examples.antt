@@ -12,6 +12,7 @@ use Rattle.text_checks.specs.Utf8.{is_utf8_layer}
 abbrev pub other_bytes : LayerTable
 other_bytes = record { head = record blank_head { sublayers = record { asset = 255 ∷ []; offset = record { offset = pos 0; scale = pos 1 } } ∷ [] }; specs = [] }
 
+-- the forms are UTF-8; the other layer can be written, and its text is not UTF-8
 pub record AreTold : Type 0 where
   pub forms_utf8 : is_utf8_layer forms ≡ true
   pub other_written : is_writable_layer other_bytes ≡ true

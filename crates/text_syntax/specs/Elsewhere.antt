@@ -39,6 +39,7 @@ IsClash edit k w d = ⊥
 abbrev pub IsPropertyClash : Draft → Type 0
 IsPropertyClash d = clashes d.property.edit d.property.marks.lists ≡ true
 
+-- the word `connect` before a list that does not go with those given of the attribute
 abbrev pub IsConnectClash : TokenKind → Draft → Type 0
 IsConnectClash (kind.Word word.Connect) d = IsPropertyClash d
 IsConnectClash k d = ⊥

@@ -26,6 +26,7 @@ use Rattle.value_texts.specs.Following.{awaited, is_formed, IsOfToken}
 abbrev pub IsAwaited : List Symbol → ValueDraft → Type 0
 IsAwaited stack v = (below : List Symbol) × (is_formed v ≡ true) × (stack ≡ awaited v ++ below)
 
+-- while a value is open, what the grammar goes on with is what the draft of the value awaits
 abbrev pub Follows : List Symbol → Draft → Type 0
 Follows stack d = is_open d.value ≡ true → IsAwaited stack d.value.draft
 

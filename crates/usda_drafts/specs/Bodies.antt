@@ -21,6 +21,7 @@ use Rattle.usda_drafts.specs.declared.draft.Draft.{Draft}
 
 -- ---- the words before a property's name
 
+-- the words before a property's name say this so far
 abbrev pub headed : Heading → Draft → Draft
 headed h d = record d { heading = h }
 
@@ -66,6 +67,7 @@ brackets_act d = Ok (headed (with_brackets d.heading) d)
 
 -- ---- the name, and what stands behind it. Where one of a kind stands twice, the refusal is at the later name.
 
+-- this property is in hand, and has its place among the properties of its owner
 abbrev pub with_name : List ℕ → ℕ → Draft → PropertyDraft → Draft
 with_name name at d p = record d { owner = with_place name d.owner; property = p; name_at = at }
 

@@ -10,6 +10,7 @@ use Rattle.usda_drafts.specs.Owners.{spec_of}
 unfoldable pub is_closed : List Element → SpecEntries → Bool
 is_closed path specs = is_some (spec_at path specs)
 
+-- with the spec of a prim or a variant at its path
 unfoldable pub with_spec_at : List Element → Spec → SpecEntries → SpecEntries
 with_spec_at path spec specs = with_spec path spec specs
 

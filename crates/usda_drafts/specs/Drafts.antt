@@ -24,9 +24,11 @@ use Rattle.usda_drafts.specs.declared.draft.OpenList.TheVariants as open_list
 use Rattle.usda_drafts.specs.declared.draft.Opening.{Opening}
 use Rattle.usda_drafts.specs.declared.draft.Draft.{Draft}
 
+-- no prim has begun
 abbrev pub no_opening : Opening
 no_opening = record { specifier = Over; type_name = None; is_too_deep = false }
 
+-- no value is expected
 abbrev pub no_aim : Aim
 no_aim = record { goal = goal.Nothing; shape = Untyped; key = []; time = pos 0 }
 

@@ -32,6 +32,7 @@ use Rattle.usda_drafts.specs.declared.draft.Draft.{Draft}
 
 -- ---- the owner
 
+-- what the owner says behind a token, or the refusal at its byte
 abbrev pub said_act : ℕ → Result OwnerDraft RefusalKind → Draft → Acted
 said_act at r d = then_with at r (with_said d)
 
@@ -47,6 +48,7 @@ key_act key at d = then_with at (owner.key_act key d.owner.said) (λ rule. aimed
 unfoldable pub variants_act : Word → Draft → Acted
 variants_act w d = then_with w.start (variants.variants_act d.owner.said) (λ said. aimed goal.Variants Dictionary (with_said d said))
 
+-- a list of this field is open, for this edit word
 abbrev pub in_field : ListField → ListEdit → Draft → OwnerDraft → Draft
 in_field field edit d said = record (with_said d said) { list = open_list.Field field; edit = edit }
 
@@ -108,6 +110,7 @@ root_act k w d = Ok d
 
 -- ---- orders of names
 
+-- the names of an order of this word follow
 abbrev pub in_order : OrderWord → Draft → OwnerDraft → Draft
 in_order word d said = record (with_said d said) { order = word }
 

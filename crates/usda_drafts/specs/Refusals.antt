@@ -8,6 +8,7 @@ use Rattle.usda_drafts.specs.declared.fault.Refused.{Refused}
 use Rattle.usda_drafts.specs.declared.fault.ActFault.{ActFault}
 use Rattle.usda_drafts.specs.declared.fault.ActFault.TheVariants as fault
 
+-- a refusal of this kind at this byte
 abbrev pub refused : RefusalKind → ℕ → Refused
 refused k at = record { kind = k; at = at }
 

@@ -28,6 +28,7 @@ use Rattle.usda_drafts.specs.declared.draft.Draft.{Draft}
 
 -- ---- what the next value is for
 
+-- where the next value goes, and what is expected of it
 abbrev pub aimed : Goal → Shape → Draft → Draft
 aimed g shape d = record d { aim = record d.aim { goal = g; shape = shape } }
 
@@ -78,6 +79,7 @@ is_selections g = false
 abbrev pub with_said : Draft → OwnerDraft → Draft
 with_said d said = record d { owner = record d.owner { said = said } }
 
+-- the draft with this property in hand
 abbrev pub with_property : Draft → PropertyDraft → Draft
 with_property d p = record d { property = p }
 
@@ -99,6 +101,7 @@ after_token (Ok v) at d = if is_open v then Ok (record d { value = v }) else com
 unfoldable pub token_act : Word → Draft → Acted
 token_act w d = after_token (given d.owner.said.base w.token w.text d.value) w.start d
 
+-- a value is open, of which the aim says what is expected; that of `variants` is a dictionary of strings
 abbrev pub with_value_begun : Draft → Draft
 with_value_begun d = record d { value = opened d.aim.shape (is_selections d.aim.goal) }
 

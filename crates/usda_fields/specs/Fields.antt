@@ -42,27 +42,33 @@ text_field word = if pointwise ◌==◌ word (codes "variantSets") then VariantS
 
 -- ---- the lists of a field
 
+-- the list edits of `inherits` or of `specializes`
 abbrev pub paths_at : PathField → OwnerDraft → ListOp (List Element)
 paths_at Inherits d = d.spec.arcs.inherits
 paths_at Specializes d = d.spec.arcs.specializes
 
+-- with these list edits of `inherits` or of `specializes`
 abbrev pub with_paths : PathField → ListOp (List Element) → OwnerDraft → OwnerDraft
 with_paths Inherits op d = record d { spec = record d.spec { arcs = record d.spec.arcs { inherits = op } } }
 with_paths Specializes op d = record d { spec = record d.spec { arcs = record d.spec.arcs { specializes = op } } }
 
+-- the list edits of `references` or of `payload`
 abbrev pub items_at : ReferenceField → OwnerDraft → ListOp RefItem
 items_at References d = d.spec.arcs.references
 items_at Payload d = d.spec.arcs.payloads
 
+-- with these list edits of `references` or of `payload`
 abbrev pub with_items : ReferenceField → ListOp RefItem → OwnerDraft → OwnerDraft
 with_items References op d = record d { spec = record d.spec { arcs = record d.spec.arcs { references = op } } }
 with_items Payload op d = record d { spec = record d.spec { arcs = record d.spec.arcs { payloads = op } } }
 
+-- the list edits of `variantSets`, `apiSchemas` or `clipSets`
 abbrev pub texts_at : TextField → OwnerDraft → ListOp (List ℕ)
 texts_at VariantSets d = d.spec.arcs.variant_sets
 texts_at ApiSchemas d = d.spec.body.api_schemas
 texts_at ClipSets d = d.spec.body.clip_sets
 
+-- with these list edits of `variantSets`, `apiSchemas` or `clipSets`
 abbrev pub with_texts : TextField → ListOp (List ℕ) → OwnerDraft → OwnerDraft
 with_texts VariantSets op d = record d { spec = record d.spec { arcs = record d.spec.arcs { variant_sets = op } } }
 with_texts ApiSchemas op d = record d { spec = record d.spec { body = record d.spec.body { api_schemas = op } } }
@@ -70,6 +76,7 @@ with_texts ClipSets op d = record d { spec = record d.spec { body = record d.spe
 
 -- ---- which lists were given
 
+-- which lists of a field were given: the explicit one, and those of edit words
 abbrev pub given_at : ListField → OwnerMarks → GivenLists
 given_at (list.Paths Inherits) m = m.inherits
 given_at (list.Paths Specializes) m = m.specializes
@@ -79,6 +86,7 @@ given_at (list.Texts VariantSets) m = m.variant_sets
 given_at (list.Texts ApiSchemas) m = m.api_schemas
 given_at (list.Texts ClipSets) m = m.clip_sets
 
+-- with these lists of a field marked as given
 abbrev pub with_given_at : ListField → GivenLists → OwnerMarks → OwnerMarks
 with_given_at (list.Paths Inherits) g m = record m { inherits = g }
 with_given_at (list.Paths Specializes) g m = record m { specializes = g }

@@ -22,6 +22,7 @@ use Rattle.usda_fields.specs.Names.{text_of}
 use Rattle.usda_fields.specs.declared.keys.KeyRule.{KeyRule}
 use Rattle.usda_fields.specs.declared.keys.KeyRule.TheVariants.{Relocates, Comment, Boolean, DefaultPrim, Free}
 
+-- the key of a string that stands alone
 abbrev pub comment_key : List ℕ
 comment_key = codes "comment"
 

@@ -38,11 +38,13 @@ no_marks = record {
 abbrev pub owner_at : List Element → Specifier → OwnerDraft
 owner_at path specifier = record { path = path; base = plain path; spec = blank_spec specifier; given = no_marks }
 
+-- the owner behind a token, or the kind of its refusal
 abbrev pub Acted : Type 0
 Acted = Result OwnerDraft RefusalKind
 
 -- ---- metadata
 
+-- the owner with this metadata
 abbrev pub with_meta : MetaEntries → OwnerDraft → OwnerDraft
 with_meta meta d = record d { spec = record d.spec { body = record d.spec.body { meta = meta } } }
 

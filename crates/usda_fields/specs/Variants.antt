@@ -28,6 +28,7 @@ is_behind_type place.TypeEnd = true
 is_behind_type place.Key = true
 is_behind_type p = false
 
+-- the type `string`; `token` is another type
 abbrev pub is_string_element : ElementType → Bool
 is_string_element element.String = true
 is_string_element e = false
@@ -56,9 +57,11 @@ said_step (Value-F.Text text) = record { text = Some text; entries = [] }
 said_step (Value-F.Dict entries) = record { text = None; entries = entries }
 said_step v = record { text = None; entries = [] }
 
+-- the set of an entry, and its variant where the value is a string
 abbrev pub said_item : DictItem-F Said (List ℕ × Option (List ℕ)) → List ℕ × Option (List ℕ)
 said_item item = (item.key, item.value.text)
 
+-- what a whole value says of variants
 abbrev pub said : Value → Said
 said v = fold-Value Said (List ℕ × Option (List ℕ)) said_step said_item v
 
@@ -67,6 +70,7 @@ abbrev pub with_selection : List ℕ → Option (List ℕ) → SelectionEntries 
 with_selection set None selections = selections
 with_selection set (Some variant) selections = with_key text_cmp set variant selections
 
+-- the selections of all entries, one for each set
 abbrev pub with_selections : List (List ℕ × Option (List ℕ)) → SelectionEntries → SelectionEntries
 with_selections [] selections = selections
 with_selections (e ∷ entries) selections = with_selections entries (with_selection e.0 e.1 selections)

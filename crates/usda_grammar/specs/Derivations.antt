@@ -10,6 +10,7 @@ pub data Derivation : Type 0 where
   skips : Derivation → Derivation
   takes : Derivation → Derivation
 
+-- the tokens come from the symbols so: a symbol is absent only where it may be, and takes only a token that it begins with
 abbrev pub Derives : Derivation → List Symbol → List TokenKind → Type 0
 Derives ends [] [] = Unit {0}
 Derives ends [] (k ∷ ks) = ⊥

@@ -12,12 +12,15 @@ abbrev pub failing : List Symbol → ℕ → List TokenKind → Option ℕ
 failing stack n [] = elim (is_done stack) [ true ↦ None | false ↦ Some n ]
 failing stack n (k ∷ ks) = elim (step stack k) [ None ↦ Some n | Some next ↦ failing next.1 (n + 1) ks ]
 
+-- the tokens are a text of the grammar
 abbrev pub IsText : List TokenKind → Type 0
 IsText ks = failing layer 0 ks ≡ None
 
+-- the token at this place, or the end, is the first with which no text of the grammar goes on
 abbrev pub FailsAt : ℕ → List TokenKind → Type 0
 FailsAt n ks = failing layer 0 ks ≡ Some n
 
+-- a name as a token of the grammar
 abbrev pub w : List ℕ → TokenKind
 w t = kind_of_word t
 
@@ -29,6 +32,7 @@ with_body ks = w (codes "def") ∷ Quoted ∷ OpenBrace ∷ ks ++ CloseBrace ∷
 abbrev pub with_metadata : List TokenKind → List TokenKind
 with_metadata ks = w (codes "over") ∷ Quoted ∷ OpenParen ∷ ks ++ CloseParen ∷ OpenBrace ∷ CloseBrace ∷ []
 
+-- texts of the grammar, and where others leave it
 pub record AreTold : Type 0 where
   pub nothing : IsText []
   -- ("doc" subLayers = [@a@ (offset = 1; scale = 2), @b@,]; upAxis = "Y")

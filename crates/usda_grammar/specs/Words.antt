@@ -6,9 +6,11 @@ use Rattle.usda_grammar.specs.declared.kinds.Keyword.TheVariants as word
 use Rattle.usda_grammar.specs.declared.kinds.TokenKind.{TokenKind}
 use Rattle.usda_grammar.specs.declared.kinds.TokenKind.TheVariants as token
 
+-- the name is this word, byte by byte
 abbrev pub is : List ℕ → List ℕ → Bool
 is text w = pointwise ◌==◌ text w
 
+-- the specifiers, the edit words, and the words of variants
 abbrev pub prim_word : List ℕ → Option Keyword
 prim_word t =
     if is t (codes "def") || is t (codes "over") || is t (codes "class") then Some word.Specifier
@@ -18,6 +20,7 @@ prim_word t =
     else if is t (codes "variantSet") then Some word.VariantSet
     else None
 
+-- the flags, `rel`, and the words that stand behind the `.` of an attribute
 abbrev pub property_word : List ℕ → Option Keyword
 property_word t =
     if is t (codes "custom") then Some word.Custom
@@ -28,6 +31,7 @@ property_word t =
     else if is t (codes "spline") then Some word.Spline
     else None
 
+-- the fields whose lists are edited, by what their items are, and the orders of names of a prim
 abbrev pub field_word : List ℕ → Option Keyword
 field_word t =
     if is t (codes "variantSets") || is t (codes "apiSchemas") || is t (codes "clipSets") then Some word.StringField
@@ -36,6 +40,7 @@ field_word t =
     else if is t (codes "nameChildren") || is t (codes "properties") then Some word.OrderedField
     else None
 
+-- the words of a layer, and `None` and `dictionary`
 abbrev pub layer_word : List ℕ → Option Keyword
 layer_word t =
     if is t (codes "subLayers") then Some word.SubLayers
@@ -52,5 +57,6 @@ or_else None rest = rest
 abbrev pub keyword_of : List ℕ → Keyword
 keyword_of t = or_else (prim_word t) (or_else (property_word t) (or_else (field_word t) (or_else (layer_word t) word.Other)))
 
+-- a name as a token of the grammar
 abbrev pub kind_of_word : List ℕ → TokenKind
 kind_of_word t = token.Word (keyword_of t)

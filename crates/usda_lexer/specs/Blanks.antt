@@ -67,6 +67,7 @@ abbrev pub has_no_end : List ℕ → Bool
 has_no_end [] = true
 has_no_end (c ∷ cs) = if c == 42 && begins 47 cs then false else has_no_end cs
 
+-- a blank, a comment without a line feed behind `#` or `//`, or one without `*/` before its end
 abbrev pub is_piece : Piece → Bool
 is_piece (blank c) = is_blank c
 is_piece (hash text) = is_one_line text
@@ -80,6 +81,7 @@ piece_bytes (hash text) = 35 ∷ text
 piece_bytes (slashes text) = 47 ∷ 47 ∷ text
 piece_bytes (block text) = 47 ∷ 42 ∷ text ++ 42 ∷ 47 ∷ []
 
+-- the bytes of the pieces, one behind the other
 abbrev pub pieces_bytes : List Piece → List ℕ
 pieces_bytes [] = []
 pieces_bytes (p ∷ ps) = piece_bytes p ++ pieces_bytes ps

@@ -4,6 +4,7 @@ use Rattle.std.specs.List.{prefix_len}
 use Rattle.sdf_values.specs.NumberTexts.{is_digit, is_sign, is_mark}
 use Rattle.usda_lexer.specs.Blanks.{begins}
 
+-- how many digits stand in front
 abbrev pub digits_len : List ℕ → ℕ
 digits_len = prefix_len is_digit
 
@@ -34,6 +35,7 @@ mantissa_len bytes = pointed_len (digits_len bytes) (drop (digits_len bytes) byt
 abbrev pub scaled_len : ℕ → ℕ → List ℕ → ℕ
 scaled_len sign mantissa bytes = if mantissa == 0 then 0 else sign + mantissa + exponent_len (drop mantissa bytes)
 
+-- how long a number is whose sign has so many bytes; 0 where no digits follow the sign
 abbrev pub behind_sign_len : ℕ → List ℕ → ℕ
 behind_sign_len sign bytes = scaled_len sign (mantissa_len bytes) bytes
 

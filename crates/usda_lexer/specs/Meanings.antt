@@ -18,6 +18,7 @@ hexadecimal c =
     else if nat_le 65 c && nat_le c 70 then Some (c - 55)
     else None
 
+-- `0` to `7`
 abbrev pub is_octal : ℕ → Bool
 is_octal c = nat_le 48 c && nat_le c 55
 
@@ -27,6 +28,7 @@ two_digits (Some h) (Some l) = record { byte = h * 16 + l; len = 3 }
 two_digits (Some h) None = record { byte = 120; len = 1 }
 two_digits None l = record { byte = 120; len = 1 }
 
+-- the value of the hexadecimal digit in front, where one stands there
 abbrev pub digit_at : List ℕ → Option ℕ
 digit_at [] = None
 digit_at (c ∷ cs) = hexadecimal c
@@ -70,6 +72,7 @@ quotes_len (c ∷ cs) = if begins_twice c cs then 3 else 1
 abbrev pub string_bytes_of : List ℕ → List ℕ
 string_bytes_of text = unescaped 0 false (inside (quotes_len text) text)
 
+-- the bytes as a text, where they are UTF-8
 abbrev pub if_utf8 : List ℕ → Option (List ℕ)
 if_utf8 bytes = if is_utf8 bytes then Some bytes else None
 

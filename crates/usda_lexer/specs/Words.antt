@@ -25,6 +25,7 @@ pub record Word : Type 0 where
   pub start : ℕ
   pub end : ℕ
 
+-- a token of the code, without where it lies in memory
 abbrev pub word_of : Token → Word
 word_of t = record { kind = t.kind; text = t.text.now; start = t.start; end = t.end }
 
@@ -33,6 +34,7 @@ pub record Lexing : Type 0 where
   pub words : List Word
   pub fault : Option LexFault
 
+-- the mark that a byte is, one of `( ) { } [ ] = , ; : .`
 abbrev pub mark_of : ℕ → Option Mark
 mark_of c =
     if c == 40 then Some OpenParen else if c == 41 then Some CloseParen
@@ -46,10 +48,12 @@ mark_of c =
 abbrev pub Found : Type 0
 Found = Result (TokenKind × ℕ) LexFault
 
+-- a string, an asset or a path without its end is a fault at its first byte
 abbrev pub if_closed : ℕ → TokenKind → Option ℕ → Found
 if_closed at k None = Err (Unclosed at)
 if_closed at k (Some n) = Ok (k, n)
 
+-- a byte that begins no token is a fault
 abbrev pub if_mark : ℕ → Option Mark → Found
 if_mark at None = Err (BadByte at)
 if_mark at (Some m) = Ok (kind.Mark m, 1)
@@ -97,10 +101,12 @@ abbrev pub cut : ℕ → List ℕ → Found → Result (Option Word) LexFault
 cut at bytes (Err e) = Err e
 cut at bytes (Ok f) = Ok (Some (record { kind = f.0; text = take f.1 bytes; start = at; end = at + f.1 }))
 
+-- the token that begins at this place; none at the end of the source
 abbrev pub word_in_front : ℕ → List ℕ → Result (Option Word) LexFault
 word_in_front at [] = Ok None
 word_in_front at (c ∷ cs) = cut at (c ∷ cs) (found at (c ∷ cs))
 
+-- the token behind blanks and comments; a comment without its end is a fault at its first byte
 abbrev pub word_behind : ℕ → List ℕ → Result ℕ ℕ → Result (Option Word) LexFault
 word_behind at bytes (Ok n) = word_in_front (at + n) (drop n bytes)
 word_behind at bytes (Err n) = Err (Unclosed (at + n))

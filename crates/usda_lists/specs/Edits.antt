@@ -17,6 +17,7 @@ edit_of word =
     else if pointwise ◌==◌ word (codes "reorder") then Reorder
     else Explicit
 
+-- no list of the field has been given
 abbrev pub none_given : GivenLists
 none_given = record { explicit = false; deleted = false; added = false; prepended = false; appended = false; ordered = false }
 
@@ -38,6 +39,7 @@ is_given Prepend g = g.prepended
 is_given Append g = g.appended
 is_given Reorder g = g.ordered
 
+-- the list of this edit word, or the explicit one, is given as well
 abbrev pub with_given : ListEdit → GivenLists → GivenLists
 with_given Explicit g = record g { explicit = true }
 with_given Delete g = record g { deleted = true }

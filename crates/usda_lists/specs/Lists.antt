@@ -8,6 +8,7 @@ use Rattle.usda_lists.specs.Acts.{and_then}
 use Rattle.usda_lists.specs.declared.edit.ListEdit.{ListEdit}
 use Rattle.usda_lists.specs.declared.edit.ListEdit.TheVariants.{Explicit, Delete, Add, Prepend, Append, Reorder}
 
+-- the items of an explicit list; none where there is no such list
 abbrev pub items_or_none : {T : Type 0} → Option (List T) → List T
 items_or_none (Some items) = items
 items_or_none None = []
@@ -42,6 +43,7 @@ push_item edit item op = with_list edit (list_at edit op ++ item ∷ []) op
 abbrev pub close_list : {T : Type 0} → (T → T → Bool) → ListEdit → ListOp T → ListOp T
 close_list same edit op = with_list edit (firsts same (list_at edit op)) op
 
+-- the last item changed and those before it kept; where there is no item nothing is changed
 abbrev pub amended : {T : Type 0} → (T → Result T RefusalKind) → Option T → List T → Result (List T) RefusalKind
 amended change None items = Ok items
 amended change (Some item) items = and_then (change item) (λ new. Ok (front items ++ new ∷ []))

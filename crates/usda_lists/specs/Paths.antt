@@ -10,6 +10,7 @@ use Rattle.sdf_paths.specs.declared.reader.Reader.{Reader}
 use Rattle.usda_lexer.specs.Blanks.{begins}
 use Rattle.usda_values.specs.PathTexts.{begins_up}
 
+-- the path that has been read, where the text may end there
 abbrev pub finished : Option Reader → Option (List Element)
 finished None = None
 finished (Some r) = finish r

@@ -55,9 +55,11 @@ sublayer_of text = record { asset = asset_text text; offset = identity }
 abbrev pub sublayer_number : OffsetKey → List ℕ → SubLayer → Result SubLayer RefusalKind
 sublayer_number key text sublayer = and_then (offset_act key text sublayer.offset) (λ offset. Ok (record sublayer { offset = offset }))
 
+-- two texts have the same bytes
 abbrev pub same_text : List ℕ → List ℕ → Bool
 same_text a b = pointwise ◌==◌ a b
 
+-- two paths have the same elements
 abbrev pub same_path : List Element → List Element → Bool
 same_path a b = pointwise same_element a b
 

@@ -22,6 +22,7 @@ use Rattle.usda_lists.specs.References.{same_text, same_path, same_offset, same_
 use Rattle.usda_lists.specs.contracts.repeats.OrderedItemPartialEq.TheImpl.{ghosts as item_eq}
 use Rattle.usda_lists.specs.contracts.repeats.OrderedItemOrd.TheImpl.{ghosts as item_order}
 
+-- the derived equality of elements is the readable one
 pub element_is : (x y : Element) → element_eq.eq x y ≡ same_element x y
 element_is (Prim a) (Prim b) = refl
 element_is (Prim a) (Property b) = refl
@@ -36,9 +37,11 @@ element_is (Selection s v) (Selection t w) = refl
 element_fun : ◌≡◌ {A = Element → Element → Bool} element_eq.eq same_element
 element_fun = λ i x y. element_is x y i
 
+-- the derived equality of paths is the readable one
 pub path_is : ◌≡◌ {A = List Element → List Element → Bool} path_eq.eq same_path
 path_is = ap pointwise element_fun
 
+-- the derived equality of items of references is the readable one
 pub item_is : ◌≡◌ {A = RefItem → RefItem → Bool} item_eq.eq same_item
 item_is = ap (λ (same : List Element → List Element → Bool). λ (x y : RefItem).
     option_eq same_text x.asset y.asset && (option_eq same x.path y.path && same_offset x.offset y.offset)) path_is
@@ -46,6 +49,7 @@ item_is = ap (λ (same : List Element → List Element → Bool). λ (x y : RefI
 offset_equal : (a b : Offset) → same_offset a b ≡ true → a ≡ b
 offset_equal a b h = search rules
 
+-- items of references that the derived equality takes for one are one
 pub item_equal : (x y : RefItem) → item_eq.eq x y ≡ true → x ≡ y
 item_equal x y h =
     let rest = option_eq path_eq.eq x.path y.path && same_offset x.offset y.offset in
@@ -59,6 +63,7 @@ item_equal x y h =
 offset_tie : (a b : Offset) → offset_order.cmp a b ≡ Equal → a ≡ b
 offset_tie a b h = search rules
 
+-- items of references that the derived `Ord` takes for equal are one
 pub item_tie : (x y : RefItem) → item_order.cmp x y ≡ Equal → x ≡ y
 item_tie x y h =
     let rest = ordering_then (option_cmp path_order.cmp x.path y.path) (offset_order.cmp x.offset y.offset) in

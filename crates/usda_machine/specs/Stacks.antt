@@ -3,6 +3,7 @@ use Rattle.std.specs.Prelude.{◌≡◌, List, [], ◌∷◌, Option, Some, None
 use Rattle.std.specs.declared.alloc.AllocError.{AllocError}
 use Rattle.usda_grammar.specs.declared.symbols.Symbol.{Symbol}
 
+-- symbols put above others one by one, so that the last of them is the innermost
 abbrev pub onto : List Symbol → List Symbol → List Symbol
 onto below [] = below
 onto below (s ∷ ss) = onto (s ∷ below) ss

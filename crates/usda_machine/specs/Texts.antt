@@ -17,6 +17,7 @@ module _ {Word Draft Refusal : Type 0} (kind : Word → TokenKind) (act : Symbol
   Makes (takes t) (s ∷ stack) d [] left out = ⊥
   Makes (takes t) (s ∷ stack) d (w ∷ ws) left out = (after : List Symbol) × (next : Draft) × (starts s (kind w) ≡ Some after) × (act s w d ≡ Ok next) × Makes t (after ++ stack) next ws left out
 
+  -- what the words are to the grammar
   abbrev pub kinds : List Word → List TokenKind
   kinds ws = map kind ws
 
@@ -66,6 +67,7 @@ module _ {Word Draft Refusal : Type 0} (kind : Word → TokenKind) (act : Symbol
       pub refusal : r ≡ refused_as None
       pub none : AreText layer (kinds ws) → ⊥
 
+    -- the first refusal is at a word, or at the end
     abbrev pub HaveFirstRefusal : List Word → Refusal → Type 0
     HaveFirstRefusal ws r = IsAtWord ws r ⊎ IsAtEnd ws r
 

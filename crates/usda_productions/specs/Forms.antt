@@ -42,6 +42,7 @@ pub data Rule : Type 0 where
   name_list : Rule
 
 mutual
+  -- a form: what may stand at a place of a text
   pub data Form : Type 0 where
     -- a word of some kinds, which adds what this symbol says
     one : Symbol → (TokenKind → Bool) → Form
@@ -56,10 +57,12 @@ mutual
     -- symbol is that of the next one, or of the mark behind a comma; the second is that of a comma, or of the mark behind an item.
     more : Symbol → Symbol → Form → TokenKind → Form
 
+  -- forms one behind the other
   pub data Seq : Type 0 where
     nil : Seq
     then : Form → Seq → Seq
 
+-- the forms of a sequence, in their order
 abbrev pub list_of : Seq → List Form
 list_of nil = []
 list_of (then f s) = f ∷ list_of s
@@ -74,6 +77,7 @@ infixr 15 ◌∣◌
 abbrev pub ◌∣◌ : Seq → Seq → Seq
 a ∣ b = then (either a b) nil
 
+-- one form alone
 abbrev pub just : Form → Seq
 just f = then f nil
 
@@ -85,6 +89,7 @@ tok s k = one s (is k)
 abbrev pub wrd : Symbol → Keyword → Form
 wrd s w = one s (is (token.Word w))
 
+-- any name, also one that is a word of the grammar elsewhere
 abbrev pub any_name : Symbol → Form
 any_name s = one s is_name
 
@@ -117,6 +122,7 @@ close_paren = tok symbol.CloseParen token.CloseParen
 abbrev pub close_brace : Form
 close_brace = tok symbol.CloseBrace token.CloseBrace
 
+-- one `;`, or none
 abbrev pub semicolon : Form
 semicolon = maybe (tok symbol.MaybeSemicolon token.Semicolon ▹ nil)
 

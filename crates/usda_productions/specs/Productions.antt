@@ -9,6 +9,7 @@ use Rattle.usda_productions.specs.Refusals.{HaveFirstRefusal}
 use Rattle.usda_productions.specs.Rules.{layer_forms}
 use Rattle.usda_productions.specs.Texts.{IsText, MakeBy}
 
+-- the texts of the table and those of the productions are the same
 pub record TableIsProductions : Type 0 where
   pub written : (ks : List TokenKind) → AreText layer ks → IsText layer_forms ks
   pub read : (ks : List TokenKind) → IsText layer_forms ks → AreText layer ks

@@ -49,5 +49,6 @@ module _ {Word Draft Refusal : Type 0} (kind : Word → TokenKind) (act : Symbol
     pub refusal : r ≡ refused_as None
     pub none : IsText layer_forms (map kind ws) → ⊥
 
+  -- the first refusal is at a word, or at the end
   abbrev pub HaveFirstRefusal : List Word → Refusal → Type 0
   HaveFirstRefusal ws r = IsAtWord ws r ⊎ IsAtEnd ws r

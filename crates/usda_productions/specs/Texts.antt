@@ -7,6 +7,7 @@ use Rattle.usda_productions.specs.Tokens.{is}
 use Rattle.usda_productions.specs.Forms.{Form, one, rule, either, maybe, many, more, commas, list_of, just}
 use Rattle.usda_productions.specs.Rules.{rules}
 
+-- the two ways in which a form may be opened
 pub data Choice : Type 0 where
   left : Choice
   right : Choice

@@ -28,6 +28,7 @@ word_number word.NoneWord = 17
 word_number word.Dictionary = 18
 word_number word.Other = 19
 
+-- no two kinds have one number
 abbrev pub number_of : TokenKind → ℕ
 number_of (token.Word w) = word_number w
 number_of token.Number = 100
@@ -47,9 +48,11 @@ number_of token.Colon = 113
 number_of token.Dot = 114
 number_of token.Fault = 115
 
+-- two kinds are one
 abbrev pub is : TokenKind → TokenKind → Bool
 is j k = number_of j == number_of k
 
+-- a name, whether it is a word of the grammar or not
 abbrev pub is_name : TokenKind → Bool
 is_name k = nat_lt (number_of k) 100
 
@@ -58,6 +61,7 @@ abbrev pub is_name_but : List Keyword → TokenKind → Bool
 is_name_but [] k = is_name k
 is_name_but (w ∷ ws) k = not (is (token.Word w) k) && is_name_but ws k
 
+-- `delete`, `add`, `prepend`, `append` or `reorder`
 abbrev pub is_edit_word : TokenKind → Bool
 is_edit_word k = is (token.Word word.Edit) k || is (token.Word word.Reorder) k
 
@@ -69,5 +73,6 @@ is_key k = is_name k || is token.Quoted k
 abbrev pub is_literal : TokenKind → Bool
 is_literal k = is_name k || is token.Number k || is token.Quoted k || is token.Asset k || is token.Path k
 
+-- what may stand behind an entry of a dictionary: one `;` or `,`
 abbrev pub is_separator : TokenKind → Bool
 is_separator k = is token.Semicolon k || is token.Comma k

@@ -11,6 +11,7 @@ abbrev pub is_blank_line : List ℕ → Bool
 is_blank_line [] = true
 is_blank_line (c ∷ cs) = if c == 10 then true else if (c == 32) || (c == 9) || (c == 13) then is_blank_line cs else false
 
+-- the bytes begin with these
 abbrev pub begins_with : List ℕ → List ℕ → Bool
 begins_with word bytes = bytes_eq (take (length word) bytes) word
 
@@ -30,6 +31,7 @@ foreign_check bytes =
     else if begins_with archive_mark bytes then Some (refused Package 0)
     else None
 
+-- another first line is refused at the start of the text
 unfoldable pub header_check : List ℕ → Option Refused
 header_check bytes = if has_header bytes then None else Some (refused BadHeader 0)
 
@@ -37,6 +39,7 @@ header_check bytes = if has_header bytes then None else Some (refused BadHeader 
 unfoldable pub text_check : List ℕ → Option Refused
 text_check bytes = if is_utf8 bytes then header_check bytes else Some (refused NotUtf8 (utf8_valid_len bytes))
 
+-- the first refusal, where there is one, and else the second
 abbrev pub some_or : Option Refused → Option Refused → Option Refused
 some_or (Some r) other = Some r
 some_or None other = other

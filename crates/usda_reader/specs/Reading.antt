@@ -25,10 +25,12 @@ run_from end stack d ws = run kind_of act (syntax_at end) stack d ws
 unfoldable pub draft_of : List ℕ → Result Draft Refused
 draft_of bytes = run_from (length bytes) layer blank (words_of bytes)
 
+-- what is judged over all bytes comes before any word
 abbrev pub unless_refused : Option Refused → Result Draft Refused → Result Draft Refused
 unless_refused (Some r) d = Err r
 unless_refused None d = d
 
+-- the layer of the draft, or the refusal with its line and column
 abbrev pub layer_in : List ℕ → Result Draft Refused → Result LayerTable Refusal
 layer_in bytes (Ok d) = Ok (layer_of d)
 layer_in bytes (Err r) = Err (refusal_at bytes r)

@@ -15,9 +15,11 @@ use Rattle.usda_statements.specs.declared.heading.Heading.{Heading}
 abbrev pub begun : ListEdit → Heading
 begun edit = record { edit = edit; custom = false; uniform = false; ty = None }
 
+-- the word `custom`
 abbrev pub with_custom : Heading → Heading
 with_custom h = record h { custom = true }
 
+-- the word is `uniform`
 abbrev pub is_uniform_word : List ℕ → Bool
 is_uniform_word word = pointwise ◌==◌ word (codes "uniform")
 
@@ -25,12 +27,15 @@ is_uniform_word word = pointwise ◌==◌ word (codes "uniform")
 abbrev pub with_variability : List ℕ → Heading → Heading
 with_variability word h = record h { uniform = is_uniform_word word }
 
+-- the word `rel`: a relationship has no type
 abbrev pub as_relationship : Heading → Heading
 as_relationship h = record h { ty = None }
 
+-- a type that is no array, until brackets stand behind it
 abbrev pub one_of : ElementType → TypeName
 one_of e = record { element = e; array = false }
 
+-- a word that names no type is refused
 abbrev pub of_element : Option ElementType → Heading → Result Heading RefusalKind
 of_element None h = Err UnknownType
 of_element (Some e) h = Ok (record h { ty = Some (one_of e) })
@@ -39,6 +44,7 @@ of_element (Some e) h = Ok (record h { ty = Some (one_of e) })
 abbrev pub with_type : List ℕ → Heading → Result Heading RefusalKind
 with_type word h = of_element (find_element ELEMENTS word) h
 
+-- the type as one of arrays
 abbrev pub array_of : Option TypeName → Option TypeName
 array_of None = None
 array_of (Some t) = Some (record { element = t.element; array = true })

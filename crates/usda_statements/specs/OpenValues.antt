@@ -20,9 +20,11 @@ use Rattle.usda_statements.specs.declared.open_value.OpenValue.{OpenValue}
 abbrev pub no_draft : ValueDraft
 no_draft = draft_of place.Complete Untyped
 
+-- no value is open, and no selections are expected
 abbrev pub no_value : OpenValue
 no_value = record { draft = no_draft; only_strings = false }
 
+-- the value is not read to its end
 abbrev pub is_open : OpenValue → Bool
 is_open v = not (is_complete v.draft)
 
@@ -35,6 +37,7 @@ abbrev pub given_token : Bool → TokenKind → List ℕ → ValueDraft → Acte
 given_token true k text d = token_act k text d
 given_token false k text d = value_act k text d
 
+-- a path of the value, once it is put behind its owner's; one that is no path there is refused
 abbrev pub given_path : Bool → Option (List ℕ) → ValueDraft → Acted
 given_path only_strings None d = Err Syntax
 given_path only_strings (Some token) d = given_token only_strings form.Path token d
@@ -44,6 +47,7 @@ abbrev pub given_in : List Element → Bool → TokenKind → List ℕ → Value
 given_in base only_strings form.Path text d = given_path only_strings (absolute_from base (path_text text)) d
 given_in base only_strings k text d = given_token only_strings k text d
 
+-- the open value behind a token, or the refusal of the token
 abbrev pub with_draft : OpenValue → Acted → Result OpenValue RefusalKind
 with_draft v (Err k) = Err k
 with_draft v (Ok d) = Ok (record v { draft = d })
@@ -52,5 +56,6 @@ with_draft v (Ok d) = Ok (record v { draft = d })
 abbrev pub given : List Element → TokenKind → List ℕ → OpenValue → Result OpenValue RefusalKind
 given base k text v = with_draft v (given_in base v.only_strings k text v.draft)
 
+-- the value that was read to its end
 abbrev pub value_in : OpenValue → Value
 value_in v = value_of v.draft

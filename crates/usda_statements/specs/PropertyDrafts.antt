@@ -29,6 +29,7 @@ use Rattle.usda_statements.specs.declared.heading.Heading.{Heading}
 use Rattle.usda_statements.specs.declared.property.PropertyMarks.{PropertyMarks}
 use Rattle.usda_statements.specs.declared.property.PropertyDraft.{PropertyDraft}
 
+-- no samples and no list have been given
 abbrev pub no_marks : PropertyMarks
 no_marks = record { sampled = false; lists = none_given }
 
@@ -36,6 +37,7 @@ no_marks = record { sampled = false; lists = none_given }
 abbrev pub no_property : PropertyDraft
 no_property = record { name = []; edit = Explicit; ty = None; custom = false; uniform = false; default = None; samples = []; paths = no_edits; meta = []; marks = no_marks }
 
+-- the name is not empty
 abbrev pub is_named : List ℕ → Bool
 is_named [] = false
 is_named (c ∷ cs) = true
@@ -52,6 +54,7 @@ new_property h name = record no_property { name = name; edit = h.edit; ty = h.ty
 abbrev pub same_type : TypeName → TypeName → Bool
 same_type a b = pointwise ◌==◌ (element_name a.element) (element_name b.element) && (if a.array then b.array else not b.array)
 
+-- the words before the name say an attribute of this type
 abbrev pub is_attribute_of : TypeName → Option TypeName → Bool
 is_attribute_of t None = false
 is_attribute_of t (Some u) = same_type t u
@@ -73,6 +76,7 @@ abbrev pub joined : Heading → List ℕ → PropertyMarks → Option Property �
 joined h name marks None = Ok (new_property h name)
 joined h name marks (Some p) = joined_to h marks p
 
+-- with a type it is an attribute, without one a relationship
 abbrev pub property_of_type : Option TypeName → PropertyDraft → Property
 property_of_type (Some ty) p = Attr p.name ty p.custom p.uniform p.default p.samples p.paths p.meta
 property_of_type None p = Rel p.name p.custom p.paths p.meta
@@ -81,6 +85,7 @@ property_of_type None p = Rel p.name p.custom p.paths p.meta
 abbrev pub property_of : PropertyDraft → Property
 property_of p = property_of_type p.ty p
 
+-- the property behind a token, or the kind of its refusal
 abbrev pub Acted : Type 0
 Acted = Result PropertyDraft RefusalKind
 
@@ -88,6 +93,7 @@ Acted = Result PropertyDraft RefusalKind
 abbrev pub default_act : PropertyDraft → Acted
 default_act p = if is_some p.default then Err DuplicateSpec else Ok p
 
+-- the attribute with this default
 abbrev pub with_default : Value → PropertyDraft → PropertyDraft
 with_default v p = record p { default = Some v }
 
@@ -103,6 +109,7 @@ with_sample time v p = record p { samples = with_key int_cmp time v p.samples }
 abbrev pub list_act : PropertyDraft → Acted
 list_act p = and_then (give p.edit p.marks.lists) (λ lists. Ok (record p { paths = open_list p.edit p.paths; marks = record p.marks { lists = lists } }))
 
+-- one target or connection more; a text that is no path is refused
 abbrev pub with_path : Option (List Element) → PropertyDraft → Acted
 with_path None p = Err Syntax
 with_path (Some path) p = Ok (record p { paths = push_item p.edit path p.paths })

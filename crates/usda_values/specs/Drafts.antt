@@ -58,6 +58,7 @@ abbrev pub is_lacking : Option ℕ → Bool
 is_lacking None = false
 is_lacking (Some n) = if n == 0 then false else true
 
+-- one member more, and one fewer still to come
 abbrev pub give_member : Value → Level → Level
 give_member v l = record l { values = l.values ++ v ∷ []; room = one_fewer l.room }
 
@@ -70,6 +71,7 @@ abbrev pub give_to : Bracket → Value → Level → Level
 give_to bracket.Dict v l = give_entry v l
 give_to b v l = give_member v l
 
+-- a value goes to a level as its next member, or as the value of its open entry
 abbrev pub give : Value → Level → Level
 give v l = give_to l.bracket v l
 
@@ -80,9 +82,11 @@ behind_value bracket.Tuple = place.BehindMember
 behind_value bracket.Array = place.BehindMember
 behind_value bracket.Dict = place.BehindEntry
 
+-- the value goes to the innermost level, and what may stand behind it is awaited
 abbrev pub give_act : Value → ValueDraft → ValueDraft
 give_act v d = record d { place = behind_value d.level.bracket; level = give v d.level }
 
+-- the value that is taken goes to the innermost level; a refusal stays one
 abbrev pub given : Taken → ValueDraft → Acted
 given (Err k) d = Err k
 given (Ok v) d = Ok (give_act v d)
@@ -248,6 +252,7 @@ awaits_value place.Value = true
 awaits_value place.ValueOrEnd = true
 awaits_value p = false
 
+-- nothing of the value is still to come
 abbrev pub is_complete_at : Place → Bool
 is_complete_at place.Complete = true
 is_complete_at p = false

@@ -7,6 +7,7 @@ use Rattle.std.specs.BTreeMap.{insert_entry, is_at}
 use Rattle.std.specs.Map.{lookup}
 use Rattle.sdf_values.specs.declared.value.DictItem.{DictItem}
 
+-- entries by their keys, in byte order
 abbrev pub Table : Type 0
 Table = List (List ℕ × DictItem)
 

@@ -33,6 +33,7 @@ kind_of_fault (lexing.NotUtf8 at) p = NotUtf8
 kind_of_fault (lexing.Unclosed at) p = Syntax
 kind_of_fault (lexing.BadByte at) p = Syntax
 
+-- the byte at which a fault stands
 abbrev pub place_of_fault : LexFault → ℕ
 place_of_fault (lexing.NumberTooLong at) = at
 place_of_fault (lexing.NotUtf8 at) = at
@@ -47,6 +48,7 @@ abbrev pub no_more : Option LexFault → ℕ → Place → Reading
 no_more None end p = refused Syntax end (lexing_of [] None)
 no_more (Some f) end p = refused (kind_of_fault f p) (place_of_fault f) (lexing_of [] (Some f))
 
+-- behind a token: its refusal, the value where the token completes it, or what the next tokens make
 abbrev pub behind_act : Acted → Word → List Word → Option LexFault → (ValueDraft → Reading) → Reading
 behind_act (Err k) w ws f more = refused k w.start (lexing_of (w ∷ ws) f)
 behind_act (Ok next) w ws f more = if is_complete next then got (value_of next) (lexing_of ws f) else more next

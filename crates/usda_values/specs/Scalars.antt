@@ -45,6 +45,7 @@ is_plain_byte c = is_digit c || is_sign c
 unfoldable pub is_plain : List ℕ → Bool
 is_plain text = list_all is_plain_byte text
 
+-- the whole number where there is one, and else the number as it is
 abbrev pub whole_or : Num → Option ℤ → Value
 whole_or x (Some n) = value.Whole n
 whole_or x None = value.Number x
@@ -98,6 +99,7 @@ if_time units = if nat_le (unsigned_abs units) (10 ^ 30) then Some units else No
 unfoldable pub time_of : DecimalNumber → Option ℤ
 time_of d = if int_le (negsuc 17) d.exp then if_time (d.digits *ℤ pos (10 ^ natural (d.exp +ℤ pos 18))) else None
 
+-- the number is negative
 abbrev pub is_below_zero : ℤ → Bool
 is_below_zero (pos n) = false
 is_below_zero (negsuc n) = true

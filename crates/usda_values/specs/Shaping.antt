@@ -18,9 +18,11 @@ use Rattle.usda_values.specs.Scalars.{Taken, take_element}
 abbrev pub Taking : Type 0
 Taking = TypeName → Taken
 
+-- all members as they are taken, or the kind of the first refusal
 abbrev pub TakenAll : Type 0
 TakenAll = Result (List Value) RefusalKind
 
+-- one member more before those that are taken
 abbrev pub before_all : Value → TakenAll → TakenAll
 before_all v (Ok vs) = Ok (v ∷ vs)
 before_all v (Err k) = Err k
@@ -37,10 +39,12 @@ take_counted zero (c ∷ cs) t = Err ValueShape
 take_counted (suc n) [] t = Err ValueShape
 take_counted (suc n) (c ∷ cs) t = elim (c t) [ Ok v ↦ before_all v (take_counted n cs t) | Err k ↦ Err k ]
 
+-- a tuple of the members as they are taken
 abbrev pub as_tuple : TakenAll → Taken
 as_tuple (Ok vs) = Ok (value.Tuple vs)
 as_tuple (Err k) = Err k
 
+-- an array of the members as they are taken
 abbrev pub as_array : TakenAll → Taken
 as_array (Ok vs) = Ok (value.Array vs)
 as_array (Err k) = Err k

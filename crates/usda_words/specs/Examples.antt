@@ -15,12 +15,15 @@ use Rattle.usda_words.specs.Words.{words_behind, at_start}
 abbrev pub token : Form → List ℕ → ℕ → Token
 token f text start = record { kind = f; text = text; start = start; end = start + length text }
 
+-- a name that begins here
 abbrev pub name : List ℕ → ℕ → Token
 name = token form.Name
 
+-- a number that begins here
 abbrev pub number : List ℕ → ℕ → Token
 number = token form.Number
 
+-- a `.` here
 abbrev pub dot : ℕ → Token
 dot = token (form.Mark mark.Dot) (codes ".")
 
@@ -92,6 +95,7 @@ pub record KeywordsAreTold : Type 0 where
   pub joined_name : IsWord (codes "rel:custom") (kind.Word word.Other)
   pub none_name : IsWord (codes "none") (kind.Word word.Other)
 
+-- blanks beside a `.`, faults, and the words of the grammar
 pub record AreTold : Type 0 where
   pub dots : DotsAreTold
   pub faults : FaultsAreTold

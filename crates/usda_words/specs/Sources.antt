@@ -19,6 +19,7 @@ pub record Source : Type 0 where
   pub before : Before
   pub is_over : Bool
 
+-- behind a fault no words are left
 abbrev pub unless_over : Bool → List Word → List Word
 unless_over true ws = []
 unless_over false ws = ws
@@ -44,6 +45,7 @@ pub record IsInSource (source : List ℕ) (at : ℕ) (w : Word) : Type 0 where
   pub end : ℕ
   pub text : w.text ≡ slice_range source w.start end
 
+-- the word that is answered stands in the source behind those that were taken
 abbrev pub StandsIn : Option SourceWord → Source → Type 0
 StandsIn (Some w) old = IsInSource old.tokens.source old.tokens.at (word_of w)
 StandsIn None old = Unit {0}

@@ -21,6 +21,7 @@ pub record Word : Type 0 where
   pub start : ℕ
   pub too_long : Bool
 
+-- each mark is a kind of its own to the grammar
 abbrev pub kind_of_mark : Mark → TokenKind
 kind_of_mark mark.OpenParen = kind.OpenParen
 kind_of_mark mark.CloseParen = kind.CloseParen
@@ -43,6 +44,7 @@ kind_of form.Asset text = kind.Asset
 kind_of form.Path text = kind.Path
 kind_of (form.Mark m) text = kind_of_mark m
 
+-- the word is a `.`
 abbrev pub is_dot : TokenKind → Bool
 is_dot kind.Dot = true
 is_dot k = false
@@ -53,9 +55,11 @@ abbrev pub if_joined : Bool → TokenKind → TokenKind
 if_joined true k = kind.Fault
 if_joined false k = k
 
+-- a `.`, and a word behind one, are at fault where they do not begin at the end of the word before
 abbrev pub kind_behind : Before → ℕ → TokenKind → TokenKind
 kind_behind before start k = if_joined ((before.is_dot || is_dot k) && not (start == before.end)) k
 
+-- the word of a token, by what stands before it
 abbrev pub word_at : Before → Token → Word
 word_at before t = record { kind = kind_behind before t.start (kind_of t.kind t.text); token = t.kind; text = t.text; start = t.start; too_long = false }
 
@@ -84,6 +88,7 @@ words_behind before (t ∷ ts) fault = word_at before t ∷ words_behind (behind
 abbrev pub at_start : Before
 at_start = record { end = 0; is_dot = false }
 
+-- the words of these tokens, and of the fault with which they end
 abbrev pub words_in : Before → Lexing → List Word
 words_in before l = words_behind before l.words l.fault
 

@@ -46,6 +46,7 @@ prim_head level name spec = codes "\n" ++ prim_title level name spec ++ spec_blo
 abbrev pub variant_head : ℕ → Text → Spec → Text
 variant_head level name spec = blanks level ++ quoted_name name ++ spec_block level spec ++ codes " {\n"
 
+-- the word before the name of a variant set
 unfoldable pub set_word : Text
 set_word = codes "variantSet "
 
@@ -59,9 +60,11 @@ module _ (specs : SpecEntries) (body : ℕ → List Element → Spec → Text) w
   child_text level name None path = []
   child_text level name (Some spec) path = prim_head level name spec ++ body (deeper level) path spec ++ line level (codes "}")
 
+  -- the child of this name below a path
   abbrev pub child_below : ℕ → List Element → Text → Text
   child_below level path name = child_text level name (spec_below specs path (Prim name)) (path ++ Prim name ∷ [])
 
+  -- the children of these names, one behind the other
   abbrev pub children_text : ℕ → List Element → List Text → Text
   children_text level path names = flat_map (child_below level path) names
 
@@ -70,9 +73,11 @@ module _ (specs : SpecEntries) (body : ℕ → List Element → Spec → Text) w
   variant_text level name None path = []
   variant_text level name (Some spec) path = variant_head level name spec ++ body (deeper level) path spec ++ line level (codes "}")
 
+  -- the variant of this name of a set
   abbrev pub variant_below : ℕ → List Element → Text → Text → Text
   variant_below level path set name = variant_text level name (spec_below specs path (Selection set name)) (path ++ Selection set name ∷ [])
 
+  -- a variant set, with its variants between braces in their order
   abbrev pub set_text : ℕ → List Element → VariantSet → Text
   set_text level path s = set_head level s.set ++ flat_map (variant_below (deeper level) path s.set) s.variants ++ line level (codes "}")
 
@@ -95,6 +100,7 @@ abbrev pub with_default_prim : Option Text → MetaEntries → MetaEntries
 with_default_prim None meta = meta
 with_default_prim (Some name) meta = with_key text_cmp (codes "defaultPrim") (value.Text name) meta
 
+-- the metadata of a layer by key, and behind it the sublayers
 abbrev pub head_lines : Head → Text
 head_lines head = meta_lines 1 (with_default_prim head.default_prim head.meta) ++ sublayer_lines 1 head.sublayers
 
@@ -103,10 +109,12 @@ abbrev pub head_block : Text → Text
 head_block [] = []
 head_block (c ∷ cs) = codes "(\n" ++ (c ∷ cs) ++ codes ")\n"
 
+-- the order of the root prims, behind an empty line; nothing where there is none
 abbrev pub root_order_text : List Text → Text
 root_order_text [] = []
 root_order_text (n ∷ ns) = codes "\n" ++ order_line 0 (codes "rootPrims") (n ∷ ns)
 
+-- the line with which each layer begins
 unfoldable pub first_line : Text
 first_line = codes "#usda 1.0\n"
 

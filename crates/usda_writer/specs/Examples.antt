@@ -19,12 +19,15 @@ use Rattle.spec_parts.specs.declared.items.Specifier.TheVariants.{Def, Over, Cla
 use Rattle.spec_properties.specs.declared.property.Property.TheVariants.{Attr, Rel}
 use Rattle.usda_writer.specs.Canonical.{canonical}
 
+-- the number `digits * 10^exp`
 abbrev pub real : ℤ → ℤ → Value
 real digits exp = value.Number (Finite (record { digits = digits; exp = exp }))
 
+-- a type that is no array
 abbrev pub one : ElementType → TypeName
 one e = record { element = e; array = false }
 
+-- a layer that says nothing
 abbrev pub empty_layer : LayerTable
 empty_layer = record { head = blank_head; specs = [] }
 
@@ -70,6 +73,7 @@ forms = record {
       ∷ [];
 }
 
+-- the canonical text of these forms
 abbrev pub forms_text : List ℕ
 forms_text =
     codes "#usda 1.0\n(\n    subLayers = [@a.usda@ (offset = 10; scale = 2), @@@b@c@@@]\n)\n"
@@ -83,6 +87,7 @@ forms_text =
     ++ codes "    variantSet \"s\" = {\n        \"x\" {\n\n            over \"k\"\n            {\n            }\n        }\n        \".y\" {\n        }\n    }\n"
     ++ codes "    variantSet \"t\" = {\n    }\n}\n"
 
+-- a layer that says nothing is the first line alone; the forms are their text
 pub record AreWritten : Type 0 where
   pub empty : canonical empty_layer ≡ codes "#usda 1.0\n"
   pub each_form : canonical forms ≡ forms_text

@@ -42,6 +42,7 @@ edit_lines level name f op =
 abbrev pub list_lines : {T : Type 0} → ℕ → Text → (T → Text) → ListOp T → Text
 list_lines level name f op = explicit_line level name f op.explicit ++ edit_lines level name f op
 
+-- the key is `comment`, whose string stands alone
 abbrev pub is_comment : Text → Bool
 is_comment key = pointwise ◌==◌ key (codes "comment")
 
@@ -61,6 +62,7 @@ meta_lines level meta = flat_map (comment_line level) meta ++ flat_map (key_line
 abbrev pub selection_item : Text × Text → DictItem
 selection_item s = record { key = s.0; ty = Plain (record { element = element.String; array = false }); value = value.Text s.1 }
 
+-- the selected variants behind the word `variants`; none have no line
 abbrev pub selection_lines : ℕ → SelectionEntries → Text
 selection_lines level [] = []
 selection_lines level (s ∷ ss) = line level (codes "variants = " ++ print (value.Dict (map selection_item (s ∷ ss))) level)

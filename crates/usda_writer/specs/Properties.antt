@@ -26,6 +26,7 @@ value_text level (Some v) = codes " = " ++ print v level
 abbrev pub sample_line : ℕ → ℤ × Value → Text
 sample_line level s = line level (time_text s.0 ++ codes ": " ++ print s.1 level ++ codes ",")
 
+-- the samples between braces, a line each in their order; without samples there is no line
 abbrev pub sample_lines : ℕ → Text → SampleEntries → Text
 sample_lines level typed [] = []
 sample_lines level typed (s ∷ ss) =
@@ -52,6 +53,7 @@ relationship_lines level named custom targets meta =
     line level (flag_text custom (codes "custom ") ++ named ++ targets_text targets.explicit ++ metadata_block level (meta_lines (deeper level) meta))
     ++ edit_lines level named path_text targets
 
+-- an attribute with its type before its name, a relationship with `rel`
 abbrev pub property_lines : ℕ → Property → Text
 property_lines level (Attr name ty custom uniform default samples connections meta) =
     attribute_lines level (type_text ty ++ codes " " ++ name) custom uniform default samples connections meta

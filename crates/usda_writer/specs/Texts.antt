@@ -10,6 +10,7 @@ use Rattle.spec_parts.specs.declared.items.Specifier.{Specifier}
 use Rattle.spec_parts.specs.declared.items.Specifier.TheVariants.{Def, Over, Class}
 use Rattle.spec_parts.specs.declared.items.SubLayer.{SubLayer}
 
+-- a text in print, as bytes
 abbrev pub Text : Type 0
 Text = List ℕ
 
@@ -22,6 +23,7 @@ abbrev pub more_items : {T : Type 0} → (T → Text) → List T → Text
 more_items f [] = []
 more_items f (x ∷ xs) = codes ", " ++ f x ++ more_items f xs
 
+-- the items of a list, with a comma and a blank between them
 abbrev pub listed : {T : Type 0} → (T → Text) → List T → Text
 listed f [] = []
 listed f (x ∷ xs) = f x ++ more_items f xs
@@ -40,6 +42,7 @@ abbrev pub explicit_list : {T : Type 0} → (T → Text) → List T → Text
 explicit_list f [] = codes "None"
 explicit_list f (x ∷ xs) = bracketed f (x ∷ xs)
 
+-- a path between `<` and `>`
 abbrev pub path_text : List Element → Text
 path_text path = codes "<" ++ printed path ++ codes ">"
 
@@ -55,6 +58,7 @@ is_one (negsuc n) = false
 abbrev pub is_identity : Offset → Bool
 is_identity o = is_zero o.offset && is_one o.scale
 
+-- both the offset and the scale stand between the brackets, unless together they change no time
 abbrev pub unless_identity : Bool → Offset → Text
 unless_identity true o = []
 unless_identity false o = codes " (offset = " ++ signed_decimal o.offset ++ codes "; scale = " ++ signed_decimal o.scale ++ codes ")"
@@ -70,12 +74,15 @@ target_text None (Some p) = path_text p
 target_text (Some a) None = asset_text a
 target_text (Some a) (Some p) = asset_text a ++ path_text p
 
+-- an item of references or payloads: what it names, and its offset
 abbrev pub reference_text : RefItem → Text
 reference_text r = target_text r.asset r.path ++ offset_text r.offset
 
+-- a sublayer: its asset and its offset
 abbrev pub sublayer_text : SubLayer → Text
 sublayer_text s = asset_text s.asset ++ offset_text s.offset
 
+-- the word of a specifier
 abbrev pub specifier_text : Specifier → Text
 specifier_text Def = codes "def"
 specifier_text Over = codes "over"

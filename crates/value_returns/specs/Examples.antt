@@ -13,6 +13,7 @@ use Rattle.value_returns.specs.Proper.{IsProperValue, IsProperKey, IsProperPrope
 abbrev pub path : List ℕ → Value
 path t = value.PathText t
 
+-- a property, a value and a key that are proper, and paths of values that are not from the root down or not as they are printed
 pub record ExamplesAreProper : Type 0 where
   -- an attribute with a sample, a connection and metadata
   pub property : IsProperProperty attribute

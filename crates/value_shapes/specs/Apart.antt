@@ -15,6 +15,7 @@ IsOfWhole n w =
     ((d : DecimalNumber) × (w ≡ value.Number (num.Finite d)) × SameNumber n (pos 0) d.digits d.exp)
     ⊎ ((units : ℤ) × (w ≡ value.Time units) × SameNumber n (pos 0) units (negsuc 17)) ⊎ ((b : Bool) × (w ≡ value.Bool b) × (n ≡ truth_number b))
 
+-- for each kind of value, all values that mean the same
 pub record AreApart : Type 0 where
   -- these mean themselves alone
   pub truth : (b : Bool) (w : Value) → SameMeaning (value.Bool b) w → w ≡ value.Bool b

@@ -10,6 +10,7 @@ use Rattle.sdf_values.specs.declared.value.Value.{Value, fold-Value}
 use Rattle.sdf_values.specs.declared.value.Value.TheOpen.{Value-F, DictItem-F}
 use Rattle.usda_values.specs.Scalars.{in_128_bits}
 
+-- zero, whose exponent is 0
 abbrev pub is_zero : DecimalNumber → Bool
 is_zero d = (unsigned_abs d.digits == 0) && (unsigned_abs d.exp == 0)
 
@@ -17,10 +18,12 @@ is_zero d = (unsigned_abs d.digits == 0) && (unsigned_abs d.exp == 0)
 abbrev pub is_form : DecimalNumber → Bool
 is_form d = nat_lt (unsigned_abs d.digits) (10 ^ 34) && (int_le (negsuc 399) d.exp && (int_le d.exp (pos 400) && (not (unsigned_abs d.digits % 10 == 0) || is_zero d)))
 
+-- `inf`, `-inf` and `nan`, and decimals in their one form
 abbrev pub is_held_number : Num → Bool
 is_held_number (num.Finite d) = is_form d
 is_held_number x = true
 
+-- one value, with whether each value inside it is held in its place
 abbrev pub held_step : Value-F Bool Bool → Bool
 held_step (Value-F.Whole n) = is_some (in_128_bits n)
 held_step (Value-F.Number x) = is_held_number x
@@ -37,5 +40,6 @@ held_item item = item.value
 abbrev pub is_held : Value → Bool
 is_held = fold-Value Bool Bool held_step held_item
 
+-- the numbers in the value of an entry are held so
 abbrev pub is_held_item : DictItem → Bool
 is_held_item = fold-DictItem Bool Bool held_step held_item

@@ -8,6 +8,7 @@ pub record Said : Type 0 where
   pub kind : TokenKind
   pub text : List ℕ
 
+-- what a token says, without its place
 abbrev pub said_of : Word → Said
 said_of w = record { kind = w.kind; text = w.text }
 

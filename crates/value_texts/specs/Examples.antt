@@ -12,6 +12,7 @@ use Rattle.usda_values.specs.declared.shape.Shape.TheVariants.{Untyped, Metadata
 use Rattle.value_texts.specs.Writable.{is_writable, is_writable_asset}
 use Rattle.value_texts.specs.Readable.{is_read_as, depth}
 
+-- the number `digits * 10^exp`
 abbrev pub number : ℤ → ℤ → Value
 number digits exp = value.Number (num.Finite (record { digits = digits; exp = exp }))
 
@@ -23,12 +24,15 @@ IsRead v untyped metadata = (is_writable v ≡ true) × (is_read_as v Untyped tr
 abbrev pub IsUnwritable : Value → Type 0
 IsUnwritable v = is_writable v ≡ false
 
+-- an entry of a dictionary
 abbrev pub entry : List ℕ → DictType → Value → DictItem
 entry key ty v = record { key = key; ty = ty; value = v }
 
+-- a type that is no array, as the type of an entry
 abbrev pub plain : ElementType → DictType
 plain e = dict.Plain (record { element = e; array = false })
 
+-- which values can be written, and which are read as themselves without a type and in metadata
 pub record AreTold : Type 0 where
   -- 5 is read as the whole number
   pub whole : IsRead (value.Whole (pos 5)) true true

@@ -66,6 +66,7 @@ awaited d = awaited_at d.place d.level.bracket ++ awaited_outside d.outer
 
 -- ---- which drafts there are
 
+-- the level is that of a tuple, an array or a dictionary, and not that of the statement
 abbrev pub is_inner : Level → Bool
 is_inner l = not (is_statement l.bracket)
 
@@ -113,6 +114,7 @@ GoesWith f text below after (Err r) = r ≡ Syntax → IsNoPath f text
 abbrev pub IsOfToken : Word → Type 0
 IsOfToken w = (w.kind ≡ kind_of w.token w.text) ⊎ (w.kind ≡ kind.Fault)
 
+-- each of the words is what its token is to the grammar, or a fault
 abbrev pub AreOfTokens : List Word → Type 0
 AreOfTokens [] = Unit {0}
 AreOfTokens (w ∷ ws) = IsOfToken w × AreOfTokens ws

@@ -24,10 +24,12 @@ abbrev pub more_texts : List (List ℕ) → List ℕ
 more_texts [] = []
 more_texts (t ∷ ts) = codes ", " ++ t ++ more_texts ts
 
+-- the texts of a list, with a comma and a blank between them
 abbrev pub listed_texts : List (List ℕ) → List ℕ
 listed_texts [] = []
 listed_texts (t ∷ ts) = t ++ more_texts ts
 
+-- a list between brackets, which it has also with one item or none
 abbrev pub bracketed_text : List (List ℕ) → List ℕ
 bracketed_text ts = codes "[" ++ listed_texts ts ++ codes "]"
 

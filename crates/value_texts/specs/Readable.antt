@@ -27,6 +27,7 @@ abbrev pub is_no_whole : Num → Bool
 is_no_whole (num.Finite d) = is_none (whole_of d)
 is_no_whole x = true
 
+-- the word is `None`, which is read as the block
 abbrev pub is_none_word : List ℕ → Bool
 is_none_word t = pointwise ◌==◌ t (codes "None")
 
@@ -34,6 +35,7 @@ is_none_word t = pointwise ◌==◌ t (codes "None")
 abbrev pub typed : Reading → TypeName → Bool
 typed r t = r (Typed t) false
 
+-- each member is read as itself where this is expected of it
 abbrev pub all_read : List Reading → Shape → Bool
 all_read [] shape = true
 all_read (r ∷ rs) shape = r shape false && all_read rs shape
@@ -59,6 +61,7 @@ untyped_step (Value-F.Array rs) = all_read rs Untyped
 untyped_step (Value-F.Dict es) = are_keys_in_order (keys_of es) && all_proper es
 untyped_step Value-F.Block = true
 
+-- in metadata a number is read as a whole one where it is whole and within 128 bits, however it is written
 abbrev pub metadata_step : Value-F Reading (List ℕ × Bool) → Bool
 metadata_step (Value-F.Whole n) = true
 metadata_step (Value-F.Number x) = is_no_whole x
@@ -91,18 +94,22 @@ abbrev pub dictionary_step : Value-F Reading (List ℕ × Bool) → Bool
 dictionary_step (Value-F.Dict es) = are_keys_in_order (keys_of es) && all_proper es
 dictionary_step v = false
 
+-- by what is expected; for a value of a type `None` may stand, but only directly behind the `=` of a statement
 abbrev pub reading_step : Value-F Reading (List ℕ × Bool) → Reading
 reading_step v Untyped is_statement = untyped_step v
 reading_step v Metadata is_statement = metadata_step v
 reading_step v (Typed t) is_statement = (is_statement && is_block_level v) || typed_step v t
 reading_step v Dictionary is_statement = dictionary_step v
 
+-- an entry: its key, and whether its value is read as itself as one of its type, for which `None` may not stand
 abbrev pub reading_item : DictItem-F Reading (List ℕ × Bool) → List ℕ × Bool
 reading_item item = (item.key, item.value (entry_shape item.ty) false)
 
+-- the value is read as itself where this is expected, directly behind the `=` of a statement or not
 abbrev pub is_read_as : Value → Shape → Bool → Bool
 is_read_as = fold-Value Reading (List ℕ × Bool) reading_step reading_item
 
+-- the key of an entry, and whether its value is read as itself there
 abbrev pub is_read_entry : DictItem → List ℕ × Bool
 is_read_entry = fold-DictItem Reading (List ℕ × Bool) reading_step reading_item
 
@@ -111,6 +118,7 @@ abbrev pub deepest : List ℕ → ℕ
 deepest [] = 0
 deepest (n ∷ ns) = max n (deepest ns)
 
+-- a tuple, an array or a dictionary is one level round the deepest of its members, also where it is empty
 abbrev pub depth_step : Value-F ℕ ℕ → ℕ
 depth_step (Value-F.Tuple ns) = suc (deepest ns)
 depth_step (Value-F.Array ns) = suc (deepest ns)
@@ -120,8 +128,10 @@ depth_step v = 0
 abbrev pub depth_item : DictItem-F ℕ ℕ → ℕ
 depth_item item = item.value
 
+-- how many tuples, arrays and dictionaries of the value are open inside each other at most
 abbrev pub depth : Value → ℕ
 depth = fold-Value ℕ ℕ depth_step depth_item
 
+-- the same of the value of an entry
 abbrev pub item_depth : DictItem → ℕ
 item_depth = fold-DictItem ℕ ℕ depth_step depth_item

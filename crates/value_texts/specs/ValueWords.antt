@@ -14,24 +14,31 @@ use Rattle.usda_lexer.specs.declared.token.Mark.TheVariants as mark
 use Rattle.usda_lexer.specs.declared.token.TokenKind.TheVariants as kind
 use Rattle.value_texts.specs.Cuts.{Said}
 
+-- a token that is a name
 abbrev pub name_said : List ℕ → Said
 name_said t = record { kind = kind.Name; text = t }
 
+-- a token that is a number
 abbrev pub number_said : List ℕ → Said
 number_said t = record { kind = kind.Number; text = t }
 
+-- a token that is a string, with its quotes
 abbrev pub string_said : List ℕ → Said
 string_said t = record { kind = kind.String; text = t }
 
+-- a token that is an asset, with its `@`
 abbrev pub asset_said : List ℕ → Said
 asset_said t = record { kind = kind.Asset; text = t }
 
+-- a token that is a path, with its `<` and `>`
 abbrev pub path_said : List ℕ → Said
 path_said t = record { kind = kind.Path; text = t }
 
+-- a token that is a mark
 abbrev pub mark_said : Mark → List ℕ → Said
 mark_said m t = record { kind = kind.Mark m; text = t }
 
+-- the marks, each with its one text
 abbrev pub open_paren : Said
 open_paren = mark_said mark.OpenParen (codes "(")
 
@@ -77,9 +84,11 @@ abbrev pub entries_said : List (List Said) → List Said
 entries_said [] = []
 entries_said (w ∷ ws) = w ++ entries_said ws
 
+-- a type is one name, and the brackets of an array are two marks
 abbrev pub type_said : TypeName → List Said
 type_said t = name_said (element_name t.element) ∷ (if t.array then open_bracket ∷ close_bracket ∷ [] else [])
 
+-- the type of an entry: a value type, or the name `dictionary`
 abbrev pub dict_type_said : DictType → List Said
 dict_type_said (dict_type.Plain t) = type_said t
 dict_type_said dict_type.Dictionary = name_said (codes "dictionary") ∷ []
@@ -111,5 +120,6 @@ said_item item = dict_type_said item.ty ++ key_said item.key ∷ equals ∷ item
 abbrev pub words_of_value : Value → List Said
 words_of_value = fold-Value (List Said) (List Said) said_step said_item
 
+-- the tokens of an entry's canonical text
 abbrev pub words_of_item : DictItem → List Said
 words_of_item = fold-DictItem (List Said) (List Said) said_step said_item

@@ -14,6 +14,7 @@ pub record Told : Type 0 where
   pub text : List ℕ
   pub too_long : Bool
 
+-- what a word says, without its place
 abbrev pub told_of : Word → Told
 told_of w = record { kind = w.kind; token = w.token; text = w.text; too_long = w.too_long }
 

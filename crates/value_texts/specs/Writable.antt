@@ -27,6 +27,7 @@ is_writable_asset t = has_short_ats 0 t
 abbrev pub is_writable_path : List ℕ → Bool
 is_writable_path t = not (list_any (λ c. (c == 62) || (c == 10)) t)
 
+-- the exponent is 0
 abbrev pub is_zero_exponent : ℤ → Bool
 is_zero_exponent (pos n) = n == 0
 is_zero_exponent (negsuc n) = false
@@ -38,6 +39,7 @@ is_decimal d =
     nat_lt (unsigned_abs d.digits) (10 ^ 34) && (is_exponent_in_range d.exp
     && (not (unsigned_abs d.digits % 10 == 0) || ((unsigned_abs d.digits == 0) && is_zero_exponent d.exp)))
 
+-- `inf` and `nan` can be written, and a decimal in its one form
 abbrev pub is_writable_number : Num → Bool
 is_writable_number (num.Finite d) = is_decimal d
 is_writable_number x = true
@@ -61,6 +63,7 @@ writable_step (Value-F.Array bs) = all_true bs
 writable_step (Value-F.Dict bs) = all_true bs
 writable_step Value-F.Block = true
 
+-- the key of an entry is UTF-8, since it is printed as a name or a string, and its value can be written
 abbrev pub writable_item : DictItem-F Bool Bool → Bool
 writable_item item = is_utf8 item.key && item.value
 
@@ -69,5 +72,6 @@ writable_item item = is_utf8 item.key && item.value
 abbrev pub is_writable : Value → Bool
 is_writable = fold-Value Bool Bool writable_step writable_item
 
+-- the entry can be written
 abbrev pub is_writable_item : DictItem → Bool
 is_writable_item = fold-DictItem Bool Bool writable_step writable_item
