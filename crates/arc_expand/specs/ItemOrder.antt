@@ -86,6 +86,7 @@ element_total = subst (λ (r : Element → Element → Ordering). IsTotalOrder r
 path_total : IsTotalOrder path_order.cmp
 path_total = subst (λ (r : List Element → List Element → Ordering). IsTotalOrder r) (sym order_is) (lists_total element_total)
 
+-- any two items stand in this order, and it is one order
 pub item_total : IsTotalOrder item_cmp
 item_total =
     then_total (on_total (λ (i : Item). rank i.source) nat_cmp_total)
@@ -104,6 +105,7 @@ source_is (named a) (unanchored b) r t = absurd (omega (arith, r))
 source_is (unanchored a) own r t = absurd (omega (arith, r))
 source_is (unanchored a) (named b) r t = absurd (omega (arith, r))
 
+-- items that the order does not part are one
 pub item_tie : (x y : Item) → item_cmp x y ≡ Equal → x ≡ y
 item_tie x y h =
     let first = then_both (nat_cmp (rank x.source) (rank y.source)) _ h in
@@ -124,12 +126,14 @@ tied Greater h = absurd cc
 one_is_same : (a b : Item) → a ≡ b → same_item a b ≡ true
 one_is_same a b is = ap (λ (x : Item). same_item a x) (sym is) ∙ item_itself a
 
+-- the test of items holds exactly where the order does not part them
 pub item_ties : (x y : Item) → same_item x y ≡ is_eq (item_cmp x y)
 item_ties x y =
     both_ways (same_item x y) (is_eq (item_cmp x y))
     (λ h. ap (λ (z : Item). is_eq (item_cmp x z)) (sym (item_same x y h)) ∙ ap is_eq (tied_itself item_total x))
     (λ h. one_is_same x y (item_tie x y (tied (item_cmp x y) h)))
 
+-- the test of items is an equivalence
 pub item_equiv : IsEquivalence same_item
 item_equiv = record {
   refl = item_itself;

@@ -23,6 +23,7 @@ hold a b h k = ap (λ (x : Bool). both x b) h ∙ k
 
 -- ---- texts
 
+-- the test of texts is that of their bytes, text by text
 pub same_is_bytes : (a b : Text) → same_text a b ≡ bytes_eq a b
 same_is_bytes [] [] = refl
 same_is_bytes [] (y ∷ ys) = refl
@@ -140,6 +141,7 @@ source_itself own = refl
 source_itself (named a) = text_itself a
 source_itself (unanchored a) = text_itself a
 
+-- items that pass the test are one
 pub item_same : (a b : Item) → same_item a b ≡ true → a ≡ b
 item_same a b h =
     let first = parts (same_source a.source b.source) (both (same_option same_path a.path b.path) (same_offset a.offset b.offset)) h in
@@ -149,12 +151,14 @@ item_same a b h =
     let offset = offset_same a.offset b.offset second.1 in
     λ i. record { source = source i; path = path i; offset = offset i }
 
+-- each item passes the test with itself
 pub item_itself : (a : Item) → same_item a a ≡ true
 item_itself a =
     hold (same_source a.source a.source) (both (same_option same_path a.path a.path) (same_offset a.offset a.offset)) (source_itself a.source)
     (hold (same_option same_path a.path a.path) (same_offset a.offset a.offset)
     (option_itself same_path (list_itself same_element element_itself) a.path) (offset_itself a.offset))
 
+-- two answers of which each gives the other are one
 pub both_ways : (a b : Bool) → (a ≡ true → b ≡ true) → (b ≡ true → a ≡ true) → a ≡ b
 both_ways true b f g = sym (f refl)
 both_ways false true f g = g refl

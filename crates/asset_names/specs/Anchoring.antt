@@ -11,6 +11,7 @@ here = 46 ∷ []
 abbrev pub above : List ℕ
 above = 46 ∷ 46 ∷ []
 
+-- two texts are one, byte by byte
 abbrev pub same_text : List ℕ → List ℕ → Bool
 same_text s t = pointwise ◌==◌ s t
 
@@ -19,9 +20,11 @@ abbrev pub segments_from : List ℕ → List ℕ → List (List ℕ)
 segments_from begun [] = begun ∷ []
 segments_from begun (c ∷ t) = elim (c == 47) [ true ↦ begun ∷ segments_from [] t | false ↦ segments_from (begun ++ c ∷ []) t ]
 
+-- the parts of a text between its slashes, empty ones too
 abbrev pub segments : List ℕ → List (List ℕ)
 segments t = segments_from [] t
 
+-- a text that begins with a slash is absolute
 abbrev pub is_absolute : List ℕ → Bool
 is_absolute [] = false
 is_absolute (c ∷ t) = c == 47
@@ -56,10 +59,12 @@ abbrev pub joined : List (List ℕ) → List ℕ
 joined [] = []
 joined (s ∷ ss) = s ++ more_joined ss
 
+-- segments with slashes between, at the front of a text or behind another segment
 abbrev pub joined_from : Bool → List (List ℕ) → List ℕ
 joined_from true = joined
 joined_from false = more_joined
 
+-- the name of these folders, with a slash in front where it is absolute
 abbrev pub name_of : Bool → List (List ℕ) → List ℕ
 name_of absolute folders = elim absolute [ true ↦ codes "/" ++ joined (reverse folders) | false ↦ joined (reverse folders) ]
 
@@ -67,6 +72,7 @@ name_of absolute folders = elim absolute [ true ↦ codes "/" ++ joined (reverse
 abbrev pub normal_name : List ℕ → List ℕ
 normal_name t = name_of (is_absolute t) (walk (is_absolute t) [] (segments t))
 
+-- the folders without the innermost one
 abbrev pub all_but_first : List (List ℕ) → List (List ℕ)
 all_but_first [] = []
 all_but_first (s ∷ ss) = ss
@@ -104,13 +110,16 @@ pub data IsBad (text name : List ℕ) : ℕ → Type 0 where
 abbrev pub ends_with : List ℕ → List ℕ → Bool
 ends_with t end = same_text (drop (length t - length end) t) end
 
+-- the text begins with another
 abbrev pub begins_with : List ℕ → List ℕ → Bool
 begins_with t front = same_text (take (length front) t) front
 
+-- the text has another somewhere in it
 abbrev pub has_inside : List ℕ → List ℕ → Bool
 has_inside [] part = begins_with [] part
 has_inside (c ∷ t) part = begins_with (c ∷ t) part || has_inside t part
 
+-- a name that ends in `.usdc` is a crate, one that ends in `.usdz` or has `.usdz[` in it a package, any other a plain text
 abbrev pub kind_of : List ℕ → NameKind
 kind_of t =
     elim (ends_with t (codes ".usdc")) [

@@ -9,9 +9,11 @@ use Rattle.sdf_paths.specs.declared.element.Element.{Element}
 use Rattle.class_arcs.specs.contracts.class.ClassPartialEq.TheImpl.{ghosts as class_eq}
 use Rattle.class_arcs.specs.contracts.class.ClassOrd.TheImpl.{ghosts as class_order}
 
+-- a class: its level and its path
 abbrev Pair : Type 0
 Pair = ℕ × List Element
 
+-- classes that compare equal are one
 pub class_equal : (x y : Pair) → class_eq.eq x y ≡ true → x ≡ y
 class_equal x y h =
     let parts = both_true _ _ h in
@@ -19,6 +21,7 @@ class_equal x y h =
     let target : x.1 ≡ y.1 = path_equal x.1 y.1 parts.1 in
     λ i. (level i, target i)
 
+-- classes that the derived order does not part are one
 pub class_tie : (x y : Pair) → class_order.cmp x y ≡ Equal → x ≡ y
 class_tie x y h =
     let parts = then_both _ _ h in

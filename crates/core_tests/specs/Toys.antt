@@ -12,27 +12,33 @@ abbrev pub children : ℕ → List ℕ
 children zero = []
 children (suc e) = 1 ∷ []
 
+-- a batch is the world that comes after it, or none, which is refused at its operation 1 with the fault 7
 abbrev pub after : ℕ → Option ℕ → Result ℕ (ℕ × ℕ)
 after w None = Err (1, 7)
 after w (Some n) = Ok n
 
+-- each place but the root lies below the root
 abbrev pub parent : ℕ → Option ℕ
 parent zero = None
 parent (suc p) = Some 0
 
+-- the root has the depth 0, any other place the depth 1
 abbrev pub depth : ℕ → ℕ
 depth zero = 0
 depth (suc p) = 1
 
+-- no place has two children that are one
 pub are_different : (w p : ℕ) → AllPairs (λ x y. x ≢ y) (children (entry w p))
 are_different zero zero = λ i j d below within. absurd (omega arith)
 are_different (suc w) zero = λ i j d below within. absurd (omega arith)
 are_different w (suc p) = λ i j d below within. absurd (omega arith)
 
+-- what is in the list of 1 alone is 1
 pub only_one : (k q : ℕ) → k < 1 → slice_index_or (1 ∷ []) k q ≡ q → q ≡ 1
 only_one zero q within is = sym is
 only_one (suc k) q within is = absurd (omega arith)
 
+-- a child lies right below its place, and within 64 levels
 pub are_below : (w p q : ℕ) → Contains (children (entry w p)) q → (parent q ≡ Some p) × (depth q ≡ depth p + 1) × (depth q ≤ 64)
 are_below zero zero q has = absurd (omega (arith, has.1))
 are_below (suc w) zero q has = let e = only_one has.0 q has.1 has.2 in rw e (refl, refl, lit≤ tt)

@@ -9,6 +9,7 @@ pub record Entry : Type 0 where
   pub name : List ℕ
   pub bytes : List ℕ
 
+-- a file as it is kept, by its name and its bytes
 abbrev pub entry_of : String Global × Vec ℕ → Entry
 entry_of f = record { name = string_bytes f.0; bytes = f.1.items }
 

@@ -35,6 +35,7 @@ in_layer name change w = given NoLayer (present_layer (held_at w name)) (λ laye
 
 -- ---- whole layers
 
+-- a layer stands there: it is neither absent nor refused
 abbrev pub is_present : Held → Bool
 is_present (Present layer) = true
 is_present Absent = false
@@ -44,9 +45,11 @@ is_present (Broken refusal) = false
 abbrev pub is_over : List ℕ → WorldData → Bool
 is_over name w = not (is_some (at_name name w.layers)) && nat_le 4096 (length w.layers)
 
+-- a layer with nothing in it
 abbrev pub blank_layer : LayerTable
 blank_layer = record { head = blank_head; specs = [] }
 
+-- the layer of a text, or the fault that tells why the text is refused
 abbrev pub layer_or_fault : Result LayerTable Refusal → Made LayerTable
 layer_or_fault (Ok layer) = Ok layer
 layer_or_fault (Err refusal) = Err (LayerText refusal)
@@ -56,11 +59,13 @@ abbrev pub new_layer : Option (List ℕ) → Made LayerTable
 new_layer None = Ok blank_layer
 new_layer (Some text) = layer_or_fault (read text)
 
+-- a new layer takes a name where no layer is present, within the limit of names; its text is judged last
 unfoldable pub layer_added : List ℕ → Option (List ℕ) → WorldData → Made WorldData
 layer_added name text w =
     passing ((is_present (held_at w name), LayerThere) ∷ (is_over name w, LayerLimit) ∷ [])
     (put_back name (new_layer text) w)
 
+-- the name is this other one, if there is one
 abbrev pub is_named : List ℕ → Option (List ℕ) → Bool
 is_named name (Some other) = same_name name other
 is_named name None = false
@@ -69,6 +74,7 @@ is_named name None = false
 abbrev pub is_root_name : List ℕ → WorldData → Bool
 is_root_name name w = same_name name w.root || is_named name w.session
 
+-- what stands at a name is given anew; the root and the session layer stay present, and names within their limit
 unfoldable pub layer_put : List ℕ → Held → WorldData → Made WorldData
 layer_put name held w =
     passing ((is_root_name name w && not (is_present held), RootLayer) ∷ (is_over name w, LayerLimit) ∷ [])
@@ -76,6 +82,7 @@ layer_put name held w =
 
 -- ---- load rules
 
+-- a load rule at a path of a prim without selections, or none any more; whether a prim is there is not asked
 unfoldable pub rule_set : List Element → Option Bool → WorldData → Made WorldData
 rule_set path rule w = passing ((not (is_stage_prim path), WrongPath) ∷ []) (Ok (record w { rules = with_rule path rule w.rules }))
 

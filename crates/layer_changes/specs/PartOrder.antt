@@ -13,6 +13,7 @@ use Rattle.layer_changes.specs.contracts.part.PartOrd.TheImpl.{ghosts as part_or
 use Rattle.layer_changes.specs.declared.part.Part.{Part}
 use Rattle.layer_changes.specs.declared.part.Part.TheVariants.{At, Below}
 
+-- parts that the derived order does not part are one
 pub part_tie : (x y : Part) → part_order.cmp x y ≡ Equal → x ≡ y
 part_tie (At j) (At k) h = ap At (key_tie j k h)
 part_tie (Below a p) (Below b q) h =

@@ -20,6 +20,7 @@ use Rattle.layer_changes.specs.declared.part.Part.TheVariants.{At, Below}
 
 -- ---- parts
 
+-- a path of the layer of this name, at the front or below it
 abbrev pub is_below : List ℕ → List Element → List ℕ → List Element → Bool
 is_below name front n q = is_at (text_cmp n) name && has_prefix front q
 
@@ -41,12 +42,15 @@ is_among parts k = list_any (λ part. is_in part k) parts
 abbrev pub of_layer : List ℕ → List Part
 of_layer name = At (Head name) ∷ Below name [] ∷ []
 
+-- the head of a layer
 abbrev pub of_head : List ℕ → List Part
 of_head name = At (Head name) ∷ []
 
+-- the arcs at a path
 abbrev pub of_arcs : List ℕ → List Element → List Part
 of_arcs name path = At (Arcs name path) ∷ []
 
+-- the body at a path
 abbrev pub of_body : List ℕ → List Element → List Part
 of_body name path = At (Body name path) ∷ []
 
@@ -62,9 +66,11 @@ of_new name path = At (Arcs name path) ∷ At (Body name path) ∷ At (Body name
 abbrev pub of_tree : List ℕ → List Element → List Part
 of_tree name path = At (Body name (above path)) ∷ Below name path ∷ []
 
+-- the load rule at a path
 abbrev pub of_rule : List Element → List Part
 of_rule path = At (Load path) ∷ []
 
+-- the part in which the metadata of a path stand, by what the path ends in
 abbrev pub of_meta_by : Option Element → List ℕ → List Element → List Part
 of_meta_by None name path = of_head name
 of_meta_by (Some (Named property)) name path = of_owner name path

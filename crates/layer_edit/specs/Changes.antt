@@ -18,14 +18,17 @@ use Rattle.layer_edit.specs.declared.change.PropertyChange.TheVariants as proper
 use Rattle.layer_edit.specs.declared.change.SpecChange.{SpecChange}
 use Rattle.layer_edit.specs.declared.change.SpecChange.TheVariants as spec
 
+-- the names of children with one more at the end, or with one taken out
 abbrev pub names_changed : NameChange → List (List ℕ) → List (List ℕ)
 names_changed (name.Add n) = with_name n
 names_changed (name.Drop n) = without_name n
 
+-- the variant sets with one variant more, or with one taken out
 abbrev pub sets_changed : VariantChange → List VariantSet → List VariantSet
 sets_changed (variant.Add set v) = with_variant set v
 sets_changed (variant.Drop set v) = without_variant set v
 
+-- a property with a list of targets or connections given, or with its default, a sample or an entry of its metadata given or taken away
 abbrev pub property_changed : PropertyChange → Property → Property
 property_changed (property.Targets edit items) = with_targets edit items
 property_changed (property.Default v) = with_default v
@@ -38,6 +41,7 @@ abbrev pub with_changed_in : Option Property → PropertyChange → Spec → Spe
 with_changed_in None change s = s
 with_changed_in (Some p) change s = with_properties (with_property (property_changed change p) s.body.properties) s
 
+-- a spec with one thing of it changed: a list, a selection, an order, an entry of its metadata, or what it names or holds
 abbrev pub spec_changed : SpecChange → Spec → Spec
 spec_changed (spec.Paths field edit items) = with_paths field edit items
 spec_changed (spec.References field edit items) = with_references field edit items

@@ -15,6 +15,7 @@ use Rattle.layer_edit.specs.declared.written.WrittenSubLayer.{WrittenSubLayer}
 abbrev pub in_bounds : ℤ → ℤ → Bool
 in_bounds offset scale = nat_le (unsigned_abs offset) 1000000000 && (int_le (pos 1) scale && int_le scale (pos 1000000))
 
+-- offset and scale have to be whole numbers in bounds
 abbrev pub offset_of_wholes : Option ℤ → Option ℤ → Option Offset
 offset_of_wholes (Some offset) (Some scale) = if in_bounds offset scale then Some (record { offset = offset; scale = scale }) else None
 offset_of_wholes offset scale = None
@@ -24,6 +25,7 @@ unfoldable pub offset_of : WrittenOffset → Option Offset
 offset_of w = offset_of_wholes (whole_number w.offset) (whole_number w.scale)
 
 module _ {A B : Type 0} (one_of : A → Option B) where
+  -- one in front of the others; none where either is nothing
   abbrev pub before_rest : Option B → Option (List B) → Option (List B)
   before_rest (Some b) (Some bs) = Some (b ∷ bs)
   before_rest b bs = None
@@ -33,17 +35,21 @@ module _ {A B : Type 0} (one_of : A → Option B) where
   all_of [] = Some []
   all_of (a ∷ rest) = before_rest (one_of a) (all_of rest)
 
+-- the item with its offset, where that is in range
 abbrev pub item_with : WrittenReference → Option Offset → Option RefItem
 item_with w (Some offset) = Some (record { asset = w.asset; path = w.path; offset = offset })
 item_with w None = None
 
+-- the item that is written; none where its offset is out of range
 abbrev pub item_of : WrittenReference → Option RefItem
 item_of w = item_with w (offset_of w.offset)
 
+-- the sublayer with its offset, where that is in range
 abbrev pub sublayer_with : WrittenSubLayer → Option Offset → Option SubLayer
 sublayer_with w (Some offset) = Some (record { asset = w.asset; offset = offset })
 sublayer_with w None = None
 
+-- the sublayer that is written; none where its offset is out of range
 abbrev pub sublayer_of : WrittenSubLayer → Option SubLayer
 sublayer_of w = sublayer_with w (offset_of w.offset)
 
@@ -51,6 +57,7 @@ sublayer_of w = sublayer_with w (offset_of w.offset)
 abbrev pub items_of : List WrittenReference → Option (List RefItem)
 items_of items = all_of item_of items
 
+-- the sublayers, with offsets in range
 abbrev pub sublayers_of : List WrittenSubLayer → Option (List SubLayer)
 sublayers_of sublayers = all_of sublayer_of sublayers
 
@@ -60,6 +67,7 @@ sublayers_of sublayers = all_of sublayer_of sublayers
 abbrev pub is_bad_target : List Element → Bool
 is_bad_target path = not (is_stage_prim path)
 
+-- an item without a path leads to a default prim, and that is no bad target
 abbrev pub is_bad_path : Option (List Element) → Bool
 is_bad_path (Some path) = is_bad_target path
 is_bad_path None = false
@@ -69,5 +77,6 @@ abbrev pub is_bad_asset : List ℕ → Option (List ℕ) → Bool
 is_bad_asset layer (Some asset) = not (is_some (anchor layer asset))
 is_bad_asset layer None = false
 
+-- no arc is made of the item in the layer of this name, for its target or for its asset
 unfoldable pub is_bad_item : List ℕ → WrittenReference → Bool
 is_bad_item layer w = is_bad_path w.path || is_bad_asset layer w.asset

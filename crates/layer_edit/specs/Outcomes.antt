@@ -4,6 +4,7 @@ use Rattle.layer_edit.specs.declared.fault.EditFault.{EditFault}
 use Rattle.layer_edit.specs.declared.fault.OpRefused.{OpRefused}
 use Rattle.layer_edit.specs.declared.fault.OpRefused.TheVariants.{Fault, NoMemory}
 
+-- what an edit makes, or the fault with which it is refused
 abbrev pub Made : Type 0 → Type 0
 Made A = Result A EditFault
 
@@ -16,6 +17,7 @@ abbrev pub first_fault : List Test → Option EditFault
 first_fault [] = None
 first_fault (t ∷ ts) = if t.0 then Some t.1 else first_fault ts
 
+-- what is made, unless there is a fault
 abbrev pub unless : {A : Type 0} → Option EditFault → Made A → Made A
 unless None made = made
 unless (Some fault) made = Err fault

@@ -17,12 +17,15 @@ use Rattle.layer_edit.specs.declared.fault.EditFault.TheVariants.{WrongPath, NoP
 
 -- ---- names in the owner
 
+-- a name becomes the last
 abbrev pub with_name : List ℕ → List (List ℕ) → List (List ℕ)
 with_name name names = names ++ name ∷ []
 
+-- the names but this one, in their order
 abbrev pub without_name : List ℕ → List (List ℕ) → List (List ℕ)
 without_name name names = filter (λ n. not (same_name name n)) names
 
+-- the variant set has this name
 abbrev pub is_of : List ℕ → VariantSet → Bool
 is_of set v = same_name set v.set
 
@@ -30,9 +33,11 @@ is_of set v = same_name set v.set
 abbrev pub grown : List ℕ → List ℕ → VariantSet → VariantSet
 grown set variant v = if is_of set v then record v { variants = with_name variant v.variants } else v
 
+-- a new variant set has one variant
 abbrev pub new_set : List ℕ → List ℕ → VariantSet
 new_set set variant = record { set = set; variants = variant ∷ [] }
 
+-- the variant sets with a variant more
 abbrev pub with_variant : List ℕ → List ℕ → List VariantSet → List VariantSet
 with_variant set variant sets = if list_any (is_of set) sets then map (grown set variant) sets else sets ++ new_set set variant ∷ []
 
@@ -41,15 +46,19 @@ abbrev pub if_any : VariantSet → List (List ℕ) → List VariantSet
 if_any v [] = []
 if_any v (n ∷ ns) = record v { variants = n ∷ ns } ∷ []
 
+-- of the set of this name the variant is taken away, any other set stays
 abbrev pub shrunk : List ℕ → List ℕ → VariantSet → List VariantSet
 shrunk set variant v = if is_of set v then if_any v (without_name variant v.variants) else v ∷ []
 
+-- the variant sets without a variant
 abbrev pub without_variant : List ℕ → List ℕ → List VariantSet → List VariantSet
 without_variant set variant sets = flat_map (shrunk set variant) sets
 
+-- a spec with the names of its children changed
 abbrev pub with_children : (List (List ℕ) → List (List ℕ)) → Spec → Spec
 with_children change s = record s { body = record s.body { children = change s.body.children } }
 
+-- a spec with its variant sets changed
 abbrev pub with_sets : (List VariantSet → List VariantSet) → Spec → Spec
 with_sets change s = record s { body = record s.body { variant_names = change s.body.variant_names } }
 
@@ -58,6 +67,7 @@ abbrev pub renamed : List Element → (List (List ℕ) → List (List ℕ)) → 
 renamed [] change layer = record layer { head = record layer.head { root_names = change layer.head.root_names } }
 renamed (e ∷ owner) change layer = changed_spec (e ∷ owner) (with_children change) layer
 
+-- the layer with the variant sets of an owner changed
 abbrev pub with_variants : List Element → (List VariantSet → List VariantSet) → LayerTable → LayerTable
 with_variants owner change layer = changed_spec owner (with_sets change) layer
 
@@ -78,19 +88,23 @@ unlisted last owner layer = layer
 unfoldable pub with_new_spec : List Element → Spec → LayerTable → LayerTable
 with_new_spec path spec layer = listed (last_element path) (above path) (record layer { specs = with_spec path spec layer.specs })
 
+-- the spec of a new prim: a specifier, a type or none, and nothing more
 abbrev pub prim_spec : Specifier → Option (List ℕ) → Spec
 prim_spec specifier type_name = record (blank_spec specifier) { body = record (blank_body specifier) { type_name = type_name } }
 
+-- a prim is added at a path that ends in a name and has no spec, below `/` or a spec
 unfoldable pub prim_added : List Element → Specifier → Option (List ℕ) → LayerTable → Made LayerTable
 prim_added path specifier type_name layer =
     passing ((not (is_prim_path path), WrongPath) ∷ (not (has_parent path layer.specs), NoParent) ∷ (has_spec path layer, SpecThere) ∷ [])
     (Ok (with_new_spec path (prim_spec specifier type_name) layer))
 
+-- a variant is added at a path that ends in a selection and has no spec, below a spec; it says nothing, as an `over`
 unfoldable pub variant_added : List Element → LayerTable → Made LayerTable
 variant_added path layer =
     passing ((not (is_variant_path path), WrongPath) ∷ (not (has_parent path layer.specs), NoParent) ∷ (has_spec path layer, SpecThere) ∷ [])
     (Ok (with_new_spec path (blank_spec Over) layer))
 
+-- a property goes from the spec of its owner; with a prim or a variant goes its name in the owner
 abbrev pub without_part : Option Element → List Element → LayerTable → LayerTable
 without_part (Some (Named name)) path layer = changed_spec (above path) (λ s. with_properties (without_property name s.body.properties) s) layer
 without_part last path layer = unlisted last (above path) (record layer { specs = without_tree path layer.specs })

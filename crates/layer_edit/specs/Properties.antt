@@ -19,12 +19,15 @@ use Rattle.layer_edit.specs.declared.fault.EditFault.TheVariants.{WrongPath, NoP
 
 -- ---- new properties
 
+-- a new attribute has a type and its flags, and no value, connection or metadata
 abbrev pub blank_attribute : List ℕ → TypeName → Bool → Bool → Property
 blank_attribute name ty custom uniform = Attr name ty custom uniform None [] no_edits []
 
+-- a new relationship has its flag, and no target or metadata
 abbrev pub blank_relationship : List ℕ → Bool → Property
 blank_relationship name custom = Rel name custom no_edits []
 
+-- the properties with a new one of the name in which the path ends; a path of no property adds none
 abbrev pub named_property : Option Element → (List ℕ → Property) → List Property → List Property
 named_property (Some (Named name)) blank properties = with_property (blank name) properties
 named_property last blank properties = properties
@@ -33,11 +36,13 @@ named_property last blank properties = properties
 unfoldable pub with_new_property : List Element → (List ℕ → Property) → LayerTable → LayerTable
 with_new_property path blank layer = changed_spec (above path) (λ s. with_properties (named_property (last_element path) blank s.body.properties) s) layer
 
+-- an attribute is added at a path of a property where none stands, below a spec; that its type is one is asked last
 unfoldable pub attribute_added : List Element → Option TypeName → Bool → Bool → LayerTable → Made LayerTable
 attribute_added path ty custom uniform layer =
     passing ((not (is_property_path path), WrongPath) ∷ (not (has_parent path layer.specs), NoParent) ∷ (has_spec path layer, SpecThere) ∷ [])
     (given NoSuchType ty (λ ty. Ok (with_new_property path (λ name. blank_attribute name ty custom uniform) layer)))
 
+-- a relationship is added at a path of a property where none stands, below a spec
 unfoldable pub relationship_added : List Element → Bool → LayerTable → Made LayerTable
 relationship_added path custom layer =
     passing ((not (is_property_path path), WrongPath) ∷ (not (has_parent path layer.specs), NoParent) ∷ (has_spec path layer, SpecThere) ∷ [])
@@ -50,14 +55,17 @@ abbrev pub type_of : Option Property → Option TypeName
 type_of (Some (Attr name ty custom uniform default samples connections meta)) = Some ty
 type_of p = None
 
+-- an attribute with this default or with none; a relationship stays as it is
 abbrev pub with_default : Option Value → Property → Property
 with_default v (Attr name ty custom uniform default samples connections meta) = Attr name ty custom uniform v samples connections meta
 with_default v p = p
 
+-- an attribute with this value at a time, whatever it had then; a relationship stays as it is
 abbrev pub with_sample : ℤ → Value → Property → Property
 with_sample t v (Attr name ty custom uniform default samples connections meta) = Attr name ty custom uniform default (with_key int_cmp t v samples) connections meta
 with_sample t v p = p
 
+-- an attribute without a value at a time, its other samples kept; a relationship stays as it is
 abbrev pub without_sample : ℤ → Property → Property
 without_sample t (Attr name ty custom uniform default samples connections meta) = Attr name ty custom uniform default (without_key int_cmp t samples) connections meta
 without_sample t p = p
@@ -72,26 +80,33 @@ default_given path ty v layer =
     passing ((not (has_form ty v), ValueShape) ∷ [])
     (given TimeRange (typed ty v) (λ v. Ok (changed_property path (with_default (Some v)) layer)))
 
+-- the default of an attribute that is there: its form is judged first, and then its times
 unfoldable pub default_set : List Element → Value → LayerTable → Made LayerTable
 default_set path v layer = at_attribute path layer (λ ty. default_given path ty v layer)
 
+-- the default is taken away, whether or not there is one
 unfoldable pub default_dropped : List Element → LayerTable → Made LayerTable
 default_dropped path layer = Ok (changed_property path (with_default None) layer)
 
+-- the default of an attribute that is there is taken away
 unfoldable pub default_cleared : List Element → LayerTable → Made LayerTable
 default_cleared path layer = at_attribute path layer (λ ty. default_dropped path layer)
 
+-- a value has to have the form of the type, and then the time of the sample and those in the value to be in range
 unfoldable pub sample_given : List Element → TypeName → Num → Value → LayerTable → Made LayerTable
 sample_given path ty time v layer =
     passing ((not (has_form ty v), ValueShape) ∷ [])
     (given TimeRange (time_at time) (λ t.
     given TimeRange (typed ty v) (λ v. Ok (changed_property path (with_sample t v) layer))))
 
+-- the value at a time of an attribute that is there
 unfoldable pub sample_set : List Element → Num → Value → LayerTable → Made LayerTable
 sample_set path time v layer = at_attribute path layer (λ ty. sample_given path ty time v layer)
 
+-- the value at a time is taken away, whether or not there is one; the time has to be in range
 unfoldable pub sample_dropped : List Element → Num → LayerTable → Made LayerTable
 sample_dropped path time layer = given TimeRange (time_at time) (λ t. Ok (changed_property path (without_sample t) layer))
 
+-- the value at a time of an attribute that is there is taken away
 unfoldable pub sample_cleared : List Element → Num → LayerTable → Made LayerTable
 sample_cleared path time layer = at_attribute path layer (λ ty. sample_dropped path time layer)

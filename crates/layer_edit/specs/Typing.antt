@@ -28,9 +28,11 @@ is_but_for_time (Ok v) = true
 is_but_for_time (Err TimeRange) = true
 is_but_for_time (Err k) = false
 
+-- the value has the form of a member of such arrays; a block is no member
 abbrev pub is_member : ElementType → Value → Bool
 is_member e v = not (is_block v) && is_but_for_time (take_shape (one e) v)
 
+-- the type is one of arrays, and each of the values has the form of a member
 abbrev pub are_members : TypeName → List Value → Bool
 are_members t vs = t.array && list_all (is_member t.element) vs
 
@@ -39,6 +41,7 @@ abbrev pub has_form_by : TypeName → Value → Value-F Value DictItem → Bool
 has_form_by t v (Value-F.Array vs) = are_members t vs
 has_form_by t v f = is_but_for_time (take_shape t v)
 
+-- the value has the form of the type, its times in range or not
 unfoldable pub has_form : TypeName → Value → Bool
 has_form t v = has_form_by t v (out-Value v)
 
@@ -57,9 +60,11 @@ time_at x = None
 abbrev pub kept_number : Bool → Num → Value
 kept_number is_typed x = if is_typed then value.Number x else by_value x
 
+-- members of a tuple or an array are kept in the way in which that is kept
 abbrev pub kept_all : List (Bool → Value) → Bool → List Value
 kept_all cs is_typed = map (λ c. c is_typed) cs
 
+-- how numbers are kept goes on into tuples and arrays, and ends at the entries of a dictionary
 abbrev pub kept_step : Value-F (Bool → Value) DictItem → Bool → Value
 kept_step (Value-F.Bool b) is_typed = value.Bool b
 kept_step (Value-F.Whole n) is_typed = value.Whole n
@@ -74,6 +79,7 @@ kept_step (Value-F.Array cs) is_typed = value.Array (kept_all cs is_typed)
 kept_step (Value-F.Dict items) is_typed = value.Dict items
 kept_step Value-F.Block is_typed = value.Block
 
+-- an entry of a dictionary has a type, so that its numbers stay as they are
 abbrev pub kept_item : DictItem-F (Bool → Value) DictItem → DictItem
 kept_item item = record { key = item.key; ty = item.ty; value = item.value true }
 
@@ -81,15 +87,18 @@ kept_item item = record { key = item.key; ty = item.ty; value = item.value true 
 abbrev pub kept : Value → Bool → Value
 kept = fold-Value (Bool → Value) DictItem kept_step kept_item
 
+-- an entry of a dictionary, with its value as it is kept there
 abbrev pub kept_entry : DictItem → DictItem
 kept_entry item = kept_item (record { key = (out-DictItem item).key; ty = (out-DictItem item).ty; value = kept (out-DictItem item).value })
 
+-- the value in the type that the key wants: a string, a truth value, or any value as it is kept
 abbrev pub as_ruled : KeyRule → Value → Taken
 as_ruled rule.Comment v = take_shape (one element.String) v
 as_ruled rule.Boolean v = take_shape (one element.Bool) v
 as_ruled rule.DefaultPrim v = take_shape (one element.String) v
 as_ruled r v = Ok (kept v false)
 
+-- the value, where the rule of the key takes it
 abbrev pub judged_by : KeyRule → Option Value → Option Value
 judged_by r (Some v) = result_ok (judged r v)
 judged_by r None = None

@@ -52,6 +52,7 @@ pub record TakesTurn (told : Option Files) (name : Text) (old new : Opening) (re
   pub fits : FitsAt told name file
   pub goes_on : (held : Held) → Stands (kind_of name) file held → (go : Opening → Ending) → GoesOn result (taken go old name held (taken_of (kind_of name) file)) (go new)
 
+-- a world that is opened has what stands at the names that are met, and no more; of a fault nothing is said
 abbrev pub OpensWorld : (Text → Held) → Text → Option Text → Ending → Type 0
 OpensWorld held root session (Ok loaded) = IsClosed held root session loaded.world
 OpensWorld held root session (Err fault) = Unit {0}

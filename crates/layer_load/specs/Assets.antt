@@ -18,9 +18,11 @@ abbrev pub given : Option Text → List Text
 given None = []
 given (Some asset) = asset ∷ []
 
+-- the assets of a list, in its order
 abbrev pub assets_of_items : List RefItem → List Text
 assets_of_items items = flat_map (λ item. given item.asset) items
 
+-- the assets of an explicit list, where there is one
 abbrev pub explicit_assets : Option (List RefItem) → List Text
 explicit_assets None = []
 explicit_assets (Some items) = assets_of_items items
@@ -45,18 +47,23 @@ module _ (specs : SpecEntries) (within : List Element → Spec → List Text) wh
   assets_of_spec path None = []
   assets_of_spec path (Some spec) = assets_of_arcs spec.arcs ++ within path spec
 
+  -- the assets of the prim or variant of one element below a path
   abbrev pub assets_below : List Element → Element → List Text
   assets_below path e = assets_of_spec (path ++ e ∷ []) (spec_below specs path e)
 
+  -- the assets of a child
   abbrev pub assets_of_prim : List Element → Text → List Text
   assets_of_prim path name = assets_below path (Prim name)
 
+  -- the assets of children, one child after the other
   abbrev pub assets_of_prims : List Element → List Text → List Text
   assets_of_prims path names = flat_map (assets_of_prim path) names
 
+  -- the assets of a variant
   abbrev pub assets_of_variant : List Element → Text → Text → List Text
   assets_of_variant path set variant = assets_below path (Selection set variant)
 
+  -- the assets of a variant set, variant by variant
   abbrev pub assets_of_set : List Element → VariantSet → List Text
   assets_of_set path s = flat_map (assets_of_variant path s.set) s.variants
 

@@ -12,5 +12,6 @@ use Rattle.layer_load.specs.declared.opening.WorldDraft.{WorldDraft}
 abbrev pub AreMet : Names → Type 0
 AreMet names = (q : Text) → is_some (at_name q names.met) ≡ list_any (same_text q) names.listed
 
+-- the opening that the code keeps so
 abbrev pub opening_of : WorldDraft → Opening
 opening_of draft = record { names = draft.names.listed; world = draft.world; bytes = draft.bytes }

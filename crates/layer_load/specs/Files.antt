@@ -30,6 +30,7 @@ Holds (Some bytes) held = Says (take most bytes) held
 abbrev pub unread : RefusalKind → Held
 unread k = Broken (record { kind = k; line = 1; column = 1 })
 
+-- what a file holds; a crate or a package is refused by its name, and its file is not read
 abbrev pub Stands : NameKind → Option (List ℕ) → Held → Type 0
 Stands kind.Plain file held = Holds file held
 Stands kind.Crate file held = held ≡ unread Crate
@@ -44,6 +45,7 @@ abbrev pub size_of : Option (List ℕ) → ℕ
 size_of None = 0
 size_of (Some bytes) = length (take most bytes)
 
+-- how many bytes are fetched for a name of a kind: none for a crate or a package
 abbrev pub taken_of : NameKind → Option (List ℕ) → ℕ
 taken_of kind.Plain file = size_of file
 taken_of kind.Crate file = 0

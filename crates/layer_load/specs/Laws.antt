@@ -10,5 +10,6 @@ pub record HaveOneReading (files : Files) : Type 0 where
   pub read : AreRead files held
   pub one : (other : Text → Held) → AreRead files other → (name : Text) → other name ≡ held name
 
+-- what stands at the names of layers is a function of the files, whatever these are
 abbrev pub FilesHaveOneReading : Type 0
 FilesHaveOneReading = (files : Files) → HaveOneReading files

@@ -31,9 +31,11 @@ abbrev pub with_anchored : List Text → Option Text → List Text
 with_anchored names None = names
 with_anchored names (Some name) = noted names name
 
+-- the names with that of an asset, as the layer that names it anchors it
 abbrev pub with_asset : Text → List Text → Text → List Text
 with_asset layer names asset = with_anchored names (anchor layer asset)
 
+-- the assets that a layer names; one that is absent or refused names none
 abbrev pub assets_of : Held → List Text
 assets_of (Present layer) = assets_of_layer layer
 assets_of Absent = []
@@ -43,6 +45,7 @@ assets_of (Broken refusal) = []
 abbrev pub with_assets : List Text → Text → Held → List Text
 with_assets names layer held = fold (with_asset layer) names (assets_of held)
 
+-- the name is that of the session layer, if there is one
 abbrev pub is_session : Option Text → Text → Bool
 is_session None name = false
 is_session (Some session) name = same_text name session
@@ -57,6 +60,7 @@ refusal_of (Present layer) = None
 refusal_of Absent = Some None
 refusal_of (Broken refusal) = Some (Some refusal)
 
+-- a layer that need not be there ends no opening
 abbrev pub if_needed : Bool → Held → Option (Option Refusal)
 if_needed true held = refusal_of held
 if_needed false held = None
@@ -74,13 +78,16 @@ with_held s name held total = record {
 }
 
 module _ (go : Opening → Ending) where
+  -- a root or session layer that is not there ends the opening; else what stands at the name is kept
   abbrev pub unless_refused : Opening → Text → Held → ℕ → Option (Option Refusal) → Ending
   unless_refused s name held total (Some refusal) = Err (RootRefused name refusal)
   unless_refused s name held total None = go (with_held s name held total)
 
+  -- the root and the session layer have to be there
   abbrev pub judged : Opening → Text → Held → ℕ → Ending
   judged s name held total = unless_refused s name held total (if_needed (is_needed s.world name) held)
 
+  -- too many bytes in all end the opening, whatever the layer is
   abbrev pub unless_large : Opening → Text → Held → ℕ → Bool → Ending
   unless_large s name held total true = Err WorldTooLarge
   unless_large s name held total false = judged s name held total
@@ -89,6 +96,7 @@ module _ (go : Opening → Ending) where
   unfoldable pub taken : Opening → Text → Held → ℕ → Ending
   taken s name held size = unless_large s name held (s.bytes + size) (nat_lt most_bytes (s.bytes + size))
 
+-- the world of an opening, and how many bytes were fetched for it
 abbrev pub loaded : Opening → Loaded
 loaded s = record { world = s.world; bytes = s.bytes }
 
@@ -102,6 +110,7 @@ abbrev pub first_names : Text → Option Text → List Text
 first_names root None = root ∷ []
 first_names root (Some session) = noted (root ∷ []) session
 
+-- an opening at its begin: the names of root and session layer are met, nothing is fetched, and there are no load rules
 abbrev pub begun : Text → Option Text → Opening
 begun root session = record {
   names = first_names root session;

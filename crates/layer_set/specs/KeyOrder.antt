@@ -14,6 +14,7 @@ use Rattle.layer_set.specs.contracts.key.KeyOrd.TheImpl.{ghosts as key_order}
 use Rattle.layer_set.specs.declared.key.Key.{Key}
 use Rattle.layer_set.specs.declared.key.Key.TheVariants.{Head, Arcs, Body, Load}
 
+-- keys that compare equal are one
 pub key_equal : (x y : Key) → key_eq.eq x y ≡ true → x ≡ y
 key_equal (Head a) (Head b) h = ap Head (text_same a b h)
 key_equal (Arcs a p) (Arcs b q) h =
@@ -40,6 +41,7 @@ key_equal (Load p) (Head b) h = absurd cc
 key_equal (Load p) (Arcs b q) h = absurd cc
 key_equal (Load p) (Body b q) h = absurd cc
 
+-- keys that the derived order does not part are one
 pub key_tie : (x y : Key) → key_order.cmp x y ≡ Equal → x ≡ y
 key_tie (Head a) (Head b) h = ap Head (exact_bytes a b h)
 key_tie (Arcs a p) (Arcs b q) h =

@@ -15,14 +15,17 @@ use Rattle.layer_set.specs.declared.key.Key.TheVariants.{Head as head_key, Arcs 
 abbrev pub layer_head : Head → LayerHead
 layer_head h = record { sublayers = h.sublayers; default_prim = h.default_prim; meta = h.meta }
 
+-- the names of root prims and their order
 abbrev pub root_names : Head → RootNames
 root_names h = record { names = h.root_names; order = h.root_order }
 
+-- the head of a layer that is present; else that there is no layer, or why it was refused
 abbrev pub heading_of : Held → Heading
 heading_of (Present layer) = headed (layer_head layer.head)
 heading_of Absent = no_layer
 heading_of (Broken refusal) = refused refusal
 
+-- the root prims of a layer that is present
 abbrev pub roots_of : Held → Option RootNames
 roots_of (Present layer) = Some (root_names layer.head)
 roots_of Absent = None

@@ -21,6 +21,7 @@ abbrev pub held_or_absent : Option Held → Held
 held_or_absent (Some held) = held
 held_or_absent None = Absent
 
+-- what stands at a name
 abbrev pub held_at : WorldData → List ℕ → Held
 held_at w name = held_or_absent (at_name name w.layers)
 

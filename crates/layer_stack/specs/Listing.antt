@@ -19,6 +19,7 @@ kept_out above heading o =
     ]
 
 module _ (w : World) (above : Text → Bool) (layer : Text) (o : Offset) where
+  -- why a sublayer of this name is not followed, if it is not
   abbrev pub reason_for : Text → SubLayer → Option SublayerReason
   reason_for name sub = kept_out (above name) (w.heading name) (composed sub.offset o)
 
@@ -27,6 +28,7 @@ module _ (w : World) (above : Text → Bool) (layer : Text) (o : Offset) where
   named_next None sub = None
   named_next (Some name) sub = elim (reason_for name sub) [ Some r ↦ None | None ↦ Some (name, composed sub.offset o) ]
 
+  -- the layer that a sublayer leads to, with its offset towards the stack, where it may be listed next
   abbrev pub next_of : SubLayer → Option (Text × Offset)
   next_of sub = named_next (anchor layer sub.asset) sub
 
@@ -35,9 +37,11 @@ module _ (w : World) (above : Text → Bool) (layer : Text) (o : Offset) where
   with_reason s name None = s
   with_reason s name (Some r) = with_fault s r layer name
 
+  -- an asset that names no layer is a missing sublayer; any other name is asked, with the fault if it is not followed
   abbrev pub with_look : LayerStack → Option Text → SubLayer → LayerStack
   with_look s None sub = with_fault s sublayer_missing layer sub.asset
   with_look s (Some name) sub = with_reason (with_asked s name) name (reason_for name sub)
 
+  -- the stack after a look at a sublayer, before its layer is listed
   abbrev pub looked : LayerStack → SubLayer → LayerStack
   looked s sub = with_look s (anchor layer sub.asset) sub

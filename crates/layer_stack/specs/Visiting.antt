@@ -30,6 +30,7 @@ is_present (refused r) = false
 abbrev pub Marks : Type 0
 Marks = List (Text × Bool)
 
+-- a name without a mark is not on the chain
 abbrev pub is_on : Option Bool → Bool
 is_on None = false
 is_on (Some on) = on
@@ -49,6 +50,7 @@ abbrev pub AreApart : List Text → Type 0
 AreApart [] = Unit {0}
 AreApart (name ∷ names) = (list_any (same_text name) names ≡ false) × AreApart names
 
+-- a layer of this name is listed, with whatever offset
 abbrev pub is_among : Text → List (Text × Offset) → Bool
 is_among name layers = list_any (λ e. same_text name e.0) layers
 

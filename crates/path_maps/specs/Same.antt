@@ -11,6 +11,7 @@ use Rattle.path_maps.specs.contracts.arc_map.ArcMapPartialEq.TheImpl.{ghosts as 
 kind_equal : (x y : ArcKind) → kind_eq.eq x y ≡ true → x ≡ y
 kind_equal = search rules
 
+-- maps of arcs that compare equal are one: the same kind, target and author
 pub arc_map_same : (x y : ArcPaths) → map_eq.eq x y ≡ true → x ≡ y
 arc_map_same x y h =
     let parts = both_true _ _ h in

@@ -97,6 +97,7 @@ in_view : (w : World) (p : Path) → AreListed p (view limits w p).children
 in_view w [] = fitting [] (root_children limits w) (firsts_different _)
 in_view w (e ∷ p) = by_plain w e p (list_all is_prim_name (e ∷ p)) refl
 
+-- the children of each composed prim are different, and their paths within the limits
 pub are_listed : (w : WorldData) (p : Path) → AreListed p (entry_at w p).children
 unfolding entry_at view_at
 are_listed w p = in_view (look_ups w) p
@@ -126,6 +127,7 @@ below_different p (n ∷ names) different zero (suc j) d before within = none_li
 below_different p (n ∷ names) different (suc i) zero d before within = absurd (omega arith)
 below_different p (n ∷ names) different (suc i) (suc j) d before within = below_different p names different.1 i j d (omega arith) (omega arith)
 
+-- the paths of the children of a composed prim are different
 pub are_different : (w : WorldData) (p : Path) → AllPairs (λ x y. x ≢ y) (listed_below p (entry_at w p))
 are_different w p = below_different p (entry_at w p).children (are_listed w p).different
 
@@ -147,12 +149,14 @@ parent_below (e ∷ p) x =
     let len : length (p ++ x ∷ []) ≡ suc (length p) = length-append p (x ∷ []) ∙ omega arith in
     ap (λ (k : ℕ). Some (take k (e ∷ p ++ x ∷ []))) len ∙ ap Some (take-append_seam (e ∷ p) (x ∷ []))
 
+-- a child has one name more than its prim
 pub depth_below : (p : Path) (n : Text) → depth (p ++ Prim n ∷ []) ≡ depth p + 1
 depth_below p n = fold-append _ 0 p (Prim n ∷ [])
 
 few : (p : Path) (n : Text) → fits limits (child_path p n) ≡ true → depth (p ++ Prim n ∷ []) ≤ 64
 few p n h = leb-true _ _ (both_true _ _ h).0
 
+-- a path that a composed prim lists has that prim as its parent, one name more, and no more than 64 names
 pub are_below : (w : WorldData) (p q : Path) → Contains (listed_below p (entry_at w p)) q → (parent q ≡ Some p) × (depth q ≡ depth p + 1) × (depth q ≤ 64)
 are_below w p q has =
     let one = one_below p (entry_at w p).children q has.0 (are_listed w p).fit has.1 has.2 in

@@ -24,6 +24,7 @@ use Rattle.sdf_values.specs.declared.refusal.RefusalKind.{RefusalKind}
 use Rattle.sdf_values.specs.declared.refusal.RefusalKind.TheVariants as kind
 use Rattle.spec_parts.specs.declared.items.Refusal.{Refusal}
 
+-- a text, by its bytes
 abbrev pub Text : Type 0
 Text = List ℕ
 
@@ -31,10 +32,12 @@ Text = List ℕ
 abbrev pub path_text : List Element → Text
 path_text p = codes "<" ++ printed p ++ codes ">"
 
+-- an offset that moves no time
 abbrev pub is_zero : ℤ → Bool
 is_zero (pos n) = n == 0
 is_zero (negsuc n) = false
 
+-- a scale that stretches no time
 abbrev pub is_one : ℤ → Bool
 is_one (pos n) = n == 1
 is_one (negsuc n) = false

@@ -24,13 +24,16 @@ use Rattle.script_lines.specs.declared.line.Line.TheVariants.{Change}
 
 -- ---- lists of fields, of which repeats after the first are dropped
 
+-- the classes of `inherits` or `specializes`, each once
 unfoldable pub paths_list : List ℕ → List Element → List ℕ → Option FieldList
 paths_list word base bytes = list_in base place.Start (Paths []) bytes >>= λ l. paths_of l >>= λ items. Some (list.Paths (path_field word) (firsts same_path items))
 
+-- the items of `references` or `payload`, each once; two are one where asset, path and offset are
 unfoldable pub references_list : List ℕ → List Element → List ℕ → Option FieldList
 references_list word base bytes =
     list_in base place.Start (References []) bytes >>= λ l. references_of l >>= λ items. Some (list.References (reference_field word) (firsts same_reference items))
 
+-- the names of `variantSets`, `apiSchemas` or `clipSets`, each once
 unfoldable pub texts_list : List ℕ → List Element → List ℕ → Option FieldList
 texts_list word base bytes = list_in base place.Start (Texts []) bytes >>= λ l. texts_of l >>= λ items. Some (list.Texts (text_field word) (firsts same_text items))
 
@@ -50,6 +53,7 @@ field_list word base bytes =
 
 -- ---- edits
 
+-- a word that is no edit word gives no edit
 abbrev pub if_edit : ListEdit → List ℕ → Option (ListEdit × List ℕ)
 if_edit Explicit rest = None
 if_edit edit rest = Some (edit, rest)
@@ -73,6 +77,7 @@ list_line bytes =
 
 -- ---- sublayers
 
+-- sublayers in brackets, in which repeats stay
 unfoldable pub sublayers_in : List ℕ → Option (List WrittenSubLayer)
 sublayers_in bytes = list_in [] place.Bracket (SubLayers []) bytes >>= λ l. sublayers_of l
 

@@ -23,6 +23,7 @@ use Rattle.script_lines.specs.declared.line.Line.TheVariants.{Blank, Begin, Comm
 unfoldable pub open_line : List ℕ → Option Line
 open_line bytes = layer_at bytes >>= λ l. ended (Open l.0) l.1
 
+-- lines of lists, selections, orders, sublayers and load rules; any other word begins no line
 unfoldable pub field_worded : List ℕ → List ℕ → Option Line
 field_worded word bytes =
     if is_text word (codes "list") then list_line bytes
@@ -35,6 +36,7 @@ field_worded word bytes =
     else if is_text word (codes "unrule") then unrule_line bytes
     else None
 
+-- lines of values and metadata, or one of those above
 unfoldable pub value_worded : List ℕ → List ℕ → Option Line
 value_worded word bytes =
     if is_text word (codes "set") then set_line bytes
@@ -45,6 +47,7 @@ value_worded word bytes =
     else if is_text word (codes "unmeta") then unmeta_line bytes
     else field_worded word bytes
 
+-- lines that add and remove layers, prims, variants and properties, or one of those above
 unfoldable pub spec_worded : List ℕ → List ℕ → Option Line
 spec_worded word bytes =
     if is_text word (codes "newlayer") then new_layer_line bytes
@@ -55,6 +58,7 @@ spec_worded word bytes =
     else if is_text word (codes "remove") then remove_line bytes
     else value_worded word bytes
 
+-- lines that ask, or one that is an operation
 unfoldable pub question_worded : List ℕ → List ℕ → Option Line
 question_worded word bytes =
     if is_text word (codes "value") then value_line bytes
@@ -67,6 +71,7 @@ question_worded word bytes =
     else if is_text word (codes "flatten") then asked question.Flatten bytes
     else spec_worded word bytes
 
+-- `begin`, `commit` and `publish`, behind which nothing stands, `open`, or a question or an operation
 unfoldable pub worded : List ℕ → List ℕ → Option Line
 worded word bytes =
     if is_text word (codes "begin") then ended Begin bytes
@@ -81,6 +86,7 @@ worded word bytes =
 abbrev pub begins_comment : ℕ → List ℕ → Bool
 begins_comment c cs = (c == 35) || (if c == 47 then begins 47 cs || begins 42 cs else false)
 
+-- a comment is not closed, and it begins at the first byte
 abbrev pub is_at_front : Option LexFault → Bool
 is_at_front (Some (Unclosed at)) = at == 0
 is_at_front fault = false

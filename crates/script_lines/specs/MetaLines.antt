@@ -15,6 +15,7 @@ use Rattle.script_lines.specs.Places.{target_at, prim_base, changed}
 use Rattle.script_lines.specs.declared.line.Line.{Line}
 use Rattle.script_lines.specs.declared.line.Line.TheVariants.{Change}
 
+-- two texts are one, byte by byte
 abbrev pub is_text : List ℕ → List ℕ → Bool
 is_text a b = pointwise ◌==◌ a b
 
@@ -68,6 +69,7 @@ unselect_line bytes = target_at bytes >>= λ t. set_at t.2 >>= λ set. changed (
 
 -- ---- orders
 
+-- `nameChildren` orders children, `properties` properties, and no other word orders
 unfoldable pub order_of : List ℕ → Option OrderWord
 order_of word = if is_text word (codes "nameChildren") then Some NameChildren else if is_text word (codes "properties") then Some PropertyNames else None
 

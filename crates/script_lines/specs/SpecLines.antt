@@ -20,6 +20,7 @@ new_layer_of layer bytes = if is_end bytes then changed (op.NewLayer layer None)
 unfoldable pub new_layer_line : List ℕ → Option Line
 new_layer_line bytes = layer_at bytes >>= λ l. new_layer_of l.0 l.1
 
+-- the specifier of a word; any word but these three is none
 unfoldable pub specifier_of : List ℕ → Option Specifier
 specifier_of word =
     if pointwise ◌==◌ word (codes "def") then Some Def
@@ -41,6 +42,7 @@ spec_line bytes =
 unfoldable pub variant_line : List ℕ → Option Line
 variant_line bytes = target_at bytes >>= λ t. changed (op.AddVariant t.0 t.1) t.2
 
+-- the type of such elements, or of arrays of them, where the element is known
 abbrev pub type_of : Bool → Option ElementType → Option TypeName
 type_of array None = None
 type_of array (Some e) = Some (record { element = e; array = array })

@@ -20,6 +20,7 @@ abbrev pub absolute_text : List Element → TokenKind → List ℕ → Option (L
 absolute_text base kind.Path text = absolute_from base (path_text text)
 absolute_text base k text = Some text
 
+-- a token with its path from the root down, in front of the others
 abbrev pub put_word : Word → Option (List ℕ) → Option (List Word) → Option (List Word)
 put_word w text rest = text >>= λ t. rest >>= λ ws. Some (record w { text = t } ∷ ws)
 

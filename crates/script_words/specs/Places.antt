@@ -35,10 +35,12 @@ abbrev pub behind_asset : Bool → TokenKind → Option ListPlace
 behind_asset bracketed kind.Path = Some Named
 behind_asset bracketed k = behind_named bracketed k
 
+-- an item, or the bracket that ends the list: so a list may be empty, and a comma may stand behind its last item
 abbrev pub item_or_end : ItemForm → TokenKind → Option ListPlace
 item_or_end form (kind.Mark mark.CloseBracket) = Some Complete
 item_or_end form k = behind_first form k
 
+-- the bracket with which a list begins that may not stand without
 abbrev pub opening : TokenKind → Option ListPlace
 opening (kind.Mark mark.OpenBracket) = Some Item
 opening k = None
@@ -67,6 +69,7 @@ abbrev pub behind_number : TokenKind → List ℕ → Option ListPlace
 behind_number (kind.Mark mark.Semicolon) text = Some Key
 behind_number k text = key_or_end k text
 
+-- the place behind a token, which has to be one that may stand there
 abbrev pub place_behind : ItemForm → Bool → ListPlace → TokenKind → List ℕ → Option ListPlace
 place_behind form bracketed Start k text = begun form k text
 place_behind form bracketed Bracket k text = opening k

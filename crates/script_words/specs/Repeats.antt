@@ -23,9 +23,11 @@ use Rattle.usda_lists.specs.Repeats.{path_is}
 use Rattle.script_words.specs.contracts.repeats.OrderedReferencePartialEq.TheImpl.{ghosts as reference_eq}
 use Rattle.script_words.specs.contracts.repeats.OrderedReferenceOrd.TheImpl.{ghosts as reference_order}
 
+-- two decimals are one: the same digits and the same exponent
 abbrev pub same_decimal : DecimalNumber → DecimalNumber → Bool
 same_decimal a b = int_eq a.digits b.digits && int_eq a.exp b.exp
 
+-- two numbers are one; here `nan` is the same as itself
 abbrev pub same_number : Num → Num → Bool
 same_number (Finite a) (Finite b) = same_decimal a b
 same_number Inf Inf = true
@@ -33,6 +35,7 @@ same_number NegInf NegInf = true
 same_number Nan Nan = true
 same_number a b = false
 
+-- two offsets are one, as they are written
 abbrev pub same_offset : WrittenOffset → WrittenOffset → Bool
 same_offset a b = same_number a.offset b.offset && same_number a.scale b.scale
 
@@ -68,6 +71,7 @@ abbrev equal_by : (List Element → List Element → Bool) → (Num → Num → 
 equal_by path number x y =
     option_eq same_text x.asset y.asset && (option_eq path x.path y.path && (number x.offset.offset y.offset.offset && number x.offset.scale y.offset.scale))
 
+-- the derived equality of references is the one above
 pub reference_is : ◌≡◌ {A = WrittenReference → WrittenReference → Bool} reference_eq.eq same_reference
 reference_is =
     ap (λ (path : List Element → List Element → Bool). equal_by path num_eq.eq) path_is
@@ -76,6 +80,7 @@ reference_is =
 number_equal : (a b : Num) → num_eq.eq a b ≡ true → a ≡ b
 number_equal a b h = search rules
 
+-- references that compare equal are one
 pub reference_equal : (x y : WrittenReference) → reference_eq.eq x y ≡ true → x ≡ y
 reference_equal x y h =
     let numbers = num_eq.eq x.offset.offset y.offset.offset && num_eq.eq x.offset.scale y.offset.scale in
@@ -93,6 +98,7 @@ reference_equal x y h =
 number_tie : (a b : Num) → num_order.cmp a b ≡ Equal → a ≡ b
 number_tie a b h = search rules
 
+-- references that the derived order does not part are one
 pub reference_tie : (x y : WrittenReference) → reference_order.cmp x y ≡ Equal → x ≡ y
 reference_tie x y h =
     let numbers = ordering_then (num_order.cmp x.offset.offset y.offset.offset) (num_order.cmp x.offset.scale y.offset.scale) in

@@ -23,6 +23,7 @@ use Rattle.script_words.specs.Answers.{◌>>=◌}
 unfoldable pub lexer_of : List ℕ → Option Lexer
 lexer_of bytes = if is_utf8 bytes then Some (record { source = bytes; at = 0 }) else None
 
+-- the first token, if there is one, and the bytes behind it
 abbrev pub first_before : List ℕ → List Word → Option (Word × List ℕ)
 first_before bytes [] = None
 first_before bytes (w ∷ ws) = Some (w, drop w.end bytes)
@@ -31,13 +32,16 @@ first_before bytes (w ∷ ws) = Some (w, drop w.end bytes)
 unfoldable pub token_at : List ℕ → Option (Word × List ℕ)
 token_at bytes = lexer_of bytes >>= λ t. first_before bytes (left t).words
 
+-- there is no token
 abbrev pub no_word : List Word → Bool
 no_word [] = true
 no_word (w ∷ ws) = false
 
+-- neither a token is left nor a byte that begins none
 abbrev pub is_over : Lexing → Bool
 is_over l = if no_word l.words then not (is_some l.fault) else false
 
+-- nothing is left to read; bytes that are not UTF-8 have no such end
 abbrev pub ends_at : Option Lexer → Bool
 ends_at None = false
 ends_at (Some t) = is_over (left t)
@@ -56,14 +60,17 @@ read_at meaning bytes = token_at bytes >>= λ t. meaning t.0.kind t.0.text >>= �
 
 -- ---- what tokens mean
 
+-- the name that a token is, if it is one
 abbrev pub name_of : TokenKind → List ℕ → Option (List ℕ)
 name_of kind.Name text = Some text
 name_of k text = None
 
+-- the text that a token means, if it is a string
 abbrev pub text_of : TokenKind → List ℕ → Option (List ℕ)
 text_of kind.String text = string_text text
 text_of k text = None
 
+-- the number that a token means, if it is one
 abbrev pub number_in : TokenKind → List ℕ → Option Num
 number_in kind.Number text = number_of text
 number_in k text = None
@@ -73,6 +80,7 @@ abbrev pub layer_named : List ℕ → Option (List ℕ)
 layer_named [] = None
 layer_named (c ∷ t) = elim (list_any (λ x. nat_lt x 32) (c ∷ t)) [ true ↦ None | false ↦ if_short (normal_name (c ∷ t)) ]
 
+-- the name of the layer that a token means, if it is an asset that names one
 abbrev pub layer_of : TokenKind → List ℕ → Option (List ℕ)
 layer_of kind.Asset text = layer_named (asset_text text)
 layer_of k text = None
@@ -102,6 +110,7 @@ abbrev pub bad_byte : Option LexFault → Option ℕ
 bad_byte (Some (BadByte at)) = Some at
 bad_byte fault = None
 
+-- where the byte stands that begins no token, where no token stands before it
 abbrev pub stop_of : Lexing → Option ℕ
 stop_of l = if no_word l.words then bad_byte l.fault else None
 
@@ -131,6 +140,7 @@ path_at bytes = path_start bytes >>= λ at. run_path (drop at bytes)
 unfoldable pub behind_word : List ℕ → List ℕ → Option (List ℕ)
 behind_word word bytes = token_at bytes >>= λ t. if pointwise ◌==◌ t.0.text word then Some t.1 else None
 
+-- the flag is set where its word stands, and then the bytes behind it are left, or else all
 abbrev pub flag_of : List ℕ → Option (List ℕ) → Bool × List ℕ
 flag_of bytes (Some rest) = (true, rest)
 flag_of bytes None = (false, bytes)

@@ -8,6 +8,7 @@ use Rattle.composition.specs.Faults.{is_level_0, gives_arc, any_reason, is_path_
 use Rattle.site_order.specs.declared.faults.Group.{Group}
 use Rattle.site_order.specs.declared.faults.Group.TheVariants.{NoArc, NotFollowed, TooLong}
 
+-- the items that were tried, without their borrows
 abbrev pub items : List (Bor Tried) → List Tried
 items arcs = map (λ a. a.now) arcs
 

@@ -25,6 +25,7 @@ stack_tie (Asset a) (Asset b) h = ap Asset (exact_bytes a b h)
 stack_tie Root (Asset b) h = absurd cc
 stack_tie (Asset a) Root h = absurd cc
 
+-- sites that compare equal are one
 pub key_equal : (x y : SiteKey) → key_eq.eq x y ≡ true → x ≡ y
 key_equal x y h =
     let parts = both_true _ _ h in
@@ -32,6 +33,7 @@ key_equal x y h =
     let path : x.path ≡ y.path = path_equal x.path y.path parts.1 in
     λ i. record { stack = stack i; path = path i }
 
+-- sites that the derived order does not part are one
 pub key_tie : (x y : SiteKey) → key_order.cmp x y ≡ Equal → x ≡ y
 key_tie x y h =
     let parts = then_both _ _ h in

@@ -16,6 +16,7 @@ use Rattle.stage_questions.specs.declared.question.Question.TheVariants as quest
 
 -- ---- questions
 
+-- the word of a question, and the path that it is asked of
 abbrev pub asked_of : Text → List Element → Text
 asked_of word path = word ++ printed path
 
@@ -48,27 +49,35 @@ absent_text answer = answer_text (λ x. []) answer
 abbrev pub property_name : List Element → Text
 property_name path = unwrap_or (last_name path) []
 
+-- the value of a property at a time, asked of the prim that owns it
 abbrev pub value_told : List Element → ℤ → Stage → Text
 value_told path time stage = answer_text value_text (value_answer (owner path) (property_name path) time stage)
 
+-- the default of a property
 abbrev pub default_told : List Element → Stage → Text
 default_told path stage = answer_text value_text (default_answer (owner path) (property_name path) stage)
 
+-- the samples of a property
 abbrev pub samples_told : List Element → Stage → Text
 samples_told path stage = answer_text samples_text (samples_answer (owner path) (property_name path) stage)
 
+-- the targets or connections of a property
 abbrev pub targets_told : List Element → Stage → Text
 targets_told path stage = answer_text paths_text (targets_answer (owner path) (property_name path) stage)
 
+-- the names of the children of a prim
 abbrev pub children_told : List Element → Stage → Text
 children_told path stage = answer_text names_text (children_answer path stage)
 
+-- the faults of a prim
 abbrev pub faults_told : List Element → Stage → Text
 faults_told path stage = answer_text faults_text (view_answer path stage)
 
+-- the sites of a prim that have a spec, in a world with this root layer
 abbrev pub sites_told : Text → List Element → Stage → Text
 sites_told root path stage = answer_text (sites_text root) (view_answer path stage)
 
+-- a text as a line
 abbrev pub line_of : Text → Text
 line_of t = t ++ codes "\n"
 

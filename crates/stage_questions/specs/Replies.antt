@@ -29,6 +29,7 @@ edit_fault_text fault.BadArc = codes "BadArc"
 abbrev pub accepted_text : ℕ → Text
 accepted_text number = codes "batch " ++ decimal number ++ codes " accepted\n"
 
+-- what the reply to a refused batch begins with
 unfoldable pub refused_word : Text
 refused_word = codes "batch refused: op "
 
@@ -40,9 +41,11 @@ refused_op op = refused_word ++ decimal op ++ codes " "
 abbrev pub refused_text : ℕ → EditFault → Text
 refused_text op fault = refused_op op ++ edit_fault_text fault ++ codes "\n"
 
+-- the reply to a batch for which the journal has no room
 abbrev pub full_text : Text
 full_text = codes "batch refused: journal full\n"
 
+-- the reply to a batch: accepted, refused at an operation, or no room for it
 abbrev pub edit_text : EditReply EditFault → Text
 edit_text (Accepted number) = accepted_text number
 edit_text (Refused op fault) = refused_text op fault

@@ -20,6 +20,7 @@ use Rattle.stage_questions.specs.Answers.{answer_line}
 use Rattle.stage_questions.specs.Replies.{edit_text, published_text}
 use Rattle.stage_questions.specs.declared.question.Question.{Question}
 
+-- the calls of a session: batches with their replies, and publishes
 abbrev pub History : Type 0
 History = List (HistoryEntry (List Op) EditFault)
 
@@ -37,6 +38,7 @@ stage_after opened history = stage_of entry_at listed_below (replay edit opened 
 abbrev pub most_paths : ℕ
 most_paths = 262144
 
+-- the stage has more paths than it may
 abbrev pub is_full : Stage → Bool
 is_full stage = nat_lt most_paths (length stage)
 
@@ -59,9 +61,11 @@ with_publish history = history ++ noted.Publish 0 (version_count history) (batch
 
 -- ---- a batch
 
+-- what is replied to a batch
 abbrev pub batch_reply : Session → List Op → List ℕ
 batch_reply s batch = edit_text (reply_to_batch s.opened s.history batch)
 
+-- a batch changes the history alone: the stage stays the one that was published last
 abbrev pub after_batch : Session → List Op → Session
 after_batch s batch = record s { history = with_batch s.history batch (reply_to_batch s.opened s.history batch) }
 
@@ -71,17 +75,21 @@ opening_of id held = PutLayer id held ∷ []
 
 -- ---- a publish
 
+-- the stage that a publish shows: that of all batches accepted so far
 abbrev pub next_stage : Session → Stage
 next_stage s = stage_after s.opened s.history
 
+-- the reply to a publish: its version, the batches accepted so far, and the prims of the new stage
 abbrev pub publish_reply : Session → List ℕ
 publish_reply s = published_text (version_count s.history) (batch_count s.history) (length (next_stage s))
 
+-- from a publish on its stage is the one that is asked
 abbrev pub after_publish : Session → Session
 after_publish s = record s { history = with_publish s.history; stage = next_stage s }
 
 -- ---- a question
 
+-- the reply to a question, which is asked of the stage published last and changes nothing
 abbrev pub question_reply : Session → Question → List ℕ
 question_reply s question = answer_line s.opened.root s.stage question
 

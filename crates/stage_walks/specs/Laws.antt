@@ -12,6 +12,7 @@ use Rattle.layer_set.specs.LookUps.{look_ups}
 use Rattle.layer_set.specs.Worlds.{WorldData}
 use Rattle.prim_compose.specs.Listing.{entry_at, listed_below}
 
+-- whatever the world is, the stage of the program is that of composition
 pub record WalksTheStage : Type 0 where
   -- what the program composes of a world is the stage of composition: the same paths with the same views in the same order
   pub same_stage : (w : WorldData) → stage_of entry_at listed_below w [] ≡ stage limits (look_ups w)

@@ -18,15 +18,19 @@ abbrev pub own_entries : {E : Type 0} → (E → ℕ) → List ℕ → List E �
 own_entries bears numbers es = filter (λ e. nat_lt 0 (times (bears e) numbers)) es
 
 module _ {T E N : Type 0} {g : Ghosts T E N} where
+  -- what the seat knows
   abbrev pub view_of : Seat T E N g → View E N
   view_of s = s.place.me.0
 
+  -- what the seat has seen, and its numbers
   abbrev pub part_of : Seat T E N g → Part E
   part_of s = s.place.me.0.mine
 
+  -- the entries that the seat has seen
   abbrev pub seen : Seat T E N g → List E
   seen s = s.place.me.0.mine.seen
 
+  -- the number that the entries of the seat bear
   abbrev pub number : Seat T E N g → ℕ
   number s = s.number
 
@@ -34,9 +38,11 @@ module _ {T E N : Type 0} {g : Ghosts T E N} where
   abbrev pub numbers : Seat T E N g → List ℕ
   numbers s = s.place.me.0.mine.own
 
+  -- how many spare numbers the seat has
   abbrev pub spares : Seat T E N g → ℕ
   spares s = s.spare
 
+  -- the spare numbers of the seat, in order
   abbrev pub spare_numbers : Seat T E N g → List ℕ
   spare_numbers s = numbers_from s.least s.spare
 
@@ -48,6 +54,7 @@ module _ {T E N : Type 0} {g : Ghosts T E N} where
   abbrev pub HasTurn : Seat T E N g → List E → Type 0
   HasTurn s taken = (s.place.me.1 ≡ (0, None) ∷ []) × (s.place.me.0.turn ≡ Some taken)
 
+  -- the numbers are the same before and after: its own, those of joined seats, and spare ones
   abbrev pub SameNumbers : Seat T E N g → Seat T E N g → Type 0
   SameNumbers s t = (t.number ≡ s.number) × (t.place.me.0.mine.own ≡ s.place.me.0.mine.own) × (numbers_from t.least t.spare ≡ numbers_from s.least s.spare)
 
@@ -64,5 +71,6 @@ module _ {T E N : Type 0} where
   abbrev pub desk_name : (T → N) → Desk T E N → N
   desk_name named d = named d.table.shared.key.first.value
 
+  -- how many seats the desk has numbers for
   abbrev pub seats_of : Desk T E N → ℕ
   seats_of d = d.table.shared.key.seats

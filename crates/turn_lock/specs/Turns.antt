@@ -17,9 +17,11 @@ abbrev pub Adds : {E : Type 0} → (E → ℕ) → ℕ → List E → List E →
 Adds {E} bears number log more = (added : List E) × (more ≡ log ++ added) × All (λ e. bears e ≡ number) added
 
 module _ {E : Type 0} where
+  -- the entries that a seat has seen, its own numbers, and its spare numbers: the least one and how many
   abbrev pub part : List E → List ℕ → ℕ → ℕ → Part E
   part seen own least spare = record { seen = seen; own = own; least = least; spare = spare }
 
+  -- nothing was seen, and there is no number
   abbrev pub nothing : Part E
   nothing = part [] [] 0 0
 
@@ -31,9 +33,11 @@ module _ {E : Type 0} where
   abbrev pub weight : (ℕ → ℕ) → Part E → ℕ
   weight h p = total h p.own + span h p.least p.spare
 
+  -- the longer of two lists, and the first of two that are as long
   abbrev pub longer : List E → List E → List E
   longer xs ys = cond (nat_lt (length xs) (length ys)) ys xs
 
+  -- the numbers of both and the longer list, with the spare numbers of the first that has any
   abbrev pub merged : Part E → Part E → Part E
   merged p q = part (longer p.seen q.seen) (p.own ++ q.own) (cond (p.spare == 0) q.least p.least) (cond (p.spare == 0) q.spare p.spare)
 
@@ -46,6 +50,7 @@ module _ {E : Type 0} where
     abbrev pub Unused : Part E → List E → Type 0
     Unused p log = All (λ e. span (only (bears e)) p.least p.spare ≡ 0) log
 
+    -- the list goes on from what was seen, without the own numbers; spare numbers are in no entry, and they are the last of the desk
     pub record PartFits (seats : ℕ) (log : List E) (p : Part E) : Type 0 where
       pub seen : GoesOn p log
       pub unused : Unused p log
@@ -56,9 +61,11 @@ module _ {E : Type 0} where
     Longer p q seen = ((seen ≡ p.seen) × GoesOn q p.seen) ⊎ ((seen ≡ q.seen) × GoesOn p q.seen)
 
 module _ {E N : Type 0} where
+  -- what a seat knows: the name of its desk, its own part, that of a seat joined into it, its tickets, and its turn if it noted one
   abbrev pub view : Option N → Part E → Part E → List ℕ → Option (List E) → View E N
   view name mine told tickets turn = record { name = name; mine = mine; told = told; tickets = tickets; turn = turn }
 
+  -- the first seat of a desk has the number 0, and all others as spare ones
   abbrev pub first_view : List E → N → ℕ → View E N
   first_view seen name seats = view (Some name) (part seen (0 ∷ []) 1 (seats - 1)) nothing [] None
 
@@ -86,6 +93,7 @@ module _ {E N : Type 0} where
   abbrev pub split_off : View E N → View E N
   split_off v = view v.name (part v.mine.seen (v.mine.least ∷ []) 0 0) nothing [] None
 
+  -- what the other seat knew is noted beside the seat's own
   abbrev pub joined : View E N → View E N → View E N
   joined v w = view v.name v.mine w.mine v.tickets v.turn
 
@@ -93,10 +101,12 @@ module _ {E N : Type 0} where
   abbrev pub settled : View E N → View E N
   settled v = view v.name (merged v.mine v.told) nothing v.tickets v.turn
 
+  -- it has no ticket, and no turn
   abbrev pub IsIdle : View E N → Type 0
   IsIdle v = (v.tickets ≡ []) × (v.turn ≡ None)
 
   module _ (bears : E → ℕ) where
+    -- what a seat knows is true of a desk of this name and so many seats, with this ticket served and this list
     pub record Fits (name : N) (seats now : ℕ) (log : List E) (v : View E N) : Type 0 where
       pub desk : (x : N) → v.name ≡ Some x → x ≡ name
       pub one : length v.tickets ≤ length v.mine.own
@@ -106,9 +116,11 @@ module _ {E N : Type 0} where
       pub turn : (taken : List E) → v.turn ≡ Some taken → (v.tickets ≡ now ∷ []) × (taken ≡ log)
 
     module _ {T : Type 0} (entries : T → List E) (named : T → N) where
+      -- the value lies in the slot, has the name of the desk and stands for this list
       abbrev pub AtHome : N → List E → State (Option T) (View E N) → Type 0
       AtHome name log s = (value : T) × (get_elem? s.homes 0 ≡ some (some (Some value))) × (entries value ≡ log) × (named value ≡ name)
 
+      -- the rule of the table, which holds between any two steps
       pub record Kept (name : N) (seats : ℕ) (s : State (Option T) (View E N)) : Type 0 where
         pub now : ℕ
         pub waiting : ℕ
@@ -127,6 +139,7 @@ module _ {E N : Type 0} where
         -- while no view notes a turn, the value is at home
         pub home : ((id : ℕ) (v : View E N) → get_elem? s.views id ≡ some v → v.turn ≡ None) → AtHome name log s
 
+      -- what a seat knows, and the slots that it has
       abbrev pub Sat : Type 0
       Sat = Me (Option T) (View E N)
 
@@ -138,9 +151,11 @@ module _ {E N : Type 0} where
       abbrev pub Takes : Sat → Sat → Type 0
       Takes m n = (value : T) × (n ≡ (noted (entries value) m.0, (0, Some value) ∷ m.1)) × ((x : N) → m.0.name ≡ Some x → named value ≡ x) × GoesOn bears m.0.mine (entries value)
 
+      -- the ticket that is served was looked at: where it is the seat's own the slot is taken, and else nothing changes
       abbrev pub looks : Step (Option T) → Sat → ℕ → Sat → Type 0
       looks st m r n = (t : ℕ) → m.0.tickets ≡ t ∷ [] → (r ≡ t % 2 ^ 64 → Takes m n) × (r ≢ t % 2 ^ 64 → n ≡ m)
 
+      -- the slot was given back with its value, and the seat has seen the list of that value
       abbrev pub advances : Step (Option T) → Sat → ℕ → Sat → Type 0
       advances st m r n = (value : T) → m.1 ≡ (0, Some value) ∷ [] → n ≡ (returned (entries value) m.0, [])
 

@@ -7,6 +7,7 @@ use Rattle.turn_writers.specs.declared.entry.Entry.{Entry}
 abbrev pub writer : Entry → ℕ
 writer e = e.by
 
+-- what a seat writes at a step
 abbrev pub entry : ℕ → ℕ → Entry
 entry by step = record { by = by; step = step }
 

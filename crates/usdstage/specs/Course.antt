@@ -24,6 +24,7 @@ pub record Course : Type 0 where
   pub text : List ℕ
   pub due : Status
 
+-- nothing more is written, and this status is due
 abbrev pub nothing : Status → Course
 nothing status = record { text = []; due = status }
 
@@ -37,6 +38,7 @@ pub record Turn : Type 0 where
   pub session : Session
   pub bytes : ℕ
 
+-- a step that was carried out: the run goes on
 abbrev pub turned : List ℕ → Session → ℕ → Result Turn Status
 turned reply session bytes = Ok (record { reply = reply; session = session; bytes = bytes })
 
@@ -81,10 +83,12 @@ module _ (held : Text → Held) (size : Text → ℕ) where
     | false ↦ onto (opening_text world) (carried (opening world) bytes (steps_of script))
   ]
 
+  -- what comes of an opened world; `flatten` reads no script
   abbrev pub world_course : Verb → Loaded → List ℕ → Course
   world_course verbs.Flatten loaded script = flat_course loaded.world
   world_course verbs.Session loaded script = session_course loaded.world loaded.bytes script
 
+  -- what comes of an opening; a world that is not opened ends the run
   abbrev pub opened_course : Verb → Ending → List ℕ → Course
   opened_course verb (Ok loaded) script = world_course verb loaded script
   opened_course verb (Err fault) script = nothing (unopened fault)

@@ -6,6 +6,7 @@ use Rattle.usdstage.specs.Refusals.{refusal_text}
 use Rattle.usdstage.specs.declared.status.Status.{Status}
 use Rattle.usdstage.specs.declared.status.Status.TheVariants.{Done, Usage, ReadFault, WriteFault, RootRefused, ScriptRefused, StageFull, WorldTooLarge, NoMemory}
 
+-- the exit status of each way to end
 abbrev pub exit_code : Status → ℕ
 exit_code Done = 0
 exit_code Usage = 2
