@@ -10,7 +10,7 @@ import tempfile
 import tty
 
 TOP = os.path.dirname(os.path.dirname(os.path.abspath(__file__)))
-PROGRAM = os.path.join(TOP, "usdstage")
+PROGRAM = os.path.abspath(sys.argv[1]) if len(sys.argv) > 1 else os.path.join(TOP, "usdstage")
 FIRST = "#usda 1.0\n"
 READING = "usdstage: reading failed\n"
 WRITING = "usdstage: writing failed\n"

@@ -106,7 +106,7 @@ pub data IsBad (text name : List ℕ) : ℕ → Type 0 where
   empty : text ≡ [] → IsBad text name 0
   long : ((k : ℕ) → k < length text → 32 ≤ slice_index text k) → 4096 < length name → IsBad text name 4096
 
--- what a layer of that name is, by the name alone
+-- the text ends with another
 abbrev pub ends_with : List ℕ → List ℕ → Bool
 ends_with t end = same_text (drop (length t - length end) t) end
 
@@ -119,7 +119,7 @@ abbrev pub has_inside : List ℕ → List ℕ → Bool
 has_inside [] part = begins_with [] part
 has_inside (c ∷ t) part = begins_with (c ∷ t) part || has_inside t part
 
--- a name that ends in `.usdc` is a crate, one that ends in `.usdz` or has `.usdz[` in it a package, any other a plain text
+-- what a layer of that name is, by the name alone: one that ends in `.usdc` is a crate, one that ends in `.usdz` or has `.usdz[` in it a package, any other a plain text
 abbrev pub kind_of : List ℕ → NameKind
 kind_of t =
     elim (ends_with t (codes ".usdc")) [

@@ -29,7 +29,7 @@ without_name name names = filter (λ n. not (same_name name n)) names
 abbrev pub is_of : List ℕ → VariantSet → Bool
 is_of set v = same_name set v.set
 
--- a variant becomes the last of its set, and a set that is not there the last of all
+-- a variant set of this name with the variant as its last; another set as it is
 abbrev pub grown : List ℕ → List ℕ → VariantSet → VariantSet
 grown set variant v = if is_of set v then record v { variants = with_name variant v.variants } else v
 
@@ -37,7 +37,7 @@ grown set variant v = if is_of set v then record v { variants = with_name varian
 abbrev pub new_set : List ℕ → List ℕ → VariantSet
 new_set set variant = record { set = set; variants = variant ∷ [] }
 
--- the variant sets with a variant more
+-- a variant becomes the last of its set, and a set that is not there the last of all
 abbrev pub with_variant : List ℕ → List ℕ → List VariantSet → List VariantSet
 with_variant set variant sets = if list_any (is_of set) sets then map (grown set variant) sets else sets ++ new_set set variant ∷ []
 

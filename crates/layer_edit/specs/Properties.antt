@@ -74,7 +74,7 @@ without_sample t p = p
 abbrev pub at_attribute : {A : Type 0} → List Element → LayerTable → (TypeName → Made A) → Made A
 at_attribute path layer make = passing ((not (is_property_path path), WrongPath) ∷ []) (given NoSpec (type_of (property_in path layer)) make)
 
--- of an attribute of a type
+-- the default of an attribute of this type: a value without its form is `ValueShape`, and one of its form whose times are out of range `TimeRange`
 unfoldable pub default_given : List Element → TypeName → Value → LayerTable → Made LayerTable
 default_given path ty v layer =
     passing ((not (has_form ty v), ValueShape) ∷ [])

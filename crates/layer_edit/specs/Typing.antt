@@ -36,7 +36,7 @@ is_member e v = not (is_block v) && is_but_for_time (take_shape (one e) v)
 abbrev pub are_members : TypeName → List Value → Bool
 are_members t vs = t.array && list_all (is_member t.element) vs
 
--- the value has the form of the type, its times in range or not; of an array each member is looked at
+-- the same, given the level of the value: of an array each member is looked at, anything else as a whole
 abbrev pub has_form_by : TypeName → Value → Value-F Value DictItem → Bool
 has_form_by t v (Value-F.Array vs) = are_members t vs
 has_form_by t v f = is_but_for_time (take_shape t v)

@@ -14,7 +14,7 @@ use Rattle.metadata_reads.specs.Standing.{Standing}
 use Rattle.prim_reads.specs.Bodies.{inside}
 use Rattle.layer_returns.specs.Trees.{behind_body}
 
--- the children and the variants that a spec names have specs
+-- each variant of the set has a spec below this path
 abbrev pub HasVariants : SpecEntries → List Element → VariantSet → Type 0
 HasVariants specs path s = AreAll (λ name. is_some (spec_below specs path (Selection s.set name)) ≡ true) s.variants
 

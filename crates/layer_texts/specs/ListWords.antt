@@ -41,13 +41,13 @@ abbrev pub explicit_words : {T : Type 0} → (T → List Said) → List T → Li
 explicit_words g [] = word (codes "None")
 explicit_words g (x ∷ xs) = bracketed_words g (x ∷ xs)
 
--- an offset behind an item; the one that changes no time is not said
+-- both the offset and the scale between brackets, unless together they change no time
 abbrev pub words_unless_identity : Bool → Offset → List Said
 words_unless_identity true o = []
 words_unless_identity false o =
     open_paren ∷ name_said (codes "offset") ∷ equals ∷ number_said (signed_decimal o.offset) ∷ semicolon ∷ name_said (codes "scale") ∷ equals ∷ number_said (signed_decimal o.scale) ∷ close_paren ∷ []
 
--- the offset of an item, unless it changes no time
+-- an offset behind an item; the one that changes no time is not said
 abbrev pub offset_words : Offset → List Said
 offset_words o = words_unless_identity (is_identity o) o
 

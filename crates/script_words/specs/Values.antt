@@ -10,11 +10,12 @@ use Rattle.usda_values.specs.declared.shape.Shape.TheVariants.{Untyped}
 use Rattle.script_words.specs.Answers.{◌>>=◌, made}
 use Rattle.script_words.specs.Words.{lexer_of}
 
--- what all tokens make, where they end with the bytes and not with a fault
+-- the answer, unless the tokens end with a fault
 abbrev pub unless_fault : {X : Type 0} → Option LexFault → Option X → Option X
 unless_fault None x = x
 unless_fault (Some fault) x = None
 
+-- what all tokens make, where they end with the bytes and not with a fault
 abbrev pub of_all : {X : Type 0} → (List Word → Option X) → Lexing → Option X
 of_all read l = unless_fault l.fault (read l.words)
 

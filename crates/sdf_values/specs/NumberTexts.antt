@@ -70,7 +70,7 @@ pub record FailsAt (t : List ℕ) (at : ℕ) : Type 0 where
   pub good_before : GoesOn (take at t)
   pub bad_there : at < length t → GoesOn (take (at + 1) t) → ⊥
 
--- the number that the digits of a text make, whatever stands between them
+-- the number with one more digit behind it; another character adds nothing
 abbrev pub add_digit : ℕ → ℕ → ℕ
 add_digit n c = if is_digit c then n * 10 + (c - 48) else n
 

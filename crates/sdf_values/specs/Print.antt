@@ -91,7 +91,7 @@ escaped (c ∷ t) = (if is_escaped c then escape c else c ∷ []) ++ escaped t
 abbrev pub quoted : List ℕ → List ℕ
 quoted t = 34 ∷ escaped t ++ 34 ∷ []
 
--- an asset's name, in the long form where the short one cannot hold it
+-- the short form cannot hold the asset's name: it has an `@` or a line feed
 abbrev pub is_long_asset : List ℕ → Bool
 is_long_asset t = list_any (λ c. (c == 64) || (c == 10)) t
 

@@ -14,7 +14,7 @@ all_true (b ∷ bs) = b && all_true bs
 abbrev pub is_below : List ℕ → List ℕ → Bool
 is_below a b = is_lt (slice_cmp nat_cmp a b)
 
--- keys in byte order, each once
+-- these keys stand in byte order, each once, and behind a key before them
 abbrev pub are_keys_behind : List ℕ → List (List ℕ) → Bool
 are_keys_behind k [] = true
 are_keys_behind k (l ∷ ls) = is_below k l && are_keys_behind l ls
@@ -24,7 +24,7 @@ abbrev pub are_keys_in_order : List (List ℕ) → Bool
 are_keys_in_order [] = true
 are_keys_in_order (k ∷ ks) = are_keys_behind k ks
 
--- one value, with its key where it is an entry, and whether it is proper
+-- the values of all entries are proper, each of which stands here as its key and whether its value is
 abbrev pub all_proper : List (List ℕ × Bool) → Bool
 all_proper [] = true
 all_proper (e ∷ es) = e.1 && all_proper es

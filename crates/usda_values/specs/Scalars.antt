@@ -18,7 +18,7 @@ use Rattle.usda_lexer.specs.declared.token.TokenKind.TheVariants as kind
 use Rattle.usda_lexer.specs.Meanings.{string_text, asset_text, path_text, number_of}
 use Rattle.usda_values.specs.PathTexts.{is_path_text}
 
--- the whole number that a decimal is, within 128 signed bits
+-- the whole number, where it fits in 128 signed bits
 abbrev pub in_128_bits : ℤ → Option ℤ
 in_128_bits (pos n) = if nat_lt n (2 ^ 127) then Some (pos n) else None
 in_128_bits (negsuc n) = if nat_lt n (2 ^ 127) then Some (negsuc n) else None
@@ -37,7 +37,7 @@ times_power digits (Some unit) = in_128_bits (digits *ℤ unit)
 unfoldable pub whole_of : DecimalNumber → Option ℤ
 whole_of d = times_power d.digits (power_of d.exp)
 
--- a sign or none and digits, without a point and without an exponent
+-- a digit or a sign: what a number without a point and without an exponent is written with
 abbrev pub is_plain_byte : ℕ → Bool
 is_plain_byte c = is_digit c || is_sign c
 
@@ -91,7 +91,7 @@ token_value kind.Path text = path_value (path_text text)
 token_value kind.Name text = Ok (word_value text)
 token_value (kind.Mark m) text = Err Syntax
 
--- the time that a decimal is, in units of 10^-18: within 10^12 whole units of time of 0 and with at most 18 decimals
+-- so many units of 10^-18, where that is a time: at most 10^12 whole units of time away from 0
 abbrev pub if_time : ℤ → Option ℤ
 if_time units = if nat_le (unsigned_abs units) (10 ^ 30) then Some units else None
 

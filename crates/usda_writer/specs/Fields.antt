@@ -58,7 +58,7 @@ key_line level entry = if is_comment entry.0 then [] else line level (entry.0 ++
 abbrev pub meta_lines : ℕ → MetaEntries → Text
 meta_lines level meta = flat_map (comment_line level) meta ++ flat_map (key_line level) meta
 
--- the variants that are selected, as a dictionary of strings
+-- a variant that is selected, as a dictionary's entry of type `string`
 abbrev pub selection_item : Text × Text → DictItem
 selection_item s = record { key = s.0; ty = Plain (record { element = element.String; array = false }); value = value.Text s.1 }
 

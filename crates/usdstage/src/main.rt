@@ -1,15 +1,7 @@
 //! Flattens a stage, `usdstage flatten ROOT`, or carries out the script of a session on it, `usdstage session ROOT`.
 #![tactic(auto)]
 
-#[cfg(test)]
-mod fault_tests;
-#[cfg(test)]
-mod flatten_tests;
-#[cfg(test)]
-mod memory_runs;
 mod output;
-#[cfg(test)]
-mod session_tests;
 mod status;
 mod tool;
 mod words;
