@@ -1,9 +1,9 @@
 -- What the scan of blanks and comments goes over is blanks and comments.
-use Rattle.std.proofs.Common.{◌≡◌, ◌∙◌, ℕ, zero, suc, ◌+◌, ◌-◌, ◌<◌, ◌≤◌, Bool, true, false, ◌&&◌, ◌||◌, ◌==◌, List, [], ◌∷◌, ◌++◌, take, drop, length, Option, Some, None, Result, Ok, Err, ap, sym, refl, subst, arith, ◌⊎◌, inl, inr, eqb-true, append_assoc}
+use Rattle.std.proofs.Common.{◌≡◌, ◌∙◌, ℕ, zero, suc, ◌+◌, ◌<◌, ◌≤◌, Bool, true, false, ◌&&◌, ◌==◌, List, [], ◌∷◌, ◌++◌, take, drop, length, Option, Some, None, Result, Ok, Err, ap, sym, refl, subst, arith, ◌⊎◌, inl, inr, eqb-true, append_assoc}
 use Rattle.std.specs.Prelude.{if◌then◌else◌}
 use Rattle.usda_lexer.specs.declared.blanks.Between.{Between}
 use Rattle.usda_lexer.specs.declared.blanks.Between.TheVariants.{Blank, Slash, Line, Opening, Block, Closing}
-use Rattle.usda_lexer.specs.Blanks.{is_blank, begins, between_from, between_after, opened_at, ended_between, gap, IsGap, Piece, blank, hash, slashes, block, is_one_line, has_no_end, at_line_end, is_piece, piece_bytes, pieces_bytes, are_pieces}
+use Rattle.usda_lexer.specs.Blanks.{is_blank, begins, between_after, opened_at, ended_between, gap, IsGap, Piece, blank, hash, slashes, block, is_one_line, has_no_end, at_line_end, is_piece, piece_bytes, are_pieces}
 
 empty_gap : (b : List ℕ) → IsGap [] b
 empty_gap b = record { pieces = []; good = refl; written = refl }
@@ -47,7 +47,7 @@ IsKnown Opening cs = begins 42 cs ≡ true
 IsKnown Closing cs = begins 47 cs ≡ true
 IsKnown state cs = Unit {0}
 
-both : (a b : Bool) → (a && b) ≡ true → (a ≡ true) × (b ≡ true)
+pub both : (a b : Bool) → (a && b) ≡ true → (a ≡ true) × (b ≡ true)
 both true b e = (refl, e)
 both false b e = absurd cc
 

@@ -1,14 +1,14 @@
 -- Where tokens and faults stand in the source.
 use Rattle.std.proofs.Common.{◌≡◌, ◌∙◌, ℕ, ◌<◌, ◌≤◌, ◌+◌, ◌-◌, List, [], ◌∷◌, ◌++◌, take, drop, length, Option, Some, None, Result, Ok, Err, ap, sym, refl, subst, arith}
 use Rattle.std.specs.Prelude.{slice_range}
-use Rattle.std.specs.Str.{IsCharBoundary, IsUtf8}
-use Rattle.std.proofs.lemmas.List.{drop-drop, length-drop, take-append-drop, drop_all}
+use Rattle.std.specs.Str.{IsCharBoundary}
+use Rattle.std.proofs.lemmas.List.{drop-drop, length-drop, take-append-drop}
 use Rattle.usda_lexer.specs.declared.token.Token.{Token}
 use Rattle.usda_lexer.specs.declared.token.LexFault.{LexFault}
 use Rattle.usda_lexer.specs.declared.token.LexFault.TheVariants.{NotUtf8, Unclosed, BadByte, NumberTooLong}
 use Rattle.usda_lexer.specs.declared.blanks.Between.TheVariants.{Blank}
 use Rattle.usda_lexer.specs.Blanks.{gap, IsGap}
-use Rattle.usda_lexer.specs.Words.{Word, word_of, Found, found, cut, word_in_front, word_behind, next_word, Finds, IsAt, StandsAt, StandsIn, IsInSource, IsFaultAt}
+use Rattle.usda_lexer.specs.Words.{Word, found, cut, word_in_front, word_behind, next_word, Finds, IsAt, StandsAt, StandsIn, IsFaultAt}
 use Rattle.usda_lexer.proofs.Gaps.{gap_is, gap_open}
 
 pub no_rest : (bytes : List ℕ) → length bytes ≡ 0 → bytes ≡ []
