@@ -1,7 +1,6 @@
 -- Blanks and comments: what may stand between two tokens.
 -- A comment goes from `#` or `//` up to the end of its line, or from `/*` to the next `*/`.
 use Rattle.std.specs.Prelude.{◌≡◌, ℕ, ◌+◌, Bool, true, false, ◌&&◌, ◌||◌, ◌==◌, if◌then◌else◌, List, [], ◌∷◌, ◌++◌, Option, Some, None, Result, Ok, Err}
-use Rattle.std.specs.List.{list_all}
 use Rattle.usda_lexer.specs.declared.blanks.Between.{Between}
 use Rattle.usda_lexer.specs.declared.blanks.Between.TheVariants.{Blank, Slash, Line, Opening, Block, Closing}
 
@@ -50,7 +49,8 @@ abbrev pub gap : Between → ℕ → ℕ → List ℕ → Result ℕ ℕ
 gap state opened n [] = ended_between state opened n
 gap state opened n (c ∷ cs) = elim (between_after state c cs) [ None ↦ Ok n | Some next ↦ gap next (opened_at next opened n) (n + 1) cs ]
 
--- A piece of what stands between two tokens.
+-- A piece of what stands between two tokens: a blank, or a comment by what stands behind its `#`, behind its `//`, or between its
+-- `/*` and its `*/`.
 pub data Piece : Type 0 where
   blank : ℕ → Piece
   hash : List ℕ → Piece
@@ -67,12 +67,18 @@ abbrev pub has_no_end : List ℕ → Bool
 has_no_end [] = true
 has_no_end (c ∷ cs) = if c == 42 && begins 47 cs then false else has_no_end cs
 
--- a blank, a comment without a line feed behind `#` or `//`, or one without `*/` before its end
-abbrev pub is_piece : Piece → Bool
-is_piece (blank c) = is_blank c
-is_piece (hash text) = is_one_line text
-is_piece (slashes text) = is_one_line text
-is_piece (block text) = has_no_end text
+-- a line feed stands in front, or nothing
+abbrev pub at_line_end : List ℕ → Bool
+at_line_end [] = true
+at_line_end (c ∷ cs) = c == 10
+
+-- Whether a piece is one, of all bytes that stand behind it: a blank; a comment with `#` or `//` that holds no line feed and goes
+-- up to one or to the end of the text; or a comment that ends with the first `*/` behind its `/*`.
+abbrev pub is_piece : Piece → List ℕ → Bool
+is_piece (blank c) behind = is_blank c
+is_piece (hash text) behind = is_one_line text && at_line_end behind
+is_piece (slashes text) behind = is_one_line text && at_line_end behind
+is_piece (block text) behind = has_no_end text
 
 -- the bytes of a piece
 abbrev pub piece_bytes : Piece → List ℕ
@@ -86,8 +92,13 @@ abbrev pub pieces_bytes : List Piece → List ℕ
 pieces_bytes [] = []
 pieces_bytes (p ∷ ps) = piece_bytes p ++ pieces_bytes ps
 
--- blanks and comments, and nothing else
-pub record IsGap (bytes : List ℕ) : Type 0 where
+-- each of them is a piece, where these bytes stand behind the last of them
+abbrev pub are_pieces : List Piece → List ℕ → Bool
+are_pieces [] behind = true
+are_pieces (p ∷ ps) behind = is_piece p (pieces_bytes ps ++ behind) && are_pieces ps behind
+
+-- Bytes that are blanks and whole comments, and nothing else, where `behind` are all bytes of the text that stand behind them.
+pub record IsGap (bytes behind : List ℕ) : Type 0 where
   pub pieces : List Piece
-  pub good : list_all is_piece pieces ≡ true
+  pub good : are_pieces pieces behind ≡ true
   pub written : pieces_bytes pieces ≡ bytes

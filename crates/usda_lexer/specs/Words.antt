@@ -164,19 +164,19 @@ AnswersNext (Ok (Some t)) old new = (left old ≡ record { words = word_of t ∷
 AnswersNext (Ok None) old new = (left old ≡ record { words = []; fault = None }) × (new ≡ old)
 AnswersNext (Err e) old new = (left old ≡ record { words = []; fault = Some e }) × (new ≡ old)
 
--- A token behind the place `at` is a part of the source, and only blanks and comments stand before it.
+-- a token behind the place `at` is a part of the source, and only blanks and whole comments stand from that place up to it
 pub record IsInSource (source : List ℕ) (at : ℕ) (w : Word) : Type 0 where
   pub text : w.text ≡ slice_range source w.start w.end
   pub behind : at ≤ w.start
   pub some : w.start < w.end
   pub inside : w.end ≤ length source
-  pub gap : IsGap (slice_range source at w.start)
+  pub gap : IsGap (slice_range source at w.start) (drop w.start source)
 
--- a fault behind the place `at` is at a byte of the source, and only blanks and comments stand before it
+-- a fault behind the place `at` is at a byte of the source, and only blanks and whole comments stand from that place up to it
 pub record IsFaultAt (source : List ℕ) (at place : ℕ) : Type 0 where
   pub behind : at ≤ place
   pub inside : place < length source
-  pub gap : IsGap (slice_range source at place)
+  pub gap : IsGap (slice_range source at place) (drop place source)
 
 -- a fault at this place
 abbrev pub IsAt : ℕ → LexFault → Type 0
@@ -192,10 +192,10 @@ StandsAt (Ok (Some t)) source place =
 StandsAt (Ok None) source place = drop place source ≡ []
 StandsAt (Err e) source place = IsAt place e × (place < length source)
 
--- where an answer stands in the source, behind the tokens that were taken before
+-- where an answer stands in the source, behind the tokens that were taken before; at its end only blanks and whole comments are left
 abbrev pub StandsIn : Result (Option Token) LexFault → Lexer → Type 0
 StandsIn (Ok (Some t)) old = IsInSource old.source old.at (word_of t)
-StandsIn (Ok None) old = IsGap (drop old.at old.source)
+StandsIn (Ok None) old = IsGap (drop old.at old.source) []
 StandsIn (Err (Unclosed at)) old = IsFaultAt old.source old.at at
 StandsIn (Err (BadByte at)) old = IsFaultAt old.source old.at at
 StandsIn (Err (NumberTooLong at)) old = IsFaultAt old.source old.at at

@@ -7,12 +7,14 @@
 mod blanks;
 mod escapes;
 mod forms;
+mod laws;
 mod name;
 mod place;
 mod token;
 mod tokens;
 
 pub use escapes::{asset_text, decimal_of, number_of, path_text, string_text};
+pub use laws::{comments_end_with_their_line, gaps_are_gone_over};
 pub use place::{Place, place_of};
 pub use token::{LexFault, Mark, Token, TokenKind};
 pub use tokens::Tokens;

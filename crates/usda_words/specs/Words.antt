@@ -49,13 +49,13 @@ abbrev pub is_dot : TokenKind → Bool
 is_dot kind.Dot = true
 is_dot k = false
 
--- No blank and no comment stands round a `.`: one that does not stand directly behind the word before, and a word that does not
--- stand directly behind one, are at fault.
+-- at fault where this holds, else of this kind
 abbrev pub if_joined : Bool → TokenKind → TokenKind
 if_joined true k = kind.Fault
 if_joined false k = k
 
--- a `.`, and a word behind one, are at fault where they do not begin at the end of the word before
+-- No blank and no comment stands beside a `.`: a `.`, and a word behind one, are at fault where they do not begin at the end of
+-- the word before.
 abbrev pub kind_behind : Before → ℕ → TokenKind → TokenKind
 kind_behind before start k = if_joined ((before.is_dot || is_dot k) && not (start == before.end)) k
 

@@ -1,0 +1,12 @@
+// What holds of blanks and comments, each law as the clause of a function that does nothing.
+ghost use Rattle.usda_lexer.specs.Laws.{AreGapsGoneOver, IsTokenInNoComment};
+
+/// Blanks and whole comments in front of a token, or of the end of the text, are what is gone over before it.
+pub fn gaps_are_gone_over()
+    ensures { AreGapsGoneOver }
+{}
+
+/// A comment that begins with `#` ends with its line, whatever it holds.
+pub fn comments_end_with_their_line()
+    ensures { IsTokenInNoComment }
+{}
