@@ -1,0 +1,14 @@
+// What the definitions of texts, paths and lists give, on closed terms: each record of examples as the clause of a function that
+// does nothing.
+ghost use Rattle.text_examples.specs.ListEdits.{AreTold as EditsAreTold};
+ghost use Rattle.text_examples.specs.Paths.{AreTold as PathsAreTold};
+
+/// Paths with their texts, texts that are no path with the byte that shows it, and parents, prefixes and other parts of paths.
+pub fn paths_are_told()
+    ensures { PathsAreTold }
+{}
+
+/// What each list edit makes of a list, the order in which edits apply, repeats, reorders, and folds of several opinions.
+pub fn list_edits_are_told()
+    ensures { EditsAreTold }
+{}
