@@ -1,2 +1,4 @@
+mod Computing
 mod Machine
+mod Tokens
 mod Paths

@@ -1,2 +1,3 @@
+pub mod Tokens
 pub mod Paths
 pub mod ListEdits

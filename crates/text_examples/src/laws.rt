@@ -2,6 +2,12 @@
 // does nothing.
 ghost use Rattle.text_examples.specs.ListEdits.{AreTold as EditsAreTold};
 ghost use Rattle.text_examples.specs.Paths.{AreTold as PathsAreTold};
+ghost use Rattle.text_examples.specs.Tokens.{AreTold as TokensAreTold};
+
+/// Texts with their tokens and the fault behind them, what strings, assets, paths and numbers mean, and lines and columns.
+pub fn tokens_are_told()
+    ensures { TokensAreTold }
+{}
 
 /// Paths with their texts, texts that are no path with the byte that shows it, and parents, prefixes and other parts of paths.
 pub fn paths_are_told()
