@@ -6,6 +6,9 @@ use Rattle.sdf_paths.specs.Reader.{step, finish}
 use Rattle.usda_lexer.specs.Decimals.{decimal_of}
 use Rattle.usda_lexer.specs.Meanings.{string_text, asset_text, path_text, number_of}
 use Rattle.usda_lexer.specs.Words.{found, next_word, left}
+use Rattle.usda_values.specs.Drafts.{value_act}
+use Rattle.usda_values.specs.PathTexts.{is_path, is_path_text}
+use Rattle.usda_values.specs.Scalars.{whole_of, is_plain, token_value, time_of, tens_out, decimal_of_whole}
 
 -- names and paths
 unfoldable pub of_paths : Unit {0}
@@ -16,3 +19,8 @@ of_paths = tt
 unfoldable pub of_tokens : Unit {0}
 unfolding of_paths decimal_of string_text asset_text path_text number_of found next_word left
 of_tokens = tt
+
+-- values
+unfoldable pub of_values : Unit {0}
+unfolding of_tokens value_act is_path is_path_text whole_of is_plain token_value time_of tens_out decimal_of_whole
+of_values = tt

@@ -3,10 +3,16 @@
 ghost use Rattle.text_examples.specs.ListEdits.{AreTold as EditsAreTold};
 ghost use Rattle.text_examples.specs.Paths.{AreTold as PathsAreTold};
 ghost use Rattle.text_examples.specs.Tokens.{AreTold as TokensAreTold};
+ghost use Rattle.text_examples.specs.Values.{AreTold as ValuesAreTold};
 
 /// Texts with their tokens and the fault behind them, what strings, assets, paths and numbers mean, and lines and columns.
 pub fn tokens_are_told()
     ensures { TokensAreTold }
+{}
+
+/// Texts that are read as values, with a type or without, and texts that are refused, each with its kind and its byte.
+pub fn values_are_told()
+    ensures { ValuesAreTold }
 {}
 
 /// Paths with their texts, texts that are no path with the byte that shows it, and parents, prefixes and other parts of paths.

@@ -6,4 +6,4 @@
 
 mod laws;
 
-pub use laws::{list_edits_are_told, paths_are_told, tokens_are_told};
+pub use laws::{list_edits_are_told, paths_are_told, tokens_are_told, values_are_told};
