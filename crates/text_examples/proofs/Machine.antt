@@ -1,6 +1,6 @@
 -- What the reader of paths makes of a text that is written out, as what the text is.
-use Rattle.std.proofs.Common.{◌≡◌, ℕ, Bool, true, false, List, [], ◌∷◌, ◌++◌, length, ◌≤◌, nat_le, Option, Some, None, is_some, refl, sym, ap, inl}
-use Rattle.std.specs.Str.{encode_utf8_all, chars, is_utf8, IsUtf8}
+use Rattle.std.proofs.Common.{◌≡◌, ℕ, Bool, true, false, List, [], ◌∷◌, ◌++◌, length, nat_le, Option, Some, None, refl, inl}
+use Rattle.std.specs.Str.{encode_utf8_all, chars, is_utf8}
 use Rattle.std.proofs.lemmas.Bool.{leb-true}
 use Rattle.std.proofs.lemmas.Str.{IsUtf8-from_is_utf8}
 use Rattle.sdf_paths.specs.Paths.{IsReadAs}

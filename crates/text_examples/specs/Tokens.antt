@@ -1,11 +1,10 @@
 -- Texts with their tokens, what tokens mean, and lines and columns. A text in bytes has letters beyond ASCII.
 use Rattle.std.specs.Prelude.{◌≡◌, ℕ, ◌+◌, ℤ, pos, negsuc, List, [], ◌∷◌, ◌++◌, length, codes, Option, Some, None}
 use Rattle.sdf_values.specs.declared.decimal.Num.{Num}
-use Rattle.sdf_values.specs.declared.decimal.Num.TheVariants.{Finite, Inf, NegInf, Nan}
+use Rattle.sdf_values.specs.declared.decimal.Num.TheVariants.{Finite, NegInf, Nan}
 use Rattle.usda_lexer.specs.Meanings.{string_text, asset_text, path_text, number_of}
 use Rattle.usda_lexer.specs.Places.{place_of}
 use Rattle.usda_lexer.specs.Words.{Word, tokens_of}
-use Rattle.usda_lexer.specs.declared.place.Place.{Place}
 use Rattle.usda_lexer.specs.declared.token.LexFault.{LexFault}
 use Rattle.usda_lexer.specs.declared.token.LexFault.TheVariants.{Unclosed, BadByte, NumberTooLong}
 use Rattle.usda_lexer.specs.declared.token.Mark.{Mark}

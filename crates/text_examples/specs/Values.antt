@@ -6,9 +6,11 @@ use Rattle.sdf_values.specs.declared.refusal.RefusalKind.TheVariants.{Syntax, Nu
 use Rattle.sdf_values.specs.declared.type_name.ElementType.{ElementType}
 use Rattle.sdf_values.specs.declared.type_name.ElementType.TheVariants as element
 use Rattle.sdf_values.specs.declared.type_name.Matrix.TheVariants.{Matrix2}
-use Rattle.sdf_values.specs.declared.type_name.Precision.TheVariants.{Float, Double}
+use Rattle.sdf_values.specs.declared.type_name.Precision.TheVariants.{Float}
 use Rattle.sdf_values.specs.declared.type_name.Role.TheVariants.{Color3}
 use Rattle.sdf_values.specs.declared.type_name.Width.TheVariants.{Two, Three}
+use Rattle.sdf_values.specs.declared.value.DictItem.{DictItem}
+use Rattle.sdf_values.specs.declared.value.DictType.{DictType}
 use Rattle.sdf_values.specs.declared.value.DictType.TheVariants as dict
 use Rattle.sdf_values.specs.declared.value.Value.{Value}
 use Rattle.sdf_values.specs.declared.value.Value.TheVariants as value
@@ -39,6 +41,13 @@ whole n = value.Whole (pos n)
 abbrev pub real : ℤ → ℤ → Value
 real digits exp = value.Number (Finite (record { digits = digits; exp = exp }))
 
+-- an entry of a dictionary
+abbrev pub item : List ℕ → DictType → Value → DictItem
+item key ty v = record { key = key; ty = ty; value = v }
+
+abbrev pub plain : ElementType → DictType
+plain e = dict.Plain (record { element = e; array = false })
+
 -- where no type is expected
 pub record UntypedAreTold : Type 0 where
   pub word : Is Untyped (codes "inherited") (value.Word (codes "inherited"))
@@ -61,16 +70,8 @@ pub record NestedAreTold : Type 0 where
   pub empty_array : Is Untyped (codes "[]") (value.Array [])
   pub nested : Is Untyped (codes "[(1, 2), []]") (value.Array (value.Tuple (whole 1 ∷ whole 2 ∷ []) ∷ value.Array [] ∷ []))
   -- entries stand in byte order of their keys, whatever order they are written in
-  pub dictionary :
-    Is Untyped (codes "{ int b = 1; dictionary c = { } string \"a b\" = \"x\" }")
-      (value.Dict (
-        record { key = codes "a b"; ty = dict.Plain (record { element = element.String; array = false }); value = value.Text (codes "x") }
-        ∷ record { key = codes "b"; ty = dict.Plain (record { element = element.Int; array = false }); value = value.Whole (pos 1) }
-        ∷ record { key = codes "c"; ty = dict.Dictionary; value = value.Dict [] }
-        ∷ [])
-      )
-  pub dictionary_array :
-    Is Untyped (codes "{ int[] a = [1] }") (value.Dict (record { key = codes "a"; ty = dict.Plain (record { element = element.Int; array = true }); value = value.Array (value.Whole (pos 1) ∷ []) } ∷ []))
+  pub dictionary : Is Untyped (codes "{ int b = 1; dictionary c = { } string \"a b\" = \"x\" }") (value.Dict (item (codes "a b") (plain element.String) (value.Text (codes "x")) ∷ item (codes "b") (plain element.Int) (whole 1) ∷ item (codes "c") dict.Dictionary (value.Dict []) ∷ []))
+  pub dictionary_array : Is Untyped (codes "{ int[] a = [1] }") (value.Dict (item (codes "a") (dict.Plain (record { element = element.Int; array = true })) (value.Array (whole 1 ∷ [])) ∷ []))
 
 -- where a value of a type is expected
 pub record TypedAreTold : Type 0 where
