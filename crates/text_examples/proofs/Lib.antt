@@ -1,0 +1,5 @@
+mod Computing
+mod Machine
+mod Tokens
+mod Values
+mod Paths
