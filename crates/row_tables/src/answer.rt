@@ -5,7 +5,7 @@ use crate::fault::CallFault;
 use crate::fields::push_fields_call;
 use crate::indexes::{push_index_call, push_site_call, push_sites_call};
 use crate::layers::{push_layer_call, push_loaded_call, push_names_call, push_rule_call};
-use crate::opening::{Opened, Opening};
+use crate::opening::{Opened, Trial, make_bare, open_once, push_one_call, push_open_call};
 use crate::stacks::{push_arcs_call, push_reads_call, push_sets_call, push_stack_call};
 use crate::stages::{push_ask_call, push_flatten_call};
 use crate::table::Row;
@@ -86,25 +86,33 @@ fn push_call(
     }
 }
 
-// The answer to a call on a world that was opened.
-fn answered(alloc: Global, opened: &mut Opened, row: &Row) -> Result<String, AllocError> {
+// The calls on files, and those on a world.
+fn push_trial(
+    alloc: Global,
+    out: &mut String,
+    trial: &mut Trial,
+    row: &Row,
+) -> Result<(), CallFault> {
+    let (word, words) = first_word(row.call.as_str());
+    match word {
+        "open" => return push_open_call(alloc, out, &mut trial.files, words),
+        "one" => return push_one_call(alloc, out, &mut trial.files, words),
+        "bare" => return make_bare(alloc, trial, words),
+        _ => open_once(alloc, out, trial)?,
+    }
+    match &mut trial.opened {
+        Some(opened) => push_call(alloc, out, opened, row),
+        None => Ok(()),
+    }
+}
+
+/// The lines with which a call is answered, each with its line feed.
+pub(crate) fn answer(alloc: Global, trial: &mut Trial, row: &Row) -> Result<String, AllocError> {
     let mut out = String::new(alloc);
-    match push_call(alloc, &mut out, opened, row) {
+    match push_trial(alloc, &mut out, trial, row) {
         Ok(()) => {}
         Err(CallFault::Bad) => out.push_str("no such call\n")?,
         Err(CallFault::NoMemory) => return Err(AllocError),
     }
     Ok(out)
-}
-
-/// The lines with which a call is answered, each with its line feed.
-pub(crate) fn answer(
-    alloc: Global,
-    opening: &mut Opening,
-    row: &Row,
-) -> Result<String, AllocError> {
-    match opening {
-        Opening::World(opened) => answered(alloc, opened, row),
-        Opening::Refused(text) => String::from_str(alloc, text.as_str()),
-    }
 }

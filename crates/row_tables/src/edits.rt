@@ -4,10 +4,13 @@ use crate::fault::CallFault;
 use crate::opening::Opened;
 use crate::stacks::push_key;
 use crate::stages::push_bytes;
+use crate::table::{Case, read_table};
 use change_core::EditReply;
+use io_edges::SureFiles;
 use layer_changes::{Applied, apply};
 use layer_edit::{Batch, EditFault, EditRefused, Op};
-use layer_set::{Held, Key};
+use layer_load::load_one;
+use layer_set::Key;
 use plain_data::Items;
 use script_lines::{Line, read_line};
 use stage_questions::push_edit_reply;
@@ -16,16 +19,37 @@ use std::alloc::{AllocError, Global};
 /// How the reply to a batch begins that is refused.
 const REFUSED: &str = "batch refused: op ";
 
-// The operations of lines; `open` stands for a layer whose file is gone.
+// The files of lines, for `open`. A name without one is that of a file that is gone.
+fn files_of(alloc: Global, lines: &str) -> Result<SureFiles, AllocError> {
+    let mut all = Vec::new(alloc);
+    for case in read_table(alloc, lines)?.cases {
+        let Case {
+            session: _,
+            fails: _,
+            files,
+            rows: _,
+        } = case;
+        all = files;
+    }
+    Ok(SureFiles::new(all))
+}
+
+// The operations of lines.
 fn ops_of(alloc: Global, lines: &str) -> Result<Items<Op>, CallFault> {
+    let mut files = files_of(alloc, lines)?;
     let mut ops = Items::new(alloc);
     for line in lines.split('\n') {
+        if line.starts_with("|") || line.starts_with("layer ") {
+            continue;
+        }
         match read_line(alloc, line.as_bytes())? {
             Some(Line::Change(op)) => ops.push(op)?,
-            Some(Line::Open(id)) => ops.push(Op::PutLayer {
-                id,
-                held: Held::Absent,
-            })?,
+            Some(Line::Open(id)) => {
+                let Ok((held, _bytes)) = load_one(alloc, &mut files, &id, 0) else {
+                    return Err(CallFault::Bad);
+                };
+                ops.push(Op::PutLayer { id, held })?;
+            }
             Some(Line::Blank) => {}
             _ => return Err(CallFault::Bad),
         }

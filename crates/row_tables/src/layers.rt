@@ -1,27 +1,12 @@
 //! Calls on what stands in a world.
 
 use crate::fault::CallFault;
-use crate::printing::push_refusal;
+use crate::printing::push_held;
 use crate::stages::push_bytes;
 use crate::words::{layer_name, path_of};
 use layer_set::{Held, World};
 use std::alloc::{AllocError, Global};
 use usda_writer::write_layer;
-
-fn push_held(alloc: Global, out: &mut String, held: &Held) -> Result<(), AllocError> {
-    match held {
-        Held::Present(layer) => {
-            let text = write_layer(alloc, layer)?;
-            push_bytes(alloc, out, text.as_slice())
-        }
-        Held::Absent => out.push_str("absent\n"),
-        Held::Broken(refusal) => {
-            out.push_str("refused ")?;
-            push_refusal(out, *refusal)?;
-            out.push_str("\n")
-        }
-    }
-}
 
 /// `layer NAME`: the canonical text of the layer, or what stands there in its place.
 pub(crate) fn push_layer_call(
@@ -35,7 +20,13 @@ pub(crate) fn push_layer_call(
         out.push_str("no name\n")?;
         return Ok(());
     }
-    push_held(alloc, out, world.held(&name))?;
+    match world.held(&name) {
+        Held::Present(layer) => {
+            let text = write_layer(alloc, layer)?;
+            push_bytes(alloc, out, text.as_slice())?;
+        }
+        held => push_held(out, held)?,
+    }
     Ok(())
 }
 

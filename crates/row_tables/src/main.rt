@@ -6,6 +6,7 @@ mod answer;
 mod edits;
 mod fault;
 mod fields;
+mod files;
 mod indexes;
 mod layers;
 mod opening;
@@ -25,7 +26,7 @@ use std::io;
 use table::read_table;
 
 /// The tables, by the names of their files. One without a file is passed over.
-static TABLES: [&str; 12] = [
+static TABLES: [&str; 13] = [
     "arcs.rows",
     "index.rows",
     "values.rows",
@@ -38,6 +39,7 @@ static TABLES: [&str; 12] = [
     "batches.rows",
     "worlds.rows",
     "layers.rows",
+    "opening.rows",
 ];
 
 // The text of a file, if there is one.

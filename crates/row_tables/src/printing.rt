@@ -1,7 +1,7 @@
 //! What answers are made of, in print.
 
 use asset_names::AssetId;
-use layer_set::World;
+use layer_set::{Held, World};
 use path_maps::ArcKind;
 use plain_data::{Items, Text};
 use prim_view::{Choices, PrimFault, Site, StackName, print_fault, refusal_name};
@@ -77,6 +77,19 @@ pub(crate) fn push_refusal(out: &mut String, refusal: Refusal) -> Result<(), All
     let line = refusal.line;
     let column = refusal.column;
     write!(out, "{kind} {line}:{column}")
+}
+
+/// Appends a line for what stands at a name: the root prims of a layer, or what is there in its place.
+pub(crate) fn push_held(out: &mut String, held: &Held) -> Result<(), AllocError> {
+    match held {
+        Held::Present(layer) => push_texts(out, layer.head().root_names.as_slice())?,
+        Held::Absent => out.push_str("absent")?,
+        Held::Broken(refusal) => {
+            out.push_str("refused ")?;
+            push_refusal(out, *refusal)?;
+        }
+    }
+    out.push_str("\n")
 }
 
 /// Appends the name of a stack.

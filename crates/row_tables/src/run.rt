@@ -1,8 +1,8 @@
 //! The rows of a table, each compared with what it wants.
 
 use crate::answer::answer;
-use crate::fault::CallFault;
-use crate::opening::{Opening, open};
+use crate::files::AskedFiles;
+use crate::opening::Trial;
 use crate::table::{Case, Row, Table};
 use std::alloc::{AllocError, Global};
 use std::fmt::Write;
@@ -55,11 +55,11 @@ fn push_row(out: &mut String, name: &str, row: &Row, got: &str) -> Result<(), Al
 fn run_row(
     alloc: Global,
     name: &str,
-    opening: &mut Opening,
+    trial: &mut Trial,
     row: &Row,
     out: &mut String,
 ) -> Result<Count, AllocError> {
-    let got = answer(alloc, opening, row)?;
+    let got = answer(alloc, trial, row)?;
     let differs = got.as_str() != row.wanted.as_str();
     if differs {
         push_row(out, name, row, got.as_str())?;
@@ -67,32 +67,22 @@ fn run_row(
     Ok(Count::one(differs))
 }
 
-// Opens a world; where no world has such a session layer, that is its answer.
-fn opened(alloc: Global, case: Case) -> Result<(Opening, Vec<Row>), AllocError> {
-    let Case {
-        session,
-        files,
-        rows,
-    } = case;
-    match open(alloc, &session, files) {
-        Ok(opening) => Ok((opening, rows)),
-        Err(CallFault::Bad) => {
-            let text = String::from_str(alloc, "no name of a session layer\n")?;
-            Ok((Opening::Refused(text), rows))
-        }
-        Err(CallFault::NoMemory) => Err(AllocError),
-    }
-}
-
 // Makes the calls on a world.
 fn run_case(alloc: Global, name: &str, case: Case, out: &mut String) -> Result<Count, AllocError> {
     let mut all = Count { rows: 0, differ: 0 };
-    if case.rows.is_empty() {
-        return Ok(all);
-    }
-    let (mut opening, rows) = opened(alloc, case)?;
+    let Case {
+        session,
+        fails,
+        files,
+        rows,
+    } = case;
+    let mut trial = Trial {
+        files: AskedFiles::new(alloc, files, fails.as_str())?,
+        session,
+        opened: None,
+    };
     for row in rows.as_slice() {
-        all = all.and(run_row(alloc, name, &mut opening, row, out)?);
+        all = all.and(run_row(alloc, name, &mut trial, row, out)?);
     }
     Ok(all)
 }

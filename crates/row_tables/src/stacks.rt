@@ -20,7 +20,7 @@ fn push_layer(out: &mut String, name: &AssetId, offset: LayerOffset) -> Result<(
     out.push_str("\n")
 }
 
-/// `stack STACK`: its layers, its faults, and the names that it asks.
+/// `stack STACK`: the name that it means, its layers, its faults, and the names that it asks.
 pub(crate) fn push_stack_call(
     alloc: Global,
     out: &mut String,
@@ -29,6 +29,9 @@ pub(crate) fn push_stack_call(
 ) -> Result<(), CallFault> {
     let name = stack_name(alloc, words)?;
     let found = stack(alloc, world, &name)?;
+    out.push_str("stack ")?;
+    push_stack(out, &found.name)?;
+    out.push_str("\n")?;
     for (name, offset) in found.layers.as_slice() {
         push_layer(out, name, *offset)?;
     }

@@ -6,10 +6,14 @@
 //! # a comment; blank lines count for nothing
 //! world               a new world, without files, whose root layer is root.usda
 //! session s.usda      the name of its session layer
+//! fails 2 5           which fetches of its files fail, counted from 1; `fails memory`: each, for want of memory
 //! layer m.usda        the name of a file; its lines follow, each behind a mark
 //! |#usda 1.0          a line of a file
+//! !def "M" {}         a line without its line feed
+//! size 67108864       so many bytes make the file; what is missing are `-`
 //! ? names             a call on the world that is opened from the files
 //! >unload /A          a line that belongs to the call
+//! >layer n.usda       of a batch: the file that its operation `open` finds; its lines follow, as >|#usda 1.0
 //! =root.usda          a line that is wanted of the answer
 //! ```
 
@@ -34,7 +38,9 @@ pub(crate) type File = (String, Vec<u8>);
 /// The files of a world, and the rows on it.
 #[derive(Drop)]
 pub(crate) struct Case {
-    pub session: Option<String>,
+    /// The word of the session layer, empty for none.
+    pub session: String,
+    pub fails: String,
     pub files: Vec<File>,
     pub rows: Vec<Row>,
 }
@@ -53,8 +59,10 @@ enum TableLine<'t> {
     Nothing,
     World,
     Session(&'t str),
+    Fails(&'t str),
     Layer(&'t str),
-    Text(&'t str),
+    Text(&'t str, &'static str),
+    Size(&'t str),
     Call(&'t str),
     Given(&'t str),
     Wanted(&'t str),
@@ -69,6 +77,12 @@ fn worded(line: &str) -> TableLine<'_> {
     if let Some(name) = line.strip_prefix("session ") {
         return TableLine::Session(name);
     }
+    if let Some(words) = line.strip_prefix("fails ") {
+        return TableLine::Fails(words);
+    }
+    if let Some(size) = line.strip_prefix("size ") {
+        return TableLine::Size(size);
+    }
     match line.strip_prefix("layer ") {
         Some(name) => TableLine::Layer(name),
         None => TableLine::Strange,
@@ -79,6 +93,9 @@ fn worded(line: &str) -> TableLine<'_> {
 fn marked(line: &str) -> TableLine<'_> {
     if let Some(call) = line.strip_prefix("? ") {
         return TableLine::Call(call);
+    }
+    if let Some(text) = line.strip_prefix("!") {
+        return TableLine::Text(text, "");
     }
     if let Some(given) = line.strip_prefix(">") {
         return TableLine::Given(given);
@@ -95,7 +112,7 @@ fn line_of(line: &str) -> TableLine<'_> {
         return TableLine::Nothing;
     }
     match line.strip_prefix("|") {
-        Some(text) => TableLine::Text(text),
+        Some(text) => TableLine::Text(text, "\n"),
         None => marked(line),
     }
 }
@@ -103,7 +120,8 @@ fn line_of(line: &str) -> TableLine<'_> {
 // The files and rows of a world of which nothing was read yet.
 fn empty_case(alloc: Global) -> Case {
     Case {
-        session: None,
+        session: String::new(alloc),
+        fails: String::new(alloc),
         files: Vec::new(alloc),
         rows: Vec::new(alloc),
     }
@@ -176,16 +194,28 @@ impl Draft {
         Ok(())
     }
 
-    // A line of a file; nothing where none was begun.
-    fn push_text(&mut self, text: &str) -> Result<Option<()>, AllocError> {
+    // A line of a file with its end; nothing where none was begun.
+    fn push_text(&mut self, text: &str, end: &str) -> Result<Option<()>, AllocError> {
         match self.file.take() {
             Some((name, mut bytes)) => {
                 bytes.extend_from_slice(text.as_bytes())?;
-                bytes.extend_from_slice(b"\n")?;
+                bytes.extend_from_slice(end.as_bytes())?;
                 self.file = Some((name, bytes));
                 Ok(Some(()))
             }
             None => Ok(None),
+        }
+    }
+
+    // The size of a file; nothing where none was begun.
+    fn set_size(&mut self, size: &str) -> Result<Option<()>, AllocError> {
+        match (self.file.take(), size.parse::<usize>()) {
+            (Some((name, mut bytes)), Ok(size)) => {
+                bytes.resize(size, b'-')?;
+                self.file = Some((name, bytes));
+                Ok(Some(()))
+            }
+            _ => Ok(None),
         }
     }
 
@@ -216,7 +246,14 @@ impl Draft {
     // The name of the session layer.
     fn set_session(&mut self, name: &str) -> Result<(), AllocError> {
         self.end()?;
-        self.case.session = Some(String::from_str(self.alloc, name)?);
+        self.case.session = String::from_str(self.alloc, name)?;
+        Ok(())
+    }
+
+    // Which fetches fail.
+    fn set_fails(&mut self, words: &str) -> Result<(), AllocError> {
+        self.end()?;
+        self.case.fails = String::from_str(self.alloc, words)?;
         Ok(())
     }
 
@@ -226,8 +263,10 @@ impl Draft {
             TableLine::Nothing => Ok(Some(())),
             TableLine::World => Ok(Some(self.end_case()?)),
             TableLine::Session(name) => Ok(Some(self.set_session(name)?)),
+            TableLine::Fails(words) => Ok(Some(self.set_fails(words)?)),
             TableLine::Layer(name) => Ok(Some(self.begin_file(name)?)),
-            TableLine::Text(text) => self.push_text(text),
+            TableLine::Text(text, end) => self.push_text(text, end),
+            TableLine::Size(size) => self.set_size(size),
             TableLine::Call(call) => Ok(Some(self.begin_row(number, call)?)),
             TableLine::Given(text) => self.push_given(text),
             TableLine::Wanted(text) => self.push_wanted(text),

@@ -1,3 +1,0 @@
-//! Openings that end without a world.
-mod failing;
-mod refused;
