@@ -1,5 +1,5 @@
 //! The words of a line: what stands in front, and the bytes behind it.
-ghost use Rattle.std.specs.Prelude.{◌≡◌, ◌≤◌, IfSome, length, slice_range};
+ghost use Rattle.std.specs.Prelude.{◌≡◌, ◌≤◌, IfSome, drop, length, slice_range};
 ghost use Rattle.std.specs.List.{prefix_len};
 ghost use Rattle.std.specs.Option.{option_copied, option_map};
 ghost use Rattle.usda_lexer.specs.Blanks.{is_blank, IsGap};
@@ -205,7 +205,7 @@ fn run_path(alloc: Global, bytes: &[u8]) -> Result<(Path, &[u8]), LineFault>
 fn stop_of(tokens: &Tokens<'_>) -> Option<usize>
     ensures value { result ≡ stop_of (left tokens.now) }
     ensures within { IfSome result (λ at. at ≤ length tokens.now.source) }
-    ensures gap { IfSome result (λ at. IsGap (slice_range tokens.now.source tokens.now.at at)) }
+    ensures gap { IfSome result (λ at. IsGap (slice_range tokens.now.source tokens.now.at at) (drop at tokens.now.source)) }
 {
     match tokens.peek() {
         Err(LexFault::BadByte { at }) => Some(at),
@@ -218,7 +218,7 @@ fn stop_of(tokens: &Tokens<'_>) -> Option<usize>
 fn path_start(bytes: &[u8]) -> Option<usize>
     ensures value { result ≡ path_start bytes.now }
     ensures within { IfSome result (λ at. at ≤ length bytes.now) }
-    ensures gap { IfSome result (λ at. IsGap (slice_range bytes.now 0 at)) }
+    ensures gap { IfSome result (λ at. IsGap (slice_range bytes.now 0 at) (drop at bytes.now)) }
 {
     match Tokens::new(bytes) {
         Ok(tokens) => stop_of(&tokens),
