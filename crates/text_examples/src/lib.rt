@@ -1,4 +1,4 @@
-//! Examples of what the definitions give: tokens, values, lists, paths, list edits and refusals.
+//! Examples of what the definitions give: tokens, values, paths and list edits.
 //!
 //! Each example is an equation or a fact on closed terms that the prover computes. They stand apart from the crates whose
 //! definitions they show, so that those need no proof anew.
