@@ -1,7 +1,7 @@
 // What holds of blanks and comments, each law as the clause of a function that does nothing.
 ghost use Rattle.usda_lexer.specs.Laws.{AreGapsGoneOver, IsTokenInNoComment};
 
-/// Blanks and whole comments in front of a token, or of the end of the text, are what is gone over before it.
+/// Blanks and whole comments behind which neither a blank nor a comment begins are exactly what is gone over.
 pub fn gaps_are_gone_over()
     ensures { AreGapsGoneOver }
 {}
