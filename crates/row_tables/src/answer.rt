@@ -6,7 +6,7 @@ use crate::fields::push_fields_call;
 use crate::indexes::{push_index_call, push_site_call, push_sites_call};
 use crate::layers::{push_layer_call, push_loaded_call, push_names_call, push_rule_call};
 use crate::opening::{Opened, Trial, make_bare, open_once, push_one_call, push_open_call};
-use crate::stacks::{push_arcs_call, push_reads_call, push_sets_call, push_stack_call};
+use crate::stacks::{push_arcs_call, push_sets_call, push_stack_call};
 use crate::stages::{push_ask_call, push_flatten_call};
 use crate::table::Row;
 use crate::values::{push_targets_call, push_value_call};
@@ -15,8 +15,8 @@ use crate::words::first_word;
 use layer_set::World;
 use std::alloc::{AllocError, Global};
 
-// Calls on what stands in a world.
-fn push_layers(
+// Calls on a world as it stands.
+fn push_looks(
     alloc: Global,
     out: &mut String,
     world: &World,
@@ -28,36 +28,10 @@ fn push_layers(
         "names" => Ok(push_names_call(out, world)?),
         "rule" => push_rule_call(alloc, out, world, words),
         "loaded" => push_loaded_call(alloc, out, world, words),
-        _ => Err(CallFault::Bad),
-    }
-}
-
-// Calls on stacks, and those above.
-fn push_stacks(
-    alloc: Global,
-    out: &mut String,
-    world: &World,
-    word: &str,
-    words: &str,
-) -> Result<(), CallFault> {
-    match word {
         "stack" => push_stack_call(alloc, out, world, words),
-        "arcs" => push_arcs_call(alloc, out, world, words),
-        "reads" => push_reads_call(alloc, out, world, words),
+        "arcs" => push_arcs_call(alloc, out, world, words, false),
+        "reads" => push_arcs_call(alloc, out, world, words, true),
         "sets" => push_sets_call(alloc, out, world, words),
-        _ => push_layers(alloc, out, world, word, words),
-    }
-}
-
-// Calls on a prim, and those above.
-fn push_prims(
-    alloc: Global,
-    out: &mut String,
-    world: &World,
-    word: &str,
-    words: &str,
-) -> Result<(), CallFault> {
-    match word {
         "index" => push_index_call(alloc, out, world, words),
         "sites" => push_sites_call(alloc, out, world, words),
         "site" => push_site_call(alloc, out, world, words),
@@ -65,7 +39,7 @@ fn push_prims(
         "targets" => push_targets_call(alloc, out, world, words),
         "fields" => push_fields_call(alloc, out, world, words),
         "view" => push_view_call(alloc, out, world, words),
-        _ => push_stacks(alloc, out, world, word, words),
+        _ => Err(CallFault::Bad),
     }
 }
 
@@ -82,7 +56,7 @@ fn push_call(
         "batch" => push_batch_call(alloc, out, opened, row.given.as_str()),
         "ask" => push_ask_call(alloc, out, opened, words),
         "flatten" => push_flatten_call(alloc, out, opened),
-        _ => push_prims(alloc, out, &opened.world, word, words),
+        _ => push_looks(alloc, out, &opened.world, word, words),
     }
 }
 

@@ -2,7 +2,7 @@
 
 use crate::fault::CallFault;
 use crate::opening::Opened;
-use crate::stacks::push_key;
+use crate::stacks::push_keys;
 use crate::stages::push_bytes;
 use crate::table::{Case, read_table};
 use change_core::EditReply;
@@ -57,25 +57,6 @@ fn ops_of(alloc: Global, lines: &str) -> Result<Items<Op>, CallFault> {
     Ok(ops)
 }
 
-// The batch of lines.
-fn batch_of(alloc: Global, lines: &str) -> Result<Batch, CallFault> {
-    let ops = ops_of(alloc, lines)?;
-    Batch::of(ops).ok_or(CallFault::Bad)
-}
-
-// Appends a line for each key.
-fn push_changed(out: &mut String, keys: &[Key]) -> Result<(), AllocError> {
-    if keys.is_empty() {
-        return out.push_str("nothing changed\n");
-    }
-    for key in keys {
-        out.push_str("changed ")?;
-        push_key(out, key)?;
-        out.push_str("\n")?;
-    }
-    Ok(())
-}
-
 // Appends which operation is refused, and why.
 fn push_refused(
     alloc: Global,
@@ -101,7 +82,9 @@ fn try_batch(
     opened: &mut Opened,
     lines: &str,
 ) -> Result<Option<Items<Key>>, CallFault> {
-    let batch = batch_of(alloc, lines)?;
+    let Some(batch) = Batch::of(ops_of(alloc, lines)?) else {
+        return Err(CallFault::Bad);
+    };
     match apply(alloc, &opened.world, &batch) {
         Ok(Applied { world, changed }) => {
             opened.world = world;
@@ -124,7 +107,10 @@ pub(crate) fn push_apply_call(
     lines: &str,
 ) -> Result<(), CallFault> {
     if let Some(keys) = try_batch(alloc, out, opened, lines)? {
-        push_changed(out, keys.as_slice())?;
+        if keys.is_empty() {
+            out.push_str("nothing changed\n")?;
+        }
+        push_keys(out, "changed ", keys.as_slice())?;
     }
     Ok(())
 }

@@ -10,6 +10,7 @@ use path_maps::ArcMap;
 use prim_index::index;
 use prim_view::Site;
 use std::alloc::{AllocError, Global};
+use std::fmt::Write;
 
 /// `index PATH`: sites, choices and faults, and whether it is overgrown.
 pub(crate) fn push_index_call(
@@ -21,7 +22,7 @@ pub(crate) fn push_index_call(
     let path = path_of(alloc, words)?;
     let found = index(alloc, world, &path)?;
     push_sites(out, world, found.sites())?;
-    push_choices(out, "choice", found.choices())?;
+    push_choices(out, "choice", found.choices().as_slice())?;
     push_faults(out, found.faults())?;
     if found.is_overgrown() {
         out.push_str("overgrown\n")?;
@@ -57,19 +58,14 @@ fn push_map(out: &mut String, map: &ArcMap) -> Result<(), AllocError> {
     out.push_str("\n")
 }
 
-fn push_flag(out: &mut String, word: &str, flag: bool) -> Result<(), AllocError> {
-    out.push_str(word)?;
-    out.push_str(if flag { "true" } else { "false" })
-}
-
 // Appends a site with all that is known of it.
 fn push_whole_site(out: &mut String, world: &World, site: &Site) -> Result<(), AllocError> {
     push_site(out, world, site)?;
     out.push_str(" offset ")?;
     push_offset(out, site.offset)?;
-    push_flag(out, " by_class ", site.by_class)?;
-    push_flag(out, " has_spec ", site.has_spec)?;
-    out.push_str("\n")?;
+    let by_class = site.by_class;
+    let has_spec = site.has_spec;
+    writeln!(out, " by_class {by_class} has_spec {has_spec}")?;
     for map in site.maps.as_slice() {
         push_map(out, map)?;
     }

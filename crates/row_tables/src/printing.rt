@@ -1,10 +1,9 @@
 //! What answers are made of, in print.
 
-use asset_names::AssetId;
 use layer_set::{Held, World};
 use path_maps::ArcKind;
 use plain_data::{Items, Text};
-use prim_view::{Choices, PrimFault, Site, StackName, print_fault, refusal_name};
+use prim_view::{PrimFault, Site, StackName, print_fault, refusal_name};
 use sdf_paths::Path;
 use sdf_values::{LayerOffset, push_asset, push_string, push_time, push_value};
 use spec_parts::{Refusal, Specifier};
@@ -120,18 +119,14 @@ pub(crate) fn specifier_word(specifier: Specifier) -> &'static str {
     }
 }
 
-// The layer that a stack is named for.
-fn first_layer<'a>(world: &'a World, stack: &'a StackName) -> &'a AssetId {
-    match stack {
-        StackName::Root => world.root(),
-        StackName::Asset(name) => name,
-    }
-}
-
 /// Appends a site, as answers show it.
 pub(crate) fn push_site(out: &mut String, world: &World, site: &Site) -> Result<(), AllocError> {
     out.push_str("site ")?;
-    push_asset(out, first_layer(world, &site.stack).text())?;
+    let layer = match &site.stack {
+        StackName::Root => world.root(),
+        StackName::Asset(name) => name,
+    };
+    push_asset(out, layer.text())?;
     out.push_str(" ")?;
     push_path(out, &site.path)
 }
@@ -153,9 +148,9 @@ pub(crate) fn push_sites(
 pub(crate) fn push_choices(
     out: &mut String,
     word: &str,
-    choices: &Choices,
+    choices: &[(Text, Text)],
 ) -> Result<(), AllocError> {
-    for (set, variant) in choices.as_slice() {
+    for (set, variant) in choices {
         let set = set.as_str();
         let variant = variant.as_str();
         writeln!(out, "{word} {set} {variant}")?;

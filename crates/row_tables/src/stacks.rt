@@ -1,23 +1,52 @@
 //! Calls on layer stacks, and on what their layers author at a path.
 
 use crate::fault::CallFault;
-use crate::printing::{push_faults, push_offset, push_stack, push_target};
+use crate::printing::{push_choices, push_faults, push_offset, push_stack, push_target};
 use crate::words::{first_word, kind_of, path_of, stack_name};
 use arc_expand::{ArcItem, arcs_at, has_spec_at, selections_at, stack_of, variant_sets_at};
 use asset_names::AssetId;
 use layer_set::{Key, World};
 use layer_stack::stack;
-use plain_data::Text;
 use sdf_paths::Path;
-use sdf_values::LayerOffset;
 use std::alloc::{AllocError, Global};
 
-fn push_layer(out: &mut String, name: &AssetId, offset: LayerOffset) -> Result<(), AllocError> {
-    out.push_str("layer ")?;
-    out.push_str(name.text())?;
+// Appends a layer's name and a path.
+fn push_place(out: &mut String, layer: &AssetId, path: &Path) -> Result<(), AllocError> {
+    out.push_str(layer.text())?;
     out.push_str(" ")?;
-    push_offset(out, offset)?;
-    out.push_str("\n")
+    push_target(out, path)
+}
+
+// Appends a key of a world.
+fn push_key(out: &mut String, key: &Key) -> Result<(), AllocError> {
+    match key {
+        Key::Head(layer) => {
+            out.push_str("head ")?;
+            out.push_str(layer.text())
+        }
+        Key::Arcs(layer, path) => {
+            out.push_str("arcs ")?;
+            push_place(out, layer, path)
+        }
+        Key::Body(layer, path) => {
+            out.push_str("body ")?;
+            push_place(out, layer, path)
+        }
+        Key::Load(path) => {
+            out.push_str("load ")?;
+            push_target(out, path)
+        }
+    }
+}
+
+/// Appends a line for each key.
+pub(crate) fn push_keys(out: &mut String, word: &str, keys: &[Key]) -> Result<(), AllocError> {
+    for key in keys {
+        out.push_str(word)?;
+        push_key(out, key)?;
+        out.push_str("\n")?;
+    }
+    Ok(())
 }
 
 /// `stack STACK`: the name that it means, its layers, its faults, and the names that it asks.
@@ -33,7 +62,11 @@ pub(crate) fn push_stack_call(
     push_stack(out, &found.name)?;
     out.push_str("\n")?;
     for (name, offset) in found.layers.as_slice() {
-        push_layer(out, name, *offset)?;
+        out.push_str("layer ")?;
+        out.push_str(name.text())?;
+        out.push_str(" ")?;
+        push_offset(out, *offset)?;
+        out.push_str("\n")?;
     }
     push_faults(out, found.faults.as_slice())?;
     for name in found.asked.as_slice() {
@@ -56,12 +89,13 @@ fn push_arc(out: &mut String, arc: &ArcItem) -> Result<(), AllocError> {
     out.push_str("\n")
 }
 
-/// `arcs KIND STACK PATH`: the arcs, and the faults of items that are none.
+/// `arcs KIND STACK PATH`: the arcs, and the faults of items that are none; `reads KIND STACK PATH`: the keys that they are made of.
 pub(crate) fn push_arcs_call(
     alloc: Global,
     out: &mut String,
     world: &World,
     words: &str,
+    reads: bool,
 ) -> Result<(), CallFault> {
     let (kind, words) = first_word(words);
     let (name, path) = first_word(words);
@@ -70,80 +104,13 @@ pub(crate) fn push_arcs_call(
     let path = path_of(alloc, path)?;
     let stack = stack_of(alloc, world, &name)?;
     let here = arcs_at(alloc, world, &stack, &path, kind)?;
+    if reads {
+        return Ok(push_keys(out, "", here.reads.as_slice())?);
+    }
     for arc in here.items.as_slice() {
         push_arc(out, arc)?;
     }
     push_faults(out, here.faults.as_slice())?;
-    Ok(())
-}
-
-// Appends a layer's name and a path.
-fn push_place(out: &mut String, layer: &AssetId, path: &Path) -> Result<(), AllocError> {
-    out.push_str(layer.text())?;
-    out.push_str(" ")?;
-    push_target(out, path)
-}
-
-/// Appends a key of a world.
-pub(crate) fn push_key(out: &mut String, key: &Key) -> Result<(), AllocError> {
-    match key {
-        Key::Head(layer) => {
-            out.push_str("head ")?;
-            out.push_str(layer.text())
-        }
-        Key::Arcs(layer, path) => {
-            out.push_str("arcs ")?;
-            push_place(out, layer, path)
-        }
-        Key::Body(layer, path) => {
-            out.push_str("body ")?;
-            push_place(out, layer, path)
-        }
-        Key::Load(path) => {
-            out.push_str("load ")?;
-            push_target(out, path)
-        }
-    }
-}
-
-/// `reads KIND STACK PATH`: the keys that the arcs are made of.
-pub(crate) fn push_reads_call(
-    alloc: Global,
-    out: &mut String,
-    world: &World,
-    words: &str,
-) -> Result<(), CallFault> {
-    let (kind, words) = first_word(words);
-    let (name, path) = first_word(words);
-    let kind = kind_of(kind)?;
-    let name = stack_name(alloc, name)?;
-    let path = path_of(alloc, path)?;
-    let stack = stack_of(alloc, world, &name)?;
-    let here = arcs_at(alloc, world, &stack, &path, kind)?;
-    for key in here.reads.as_slice() {
-        push_key(out, key)?;
-        out.push_str("\n")?;
-    }
-    Ok(())
-}
-
-fn push_sets(out: &mut String, sets: &[Text]) -> Result<(), AllocError> {
-    for set in sets {
-        out.push_str("set ")?;
-        out.push_str(set.as_str())?;
-        out.push_str("\n")?;
-    }
-    Ok(())
-}
-
-fn push_selections(out: &mut String, selections: &[(Text, Text)]) -> Result<(), AllocError> {
-    for (set, variant) in selections {
-        out.push_str("selection ")?;
-        out.push_str(set.as_str())?;
-        out.push_str(" ")?;
-        out.push_str(variant.as_str())?;
-        out.push_str("\n")?;
-    }
     Ok(())
 }
 
@@ -159,9 +126,13 @@ pub(crate) fn push_sets_call(
     let path = path_of(alloc, path)?;
     let stack = stack_of(alloc, world, &name)?;
     let sets = variant_sets_at(alloc, world, &stack, &path)?;
-    push_sets(out, sets.as_slice())?;
+    for set in sets.as_slice() {
+        out.push_str("set ")?;
+        out.push_str(set.as_str())?;
+        out.push_str("\n")?;
+    }
     let selections = selections_at(alloc, world, &stack, &path)?;
-    push_selections(out, selections.as_slice())?;
+    push_choices(out, "selection", selections.as_slice())?;
     let has_spec = has_spec_at(alloc, world, &stack, &path)?;
     out.push_str(if has_spec { "has spec\n" } else { "no spec\n" })?;
     Ok(())

@@ -2,7 +2,6 @@
 
 use crate::fault::CallFault;
 use crate::opening::{Opened, Stage};
-use asset_names::AssetId;
 use compose_api::{StageRefused, stage_items_within};
 use flatten::flatten_text;
 use layer_set::World;
@@ -46,19 +45,6 @@ pub(crate) fn push_bytes(alloc: Global, out: &mut String, bytes: &[u8]) -> Resul
     out.push_str(text.as_str())
 }
 
-// Appends the answer to a question on a stage of a world with this root layer.
-fn push_reply(
-    alloc: Global,
-    out: &mut String,
-    root: &AssetId,
-    stage: &Stage,
-    question: &Question,
-) -> Result<(), AllocError> {
-    let mut answer = Vec::new(alloc);
-    push_answer(alloc, &mut answer, root, &stage.view(), question)?;
-    push_bytes(alloc, out, answer.as_slice())
-}
-
 /// `ask QUESTION`: the answer, as a session writes it.
 pub(crate) fn push_ask_call(
     alloc: Global,
@@ -69,15 +55,14 @@ pub(crate) fn push_ask_call(
     let question = question_of(alloc, words)?;
     compose_once(alloc, opened)?;
     match &opened.stage {
-        Some(stage) => Ok(push_reply(alloc, out, opened.world.root(), stage, &question)?),
+        Some(stage) => {
+            let mut answer = Vec::new(alloc);
+            let root = opened.world.root();
+            push_answer(alloc, &mut answer, root, &stage.view(), &question)?;
+            Ok(push_bytes(alloc, out, answer.as_slice())?)
+        }
         None => Err(CallFault::Bad),
     }
-}
-
-// Appends the text of the flattened layer of a stage.
-fn push_flat(alloc: Global, out: &mut String, stage: &Stage) -> Result<(), AllocError> {
-    let text = flatten_text(alloc, &stage.view())?;
-    push_bytes(alloc, out, text.as_slice())
 }
 
 /// `flatten`: the text of the flattened layer.
@@ -88,7 +73,10 @@ pub(crate) fn push_flatten_call(
 ) -> Result<(), CallFault> {
     compose_once(alloc, opened)?;
     match &opened.stage {
-        Some(stage) => Ok(push_flat(alloc, out, stage)?),
+        Some(stage) => {
+            let text = flatten_text(alloc, &stage.view())?;
+            Ok(push_bytes(alloc, out, text.as_slice())?)
+        }
         None => Err(CallFault::Bad),
     }
 }

@@ -20,6 +20,9 @@
 use std::alloc::{AllocError, Global};
 use std::mem;
 
+/// A long file is made in pieces of so many bytes.
+const PIECE: usize = 65_536;
+
 /// A call, with the lines that belong to it and those that are wanted of it.
 #[derive(Drop)]
 pub(crate) struct Row {
@@ -53,70 +56,6 @@ pub(crate) struct Table {
     pub strange: Vec<usize>,
 }
 
-/// What a line of a table says.
-#[derive(Drop)]
-enum TableLine<'t> {
-    Nothing,
-    World,
-    Session(&'t str),
-    Fails(&'t str),
-    Layer(&'t str),
-    Text(&'t str, &'static str),
-    Size(&'t str),
-    Call(&'t str),
-    Given(&'t str),
-    Wanted(&'t str),
-    Strange,
-}
-
-// What a line says that begins with a word.
-fn worded(line: &str) -> TableLine<'_> {
-    if line == "world" {
-        return TableLine::World;
-    }
-    if let Some(name) = line.strip_prefix("session ") {
-        return TableLine::Session(name);
-    }
-    if let Some(words) = line.strip_prefix("fails ") {
-        return TableLine::Fails(words);
-    }
-    if let Some(size) = line.strip_prefix("size ") {
-        return TableLine::Size(size);
-    }
-    match line.strip_prefix("layer ") {
-        Some(name) => TableLine::Layer(name),
-        None => TableLine::Strange,
-    }
-}
-
-// What a line says that begins with a mark, or else with a word.
-fn marked(line: &str) -> TableLine<'_> {
-    if let Some(call) = line.strip_prefix("? ") {
-        return TableLine::Call(call);
-    }
-    if let Some(text) = line.strip_prefix("!") {
-        return TableLine::Text(text, "");
-    }
-    if let Some(given) = line.strip_prefix(">") {
-        return TableLine::Given(given);
-    }
-    match line.strip_prefix("=") {
-        Some(wanted) => TableLine::Wanted(wanted),
-        None => worded(line),
-    }
-}
-
-// What a line says.
-fn line_of(line: &str) -> TableLine<'_> {
-    if line.is_empty() || line.starts_with("#") {
-        return TableLine::Nothing;
-    }
-    match line.strip_prefix("|") {
-        Some(text) => TableLine::Text(text, "\n"),
-        None => marked(line),
-    }
-}
-
 // The files and rows of a world of which nothing was read yet.
 fn empty_case(alloc: Global) -> Case {
     Case {
@@ -144,19 +83,6 @@ struct Draft {
 }
 
 impl Draft {
-    fn new(alloc: Global) -> Draft {
-        Draft {
-            alloc,
-            table: Table {
-                cases: Vec::new(alloc),
-                strange: Vec::new(alloc),
-            },
-            case: empty_case(alloc),
-            file: None,
-            row: None,
-        }
-    }
-
     // Ends the file or the row that was begun.
     fn end(&mut self) -> Result<(), AllocError> {
         if let Some(file) = self.file.take() {
@@ -176,13 +102,6 @@ impl Draft {
         Ok(())
     }
 
-    fn begin_file(&mut self, name: &str) -> Result<(), AllocError> {
-        self.end()?;
-        let name = String::from_str(self.alloc, name)?;
-        self.file = Some((name, Vec::new(self.alloc)));
-        Ok(())
-    }
-
     fn begin_row(&mut self, line: usize, call: &str) -> Result<(), AllocError> {
         self.end()?;
         self.row = Some(Row {
@@ -194,110 +113,124 @@ impl Draft {
         Ok(())
     }
 
-    // A line of a file with its end; nothing where none was begun.
-    fn push_text(&mut self, text: &str, end: &str) -> Result<Option<()>, AllocError> {
+    // A line of a file with its end; false where none was begun.
+    fn push_text(&mut self, text: &str, end: &str) -> Result<bool, AllocError> {
         match self.file.take() {
             Some((name, mut bytes)) => {
                 bytes.extend_from_slice(text.as_bytes())?;
                 bytes.extend_from_slice(end.as_bytes())?;
                 self.file = Some((name, bytes));
-                Ok(Some(()))
+                Ok(true)
             }
-            None => Ok(None),
+            None => Ok(false),
         }
     }
 
-    // The size of a file; nothing where none was begun.
-    fn set_size(&mut self, size: &str) -> Result<Option<()>, AllocError> {
+    // The size of a file; false where none was begun.
+    fn set_size(&mut self, size: &str) -> Result<bool, AllocError> {
         match (self.file.take(), size.parse::<usize>()) {
             (Some((name, mut bytes)), Ok(size)) => {
+                let mut piece = Vec::new(self.alloc);
+                piece.resize(PIECE, b'-')?;
+                for _ in 0..size.saturating_sub(bytes.len()) / PIECE {
+                    bytes.extend_from_slice(piece.as_slice())?;
+                }
                 bytes.resize(size, b'-')?;
                 self.file = Some((name, bytes));
-                Ok(Some(()))
+                Ok(true)
             }
-            _ => Ok(None),
+            _ => Ok(false),
         }
     }
 
-    // A line that belongs to a call; nothing where none was begun.
-    fn push_given(&mut self, text: &str) -> Result<Option<()>, AllocError> {
+    // A line that belongs to a call, or is wanted of it; false where no call was begun.
+    fn push_row_line(&mut self, text: &str, is_wanted: bool) -> Result<bool, AllocError> {
         match self.row.take() {
             Some(mut row) => {
-                push_line(&mut row.given, text)?;
+                if is_wanted {
+                    push_line(&mut row.wanted, text)?;
+                } else {
+                    push_line(&mut row.given, text)?;
+                }
                 self.row = Some(row);
-                Ok(Some(()))
+                Ok(true)
             }
-            None => Ok(None),
+            None => Ok(false),
         }
     }
 
-    // A line that is wanted; nothing where no call was begun.
-    fn push_wanted(&mut self, text: &str) -> Result<Option<()>, AllocError> {
-        match self.row.take() {
-            Some(mut row) => {
-                push_line(&mut row.wanted, text)?;
-                self.row = Some(row);
-                Ok(Some(()))
-            }
-            None => Ok(None),
+    // Takes a line that begins with a word; false where no table has it there.
+    fn take_word(&mut self, line: &str) -> Result<bool, AllocError> {
+        if let Some(size) = line.strip_prefix("size ") {
+            return self.set_size(size);
         }
-    }
-
-    // The name of the session layer.
-    fn set_session(&mut self, name: &str) -> Result<(), AllocError> {
         self.end()?;
-        self.case.session = String::from_str(self.alloc, name)?;
-        Ok(())
-    }
-
-    // Which fetches fail.
-    fn set_fails(&mut self, words: &str) -> Result<(), AllocError> {
-        self.end()?;
-        self.case.fails = String::from_str(self.alloc, words)?;
-        Ok(())
-    }
-
-    // Takes what a line says; nothing where it may not stand there.
-    fn take(&mut self, number: usize, line: TableLine<'_>) -> Result<Option<()>, AllocError> {
-        match line {
-            TableLine::Nothing => Ok(Some(())),
-            TableLine::World => Ok(Some(self.end_case()?)),
-            TableLine::Session(name) => Ok(Some(self.set_session(name)?)),
-            TableLine::Fails(words) => Ok(Some(self.set_fails(words)?)),
-            TableLine::Layer(name) => Ok(Some(self.begin_file(name)?)),
-            TableLine::Text(text, end) => self.push_text(text, end),
-            TableLine::Size(size) => self.set_size(size),
-            TableLine::Call(call) => Ok(Some(self.begin_row(number, call)?)),
-            TableLine::Given(text) => self.push_given(text),
-            TableLine::Wanted(text) => self.push_wanted(text),
-            TableLine::Strange => Ok(None),
+        if line == "world" {
+            self.end_case()?;
+        } else if let Some(name) = line.strip_prefix("layer ") {
+            let name = String::from_str(self.alloc, name)?;
+            self.file = Some((name, Vec::new(self.alloc)));
+        } else if let Some(name) = line.strip_prefix("session ") {
+            self.case.session = String::from_str(self.alloc, name)?;
+        } else if let Some(words) = line.strip_prefix("fails ") {
+            self.case.fails = String::from_str(self.alloc, words)?;
+        } else {
+            return Ok(false);
         }
+        Ok(true)
     }
 
-    // The whole table.
-    fn finished(self) -> Result<Table, AllocError> {
-        let mut draft = self;
-        draft.end_case()?;
-        let Draft {
-            alloc: _,
-            table,
-            case: _,
-            file: _,
-            row: _,
-        } = draft;
-        Ok(table)
+    // Takes a line; false where no table has it there.
+    fn take(&mut self, number: usize, line: &str) -> Result<bool, AllocError> {
+        if line.is_empty() || line.starts_with("#") {
+            return Ok(true);
+        }
+        if let Some(text) = line.strip_prefix("|") {
+            return self.push_text(text, "\n");
+        }
+        if let Some(text) = line.strip_prefix("!") {
+            return self.push_text(text, "");
+        }
+        if let Some(call) = line.strip_prefix("? ") {
+            self.begin_row(number, call)?;
+            return Ok(true);
+        }
+        if let Some(text) = line.strip_prefix(">") {
+            return self.push_row_line(text, false);
+        }
+        match line.strip_prefix("=") {
+            Some(text) => self.push_row_line(text, true),
+            None => self.take_word(line),
+        }
     }
 }
 
 /// The table of a text.
 pub(crate) fn read_table(alloc: Global, text: &str) -> Result<Table, AllocError> {
-    let mut draft = Draft::new(alloc);
+    let mut draft = Draft {
+        alloc,
+        table: Table {
+            cases: Vec::new(alloc),
+            strange: Vec::new(alloc),
+        },
+        case: empty_case(alloc),
+        file: None,
+        row: None,
+    };
     let mut number: usize = 0;
     for line in text.split('\n') {
         number = number.saturating_add(1);
-        if draft.take(number, line_of(line))?.is_none() {
+        if !draft.take(number, line)? {
             draft.table.strange.push(number)?;
         }
     }
-    draft.finished()
+    draft.end_case()?;
+    let Draft {
+        alloc: _,
+        table,
+        case: _,
+        file: _,
+        row: _,
+    } = draft;
+    Ok(table)
 }

@@ -137,7 +137,7 @@ fn push_view(
     for property in view.properties.as_slice() {
         push_property(out, property)?;
     }
-    push_choices(out, "choice", &view.choices)?;
+    push_choices(out, "choice", view.choices.as_slice())?;
     push_sites(out, world, view.sites.as_slice())?;
     push_faults(out, view.faults.as_slice())
 }
