@@ -38,3 +38,15 @@ abbrev pub WriteTakes : Put → Option (List ℕ) → Option (List ℕ) → List
 WriteTakes (put.Took n) old new piece = (0 < n) × (n ≤ length piece) × Appends old new (take n piece)
 WriteTakes put.Failed old new piece = Keeps old new
 WriteTakes put.NoMemory old new piece = Keeps old new
+
+-- a read moves at most so many bytes
+abbrev pub ReadsFew : ℕ → Got → Type 0
+ReadsFew step (got.Bytes n) = n ≤ step
+ReadsFew step got.End = Unit {0}
+ReadsFew step got.Failed = Unit {0}
+
+-- a write takes at most so many bytes
+abbrev pub WritesFew : ℕ → Put → Type 0
+WritesFew step (put.Took n) = n ≤ step
+WritesFew step put.Failed = Unit {0}
+WritesFew step put.NoMemory = Unit {0}

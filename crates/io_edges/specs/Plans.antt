@@ -17,3 +17,6 @@ pub record IsCalled (before after : Plan) (Failed : Type 0) : Type 0 where
   pub fails : Failed ↔ Contains before.failing (one_more before.calls)
   pub failing : after.failing ≡ before.failing
   pub calls : after.calls ≡ one_more before.calls
+  -- a fault is counted, and only a fault
+  pub counted : Failed → after.faults ≡ one_more before.faults
+  pub uncounted : (Failed → ⊥) → after.faults ≡ before.faults

@@ -3,7 +3,7 @@
 ghost use Rattle.std.specs.Prelude.{◌≡◌, ◌+◌, ◌++◌, ◌<◌, ◌≤◌, ◌↔◌, [], Some, length, take, drop, map, OnOk, OnErr, IfSome, Contains};
 ghost use Rattle.std.specs.Option.{option_copied};
 ghost use Rattle.io_edges.specs.Causes.{one_more, Rose};
-ghost use Rattle.io_edges.specs.Edges.{most, FetchTells, FetchLeaves, ReadTakes, WriteTakes};
+ghost use Rattle.io_edges.specs.Edges.{most, FetchTells, FetchLeaves, ReadTakes, ReadsFew, WriteTakes, WritesFew};
 ghost use Rattle.io_edges.specs.Plans.{IsCalled};
 ghost use Rattle.io_edges.specs.Stores.{entry_of, file_named};
 
@@ -170,6 +170,7 @@ fn rest_of(bytes: &[u8], at: usize) -> &[u8]
 fn give(text: &[u8], step: usize, into: &mut [u8]) -> usize
     ensures within { result ≤ length text.now }
     ensures room { result ≤ length into.new }
+    ensures few { result ≤ step }
     ensures front { take result into.new ≡ take result text.now }
     ensures some { 0 < step → 0 < length text.now → 0 < length into.old → 0 < result }
 {
@@ -183,7 +184,14 @@ impl Source for SureSource {
 
     ghost faults = { λ _. 0 };
 
-    fn read(&mut self, into: &mut [u8]) -> Got {
+    fn read(&mut self, into: &mut [u8]) -> Got
+        requires { 0 < length into.old }
+        ensures takes { ReadTakes result (Some self.old.left) (Some self.new.left) into.new }
+        ensures few { ReadsFew self.old.step result }
+        ensures step { self.new.step ≡ self.old.step }
+        ensures later { 0 ≤ 0 }
+        ensures cause { result ≡ Got.Failed → ⊥ }
+    {
         let text = rest_of(&self.bytes, self.at);
         if text.is_empty() {
             return Got::End;
@@ -232,6 +240,8 @@ impl Source for MemorySource {
     fn read(&mut self, into: &mut [u8]) -> Got
         requires { 0 < length into.old }
         ensures takes { ReadTakes result (Some self.old.stream.left) (Some self.new.stream.left) into.new }
+        ensures few { ReadsFew self.old.stream.step result }
+        ensures step { self.new.stream.step ≡ self.old.stream.step }
         ensures later { self.old.plan.faults ≤ self.new.plan.faults }
         ensures cause { result ≡ Got.Failed → Rose self.old.plan.faults self.new.plan.faults }
         ensures planned { IsCalled self.old.plan self.new.plan (result ≡ Got.Failed) }
@@ -287,6 +297,7 @@ fn keep(bytes: &mut Vec<u8>, step: usize, piece: &[u8]) -> Put
     requires moves { 0 < step }
     ensures takes { WriteTakes result (Some bytes.old.items) (Some bytes.new.items) piece.now }
     ensures sure { result ≡ Put.Failed → ⊥ }
+    ensures few { WritesFew step result }
 {
     let len = piece.len().min(step);
     match bytes.extend_from_slice(&piece[..len]) {
@@ -300,7 +311,14 @@ impl Sink for SureSink {
 
     ghost faults = { λ _. 0 };
 
-    fn write(&mut self, piece: &[u8]) -> Put {
+    fn write(&mut self, piece: &[u8]) -> Put
+        requires { 0 < length piece.now }
+        ensures takes { WriteTakes result (Some self.old.taken) (Some self.new.taken) piece.now }
+        ensures few { WritesFew self.old.step result }
+        ensures step { self.new.step ≡ self.old.step }
+        ensures later { 0 ≤ 0 }
+        ensures cause { result ≡ Put.Failed → ⊥ }
+    {
         keep(&mut self.bytes, self.step, piece)
     }
 }
@@ -350,6 +368,8 @@ impl Sink for MemorySink {
     fn write(&mut self, piece: &[u8]) -> Put
         requires { 0 < length piece.now }
         ensures takes { WriteTakes result (Some self.old.store.taken) (Some self.new.store.taken) piece.now }
+        ensures few { WritesFew self.old.store.step result }
+        ensures step { self.new.store.step ≡ self.old.store.step }
         ensures later { self.old.plan.faults ≤ self.new.plan.faults }
         ensures cause { result ≡ Put.Failed → Rose self.old.plan.faults self.new.plan.faults }
         ensures planned { IsCalled self.old.plan self.new.plan (result ≡ Put.Failed) }
