@@ -1,0 +1,4 @@
+mod Values
+mod Layers
+mod Questions
+mod Replies

@@ -1,0 +1,4 @@
+pub mod PathMaps
+pub mod Flattening
+pub mod Answers
+pub mod Replies
