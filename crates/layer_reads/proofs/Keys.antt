@@ -1,5 +1,5 @@
 -- Lines of metadata: a key and its value.
-use Rattle.std.proofs.Common.{◌≡◌, ◌∙◌, ◌≤◌, ℕ, true, false, List, [], ◌∷◌, ◌++◌, Some, Ok, ap, sym, refl, subst}
+use Rattle.std.proofs.Common.{◌≡◌, ◌∙◌, ◌≤◌, ℕ, Bool, true, false, List, [], ◌∷◌, ◌++◌, Some, Ok, ap, sym, refl, subst}
 use Rattle.sdf_values.specs.declared.value.Value.{Value}
 use Rattle.usda_fields.specs.Keys.{rule_shape}
 use Rattle.usda_fields.specs.Owners as owner
@@ -15,7 +15,7 @@ use Rattle.usda_grammar.specs.Words.{keyword_of}
 use Rattle.usda_statements.specs.OpenValues.{no_value, is_open}
 use Rattle.usda_words.specs.Words.{Word}
 use Rattle.usda_drafts.specs.Acts.{bodies_act, prims_act, layers_act}
-use Rattle.usda_drafts.specs.Metadata.{key_act, prim_item_act, head_item_act}
+use Rattle.usda_drafts.specs.Metadata.{key_act, edit_act, edited_act, prim_item_act, head_item_act}
 use Rattle.usda_drafts.specs.Refusals.{then_with}
 use Rattle.usda_drafts.specs.Values.{aimed_at_key, completed, is_selections, with_said}
 use Rattle.usda_drafts.specs.declared.aim.Goal.TheVariants as goal
@@ -25,12 +25,12 @@ use Rattle.value_texts.specs.ValueWords.{words_of_value, name_said, equals}
 use Rattle.value_texts.specs.Words.{Told}
 use Rattle.value_texts.specs.Writable.{is_writable}
 use Rattle.layer_reads.specs.Fixed.{AreFixed}
-use Rattle.layer_reads.specs.Keys.{is_plain_key, is_plain_head_key, behind_key}
+use Rattle.layer_reads.specs.Keys.{IsLineTaken, is_plain_key, is_plain_head_key, is_edit_word, noted, behind_key}
 use Rattle.layer_reads.specs.Membered.{is_membered}
 use Rattle.layer_reads.specs.Taking.{AreTaken}
 use Rattle.layer_reads.proofs.FieldLists.{plain_act}
 use Rattle.layer_reads.proofs.OpenValues.{value_taken}
-use Rattle.layer_reads.proofs.Taking.{taken_one, together, above}
+use Rattle.layer_reads.proofs.Taking.{taken_one, together, weaker, above}
 
 keyed : (key : List ℕ) (at : ℕ) (rule : KeyRule) (d : Draft) → owner.key_act key d.owner.said ≡ Ok rule → key_act key at d ≡ Ok (aimed_at_key goal.OwnerKey key rule d)
 unfolding key_act
@@ -56,6 +56,10 @@ module _ (key : List ℕ) (v : Value) (rule : KeyRule) (d : Draft) (said : Owner
   unfolding aimed_at_key is_selections completed
   valued = value_taken v Aimed (behind_key key rule said d) shut refl membered writable read deep fixed (λ at. ap (λ r. then_with at r (with_said (record Aimed { value = no_value }))) values)
 
+  -- behind `=`
+  value_behind : (s : Symbol) → AreTaken (symbol.Value ∷ Behind s) Aimed (words_of_value v) (Behind s) (λ e. e ≡ behind_key key rule said d)
+  value_behind s = above (symbol.Value ∷ []) [] (Behind s) Aimed (words_of_value v) (λ e. e ≡ behind_key key rule said d) valued
+
   line_taken : (s : Symbol) (from : List Symbol) → ((below : List Symbol) → step (from ++ below) (token.Word (keyword_of key)) ≡ Some (s, symbol.Equals ∷ symbol.Value ∷ Behind s ++ below))
       → ((w : Word) → bodies_act s (record w { kind = token.Word (keyword_of key) }) d ≡ key_act w.text w.start d) → AreTaken from d (name_said key ∷ equals ∷ words_of_value v) (Behind s) (λ e. e ≡ behind_key key rule said d)
   line_taken s from goes acts =
@@ -77,40 +81,101 @@ module _ (key : List ℕ) (v : Value) (rule : KeyRule) (d : Draft) (said : Owner
       (together (symbol.Equals ∷ symbol.Value ∷ back) (symbol.Value ∷ back) back Aimed (equals ∷ []) (words_of_value v) (λ e. e ≡ Aimed) R
       (taken_one (symbol.Equals ∷ symbol.Value ∷ back) (symbol.Value ∷ back) symbol.Equals Aimed equals (λ e. e ≡ Aimed) (λ below. refl)
       (λ w told. (Aimed, refl, plain_act symbol.Equals w equals Aimed told aimed_shut ∙ equals_act w Aimed)))
-      (λ f k. subst (λ f. AreTaken (symbol.Value ∷ back) f (words_of_value v) back R) (sym k) (above (symbol.Value ∷ []) [] back Aimed (words_of_value v) R valued))))
+      (λ f k. subst (λ f. AreTaken (symbol.Value ∷ back) f (words_of_value v) back R) (sym k) (value_behind s))))
 
 -- ---- prims and variants
 
-prim_step : (k : Keyword) → is_plain_key k ≡ true → (below : List Symbol) → step (symbol.PrimMetadata ∷ below) (token.Word k) ≡ Some (symbol.PrimMetadata, symbol.Equals ∷ symbol.Value ∷ Behind symbol.PrimMetadata ++ below)
-prim_step word.StringField h below = absurd cc
-prim_step word.PathField h below = absurd cc
-prim_step word.ReferenceField h below = absurd cc
-prim_step word.Edit h below = absurd cc
-prim_step word.Reorder h below = absurd cc
-prim_step word.Variants h below = absurd cc
-prim_step _ h below = refl
+edit_step : (k : Keyword) → is_edit_word symbol.PrimMetadata k ≡ true → (below : List Symbol) → step (symbol.PrimMetadata ∷ below) (token.Word k) ≡ Some (symbol.PrimMetadata, symbol.EditedField ∷ Behind symbol.PrimMetadata ++ below)
+edit_step word.Edit h below = refl
+edit_step word.Reorder h below = refl
+edit_step _ h below = absurd cc
 
-prim_key : (k : Keyword) → is_plain_key k ≡ true → (w : Word) (d : Draft) → bodies_act symbol.PrimMetadata (record w { kind = token.Word k }) d ≡ key_act w.text w.start d
+edit_noted : (k : Keyword) → is_edit_word symbol.PrimMetadata k ≡ true → (w : Word) (d : Draft) → bodies_act symbol.PrimMetadata (record w { kind = token.Word k }) d ≡ Ok (noted true w.text w.start d)
+unfolding bodies_act prims_act prim_item_act edit_act
+edit_noted word.Edit h w d = refl
+edit_noted word.Reorder h w d = refl
+edit_noted _ h w d = absurd cc
+
+-- `=` behind an edit word
+edited : (key : List ℕ) (at : ℕ) (w : Word) (d : Draft) → bodies_act symbol.EditedField (record w { kind = token.Equals }) (noted true key at d) ≡ key_act key at (noted true key at d)
+unfolding bodies_act prims_act edited_act
+edited key at w d = refl
+
+prim_step : (k : Keyword) → is_plain_key k ≡ true → is_edit_word symbol.PrimMetadata k ≡ false → (below : List Symbol)
+    → step (symbol.PrimMetadata ∷ below) (token.Word k) ≡ Some (symbol.PrimMetadata, symbol.Equals ∷ symbol.Value ∷ Behind symbol.PrimMetadata ++ below)
+prim_step word.StringField h e below = absurd cc
+prim_step word.PathField h e below = absurd cc
+prim_step word.ReferenceField h e below = absurd cc
+prim_step word.Edit h e below = absurd cc
+prim_step word.Reorder h e below = absurd cc
+prim_step word.Variants h e below = absurd cc
+prim_step _ h e below = refl
+
+prim_key : (k : Keyword) → is_plain_key k ≡ true → is_edit_word symbol.PrimMetadata k ≡ false → (w : Word) (d : Draft) → bodies_act symbol.PrimMetadata (record w { kind = token.Word k }) d ≡ key_act w.text w.start d
 unfolding bodies_act prims_act prim_item_act
-prim_key word.StringField h w d = absurd cc
-prim_key word.PathField h w d = absurd cc
-prim_key word.ReferenceField h w d = absurd cc
-prim_key word.Edit h w d = absurd cc
-prim_key word.Reorder h w d = absurd cc
-prim_key word.Variants h w d = absurd cc
-prim_key _ h w d = refl
+prim_key word.StringField h e w d = absurd cc
+prim_key word.PathField h e w d = absurd cc
+prim_key word.ReferenceField h e w d = absurd cc
+prim_key word.Edit h e w d = absurd cc
+prim_key word.Reorder h e w d = absurd cc
+prim_key word.Variants h e w d = absurd cc
+prim_key _ h e w d = refl
 
-pub prim_line_taken : (key : List ℕ) (v : Value) (rule : KeyRule) (d : Draft) (said : OwnerDraft) → is_plain_key (keyword_of key) ≡ true → is_open d.value ≡ false → owner.key_act key d.owner.said ≡ Ok rule
-    → owner.value_act key v d.owner.said ≡ Ok said → is_membered v ≡ true → is_writable v ≡ true → is_read_as v (rule_shape rule) true ≡ true → depth v ≤ 64 → AreFixed d.owner.said.base (words_of_value v)
-    → AreTaken (symbol.MaybeSemicolon ∷ symbol.PrimMetadata ∷ []) d (name_said key ∷ equals ∷ words_of_value v) (symbol.MaybeSemicolon ∷ symbol.PrimMetadata ∷ []) (λ e. e ≡ behind_key key rule said d)
+module _ (key : List ℕ) (v : Value) (rule : KeyRule) (d : Draft) (said : OwnerDraft) (plain : is_plain_key (keyword_of key) ≡ true) (shut : is_open d.value ≡ false) (keys : owner.key_act key d.owner.said ≡ Ok rule)
+    (values : owner.value_act key v d.owner.said ≡ Ok said) (membered : is_membered v ≡ true) (writable : is_writable v ≡ true) (read : is_read_as v (rule_shape rule) true ≡ true) (deep : depth v ≤ 64)
+    (fixed : AreFixed d.owner.said.base (words_of_value v)) where
+  -- the draft behind the line, where it begins with an edit word or does not
+  abbrev Behind_line : Bool → Draft → Type 0
+  Behind_line b e = (at : ℕ) × (e ≡ behind_key key rule said (noted b key at d))
+
+  -- `=` and a value behind an edit word
+  edited_taken : (at : ℕ) → AreTaken (symbol.EditedField ∷ Behind symbol.PrimMetadata) (noted true key at d) (equals ∷ words_of_value v) (Behind symbol.PrimMetadata) (Behind_line true)
+  edited_taken at =
+      let back : List Symbol = Behind symbol.PrimMetadata in
+      let f : Draft = noted true key at d in
+      let aimed : Draft = aimed_at_key goal.OwnerKey key rule f in
+      together (symbol.EditedField ∷ back) (symbol.Value ∷ back) back f (equals ∷ []) (words_of_value v) (λ e. e ≡ aimed) (Behind_line true)
+      (taken_one (symbol.EditedField ∷ back) (symbol.Value ∷ back) symbol.EditedField f equals (λ e. e ≡ aimed) (λ below. refl)
+      (λ w told. (
+        aimed,
+        refl,
+        plain_act symbol.EditedField w equals f told shut
+            ∙ ap (λ (t : Told). bodies_act symbol.EditedField (record w { kind = t.kind }) f) told
+            ∙ edited key at w d
+            ∙ keyed key at rule f keys,
+      )))
+      (λ e h.
+      subst (λ e. AreTaken (symbol.Value ∷ back) e (words_of_value v) back (Behind_line true)) (sym h)
+      (weaker (symbol.Value ∷ back) back aimed (words_of_value v) (λ e. e ≡ behind_key key rule said f) (Behind_line true)
+      (value_behind key v rule f said shut keys values membered writable read deep fixed symbol.PrimMetadata) (λ e k. (at, k))))
+
+  by_word : (b : Bool) (from : List Symbol) → is_edit_word symbol.PrimMetadata (keyword_of key) ≡ b
+      → ((below : List Symbol) → step (from ++ below) (token.Word (keyword_of key)) ≡ step (symbol.PrimMetadata ∷ below) (token.Word (keyword_of key)))
+      → AreTaken from d (name_said key ∷ equals ∷ words_of_value v) (Behind symbol.PrimMetadata) (Behind_line b)
+  by_word true from is same =
+      together from (symbol.EditedField ∷ Behind symbol.PrimMetadata) (Behind symbol.PrimMetadata) d (name_said key ∷ []) (equals ∷ words_of_value v) (λ e. (at : ℕ) × (e ≡ noted true key at d)) (Behind_line true)
+      (taken_one from (symbol.EditedField ∷ Behind symbol.PrimMetadata) symbol.PrimMetadata d (name_said key) (λ e. (at : ℕ) × (e ≡ noted true key at d)) (λ below. same below ∙ edit_step (keyword_of key) is below)
+      (λ w told. (
+        noted true key w.start d,
+        (w.start, refl),
+        plain_act symbol.PrimMetadata w (name_said key) d told shut
+            ∙ ap (λ (t : Told). bodies_act symbol.PrimMetadata (record w { kind = t.kind }) d) told
+            ∙ edit_noted (keyword_of key) is w d
+            ∙ ap (λ (t : Told). Ok (noted true t.text w.start d)) told,
+      )))
+      (λ e h. subst (λ e. AreTaken (symbol.EditedField ∷ Behind symbol.PrimMetadata) e (equals ∷ words_of_value v) (Behind symbol.PrimMetadata) (Behind_line true)) (sym h.1) (edited_taken h.0))
+  by_word false from is same =
+      weaker from (Behind symbol.PrimMetadata) d (name_said key ∷ equals ∷ words_of_value v) (λ e. e ≡ behind_key key rule said d) (Behind_line false)
+      (line_taken key v rule d said shut keys values membered writable read deep fixed symbol.PrimMetadata from (λ below. same below ∙ prim_step (keyword_of key) plain is below) (λ w. prim_key (keyword_of key) plain is w d))
+      (λ e k. (0, k))
+
+pub prim_line_taken : IsLineTaken is_plain_key symbol.PrimMetadata (symbol.MaybeSemicolon ∷ symbol.PrimMetadata ∷ [])
 prim_line_taken key v rule d said plain shut keys values membered writable read deep fixed =
-    line_taken key v rule d said shut keys values membered writable read deep fixed symbol.PrimMetadata (symbol.MaybeSemicolon ∷ symbol.PrimMetadata ∷ []) (prim_step (keyword_of key) plain) (λ w. prim_key (keyword_of key) plain w d)
+    by_word key v rule d said plain shut keys values membered writable read deep fixed (is_edit_word symbol.PrimMetadata (keyword_of key)) (symbol.MaybeSemicolon ∷ symbol.PrimMetadata ∷ []) refl (λ below. refl)
 
-pub first_prim_line_taken : (key : List ℕ) (v : Value) (rule : KeyRule) (d : Draft) (said : OwnerDraft) → is_plain_key (keyword_of key) ≡ true → is_open d.value ≡ false → owner.key_act key d.owner.said ≡ Ok rule
-    → owner.value_act key v d.owner.said ≡ Ok said → is_membered v ≡ true → is_writable v ≡ true → is_read_as v (rule_shape rule) true ≡ true → depth v ≤ 64 → AreFixed d.owner.said.base (words_of_value v)
-    → AreTaken (symbol.PrimMetadata ∷ []) d (name_said key ∷ equals ∷ words_of_value v) (symbol.MaybeSemicolon ∷ symbol.PrimMetadata ∷ []) (λ e. e ≡ behind_key key rule said d)
+pub first_prim_line_taken : IsLineTaken is_plain_key symbol.PrimMetadata (symbol.PrimMetadata ∷ [])
 first_prim_line_taken key v rule d said plain shut keys values membered writable read deep fixed =
-    line_taken key v rule d said shut keys values membered writable read deep fixed symbol.PrimMetadata (symbol.PrimMetadata ∷ []) (prim_step (keyword_of key) plain) (λ w. prim_key (keyword_of key) plain w d)
+    by_word key v rule d said plain shut keys values membered writable read deep fixed (is_edit_word symbol.PrimMetadata (keyword_of key)) (symbol.PrimMetadata ∷ []) refl (λ below. refl)
 
 -- ---- the layer
 
@@ -123,14 +188,14 @@ unfolding bodies_act prims_act layers_act head_item_act
 head_key word.SubLayers h w d = absurd cc
 head_key _ h w d = refl
 
-pub head_line_taken : (key : List ℕ) (v : Value) (rule : KeyRule) (d : Draft) (said : OwnerDraft) → is_plain_head_key (keyword_of key) ≡ true → is_open d.value ≡ false → owner.key_act key d.owner.said ≡ Ok rule
-    → owner.value_act key v d.owner.said ≡ Ok said → is_membered v ≡ true → is_writable v ≡ true → is_read_as v (rule_shape rule) true ≡ true → depth v ≤ 64 → AreFixed d.owner.said.base (words_of_value v)
-    → AreTaken (symbol.MaybeSemicolon ∷ symbol.HeadItems ∷ []) d (name_said key ∷ equals ∷ words_of_value v) (symbol.MaybeSemicolon ∷ symbol.HeadItems ∷ []) (λ e. e ≡ behind_key key rule said d)
+pub head_line_taken : IsLineTaken is_plain_head_key symbol.HeadItems (symbol.MaybeSemicolon ∷ symbol.HeadItems ∷ [])
 head_line_taken key v rule d said plain shut keys values membered writable read deep fixed =
-    line_taken key v rule d said shut keys values membered writable read deep fixed symbol.HeadItems (symbol.MaybeSemicolon ∷ symbol.HeadItems ∷ []) (head_step (keyword_of key) plain) (λ w. head_key (keyword_of key) plain w d)
+    let from : List Symbol = symbol.MaybeSemicolon ∷ symbol.HeadItems ∷ [] in
+    weaker from (Behind symbol.HeadItems) d (name_said key ∷ equals ∷ words_of_value v) (λ e. e ≡ behind_key key rule said d) (λ e. (at : ℕ) × (e ≡ behind_key key rule said d))
+    (line_taken key v rule d said shut keys values membered writable read deep fixed symbol.HeadItems from (head_step (keyword_of key) plain) (λ w. head_key (keyword_of key) plain w d)) (λ e k. (0, k))
 
-pub first_head_line_taken : (key : List ℕ) (v : Value) (rule : KeyRule) (d : Draft) (said : OwnerDraft) → is_plain_head_key (keyword_of key) ≡ true → is_open d.value ≡ false → owner.key_act key d.owner.said ≡ Ok rule
-    → owner.value_act key v d.owner.said ≡ Ok said → is_membered v ≡ true → is_writable v ≡ true → is_read_as v (rule_shape rule) true ≡ true → depth v ≤ 64 → AreFixed d.owner.said.base (words_of_value v)
-    → AreTaken (symbol.HeadItems ∷ []) d (name_said key ∷ equals ∷ words_of_value v) (symbol.MaybeSemicolon ∷ symbol.HeadItems ∷ []) (λ e. e ≡ behind_key key rule said d)
+pub first_head_line_taken : IsLineTaken is_plain_head_key symbol.HeadItems (symbol.HeadItems ∷ [])
 first_head_line_taken key v rule d said plain shut keys values membered writable read deep fixed =
-    line_taken key v rule d said shut keys values membered writable read deep fixed symbol.HeadItems (symbol.HeadItems ∷ []) (head_step (keyword_of key) plain) (λ w. head_key (keyword_of key) plain w d)
+    let from : List Symbol = symbol.HeadItems ∷ [] in
+    weaker from (Behind symbol.HeadItems) d (name_said key ∷ equals ∷ words_of_value v) (λ e. e ≡ behind_key key rule said d) (λ e. (at : ℕ) × (e ≡ behind_key key rule said d))
+    (line_taken key v rule d said shut keys values membered writable read deep fixed symbol.HeadItems from (head_step (keyword_of key) plain) (λ w. head_key (keyword_of key) plain w d)) (λ e k. (0, k))

@@ -1,5 +1,5 @@
 -- Metadata of a prim, a variant or a layer.
-use Rattle.std.proofs.Common.{◌≡◌, ◌∙◌, ℕ, Bool, true, List, [], ◌∷◌, Some, None, Result, Ok, Err, ap, sym, refl, subst}
+use Rattle.std.proofs.Common.{◌≡◌, ◌∙◌, ℕ, Bool, true, false, List, [], ◌∷◌, Some, None, Result, Ok, Err, ap, sym, refl, subst}
 use Rattle.std.specs.Str.{is_utf8}
 use Rattle.std.specs.Prelude.{if◌then◌else◌}
 use Rattle.sdf_paths.specs.Order.{text_cmp}
@@ -15,8 +15,10 @@ use Rattle.usda_fields.specs.Keys.{comment_key, key_rule}
 use Rattle.usda_fields.specs.Names.{if_utf8}
 use Rattle.usda_fields.specs.Owners as owner
 use Rattle.usda_fields.specs.Owners.{with_meta}
+use Rattle.usda_fields.specs.declared.keys.KeyRule.{KeyRule}
 use Rattle.usda_fields.specs.declared.owner.OwnerDraft.{OwnerDraft}
 use Rattle.usda_grammar.specs.Machine.{step}
+use Rattle.usda_grammar.specs.Words.{keyword_of}
 use Rattle.usda_grammar.specs.declared.kinds.Keyword.{Keyword}
 use Rattle.usda_grammar.specs.declared.symbols.Symbol.{Symbol}
 use Rattle.usda_grammar.specs.declared.symbols.Symbol.TheVariants as symbol
@@ -32,7 +34,7 @@ use Rattle.value_texts.specs.Words.{as_word}
 use Rattle.value_texts.proofs.StringTokens.{string_means}
 use Rattle.layer_texts.specs.FieldWords.{meta_words}
 use Rattle.layer_reads.specs.Fixed.{AreFixed}
-use Rattle.layer_reads.specs.Keys.{IsLineTaken, is_plain_key, is_plain_head_key, behind_key}
+use Rattle.layer_reads.specs.Keys.{IsLineTaken, is_plain_key, is_plain_head_key, is_edit_word, noted, behind_key}
 use Rattle.layer_reads.specs.Taking.{AreTaken}
 use Rattle.layer_reads.proofs.Keys.{first_prim_line_taken, first_head_line_taken}
 use Rattle.layer_reads.proofs.Taking.{weaker}
@@ -42,6 +44,12 @@ use Rattle.metadata_reads.specs.Standing.{Standing, saying, IsAt}
 use Rattle.metadata_reads.proofs.EditedLists.{said_at}
 use Rattle.metadata_reads.proofs.Meta.{meta_items, key_given, value_given}
 use Rattle.metadata_reads.proofs.Words.{saying_word, word_taken}
+
+-- what is said behind the line of a key, where an edit word is noted or none is
+said_behind : (b : Bool) (key : List ℕ) (rule : KeyRule) (a next : OwnerDraft) (at : Standing) (start : ℕ) (d : Draft) → IsAt (saying a at) d → IsAt (saying next at) (behind_key key rule next (noted b key start d))
+unfolding aimed_at_key
+said_behind true key rule a next at start d h = record { stands = ap (saying next) h.stands; free = h.free; shut = refl; shallow = h.shallow }
+said_behind false key rule a next at start d h = record { stands = ap (saying next) h.stands; free = h.free; shut = refl; shallow = h.shallow }
 
 module _ (sym_of : Symbol) (is_plain : Keyword → Bool) (line : IsLineTaken is_plain sym_of (sym_of ∷ []))
     (comment_step : (t : List ℕ) (below : List Symbol) → step (sym_of ∷ below) (as_word (string_said t)).kind ≡ Some (sym_of, symbol.MaybeSemicolon ∷ sym_of ∷ below))
@@ -67,15 +75,14 @@ module _ (sym_of : Symbol) (is_plain : Keyword → Bool) (line : IsLineTaken is_
 
   key_taken : (key : List ℕ) (v : Value) (meta : MetaEntries) (d : Draft) → at_key text_cmp key meta ≡ None → IsKeyKept is_plain s.base key v → Says meta d
       → AreTaken (sym_of ∷ []) d (name_said key ∷ equals ∷ words_of_value v) (symbol.MaybeSemicolon ∷ sym_of ∷ []) (Says (with_key text_cmp key v meta))
-  unfolding aimed_at_key
   key_taken key v meta d none kept h =
       let next : OwnerDraft = with_meta (with_key text_cmp key v meta) s in
       let said : d.owner.said ≡ with_meta meta s = ap (λ (a : Standing). a.owner.said) h.stands in
-      weaker (sym_of ∷ []) (symbol.MaybeSemicolon ∷ sym_of ∷ []) d (name_said key ∷ equals ∷ words_of_value v) (λ e. e ≡ behind_key key (key_rule key) next d) (Says (with_key text_cmp key v meta))
+      weaker (sym_of ∷ []) (symbol.MaybeSemicolon ∷ sym_of ∷ []) d (name_said key ∷ equals ∷ words_of_value v) (λ e. (start : ℕ) × (e ≡ behind_key key (key_rule key) next (noted (is_edit_word sym_of (keyword_of key)) key start d))) (Says (with_key text_cmp key v meta))
       (line key v (key_rule key) d next kept.plain h.shut (ap (owner.key_act key) said ∙ key_given key v meta none kept.taken)
       (ap (owner.value_act key v) said ∙ ap (λ r. and_then r (λ m. Ok (with_meta m (with_meta meta s)))) (value_given key v meta kept.taken)) kept.membered kept.writable kept.read kept.deep
       (subst (λ b. AreFixed b (words_of_value v)) (sym (ap (λ (u : OwnerDraft). u.base) said)) kept.fixed))
-      (λ e k. subst (Says (with_key text_cmp key v meta)) (sym k) (record { stands = ap (saying next) h.stands; free = h.free; shut = refl; shallow = h.shallow }))
+      (λ e k. subst (Says (with_key text_cmp key v meta)) (sym k.1) (said_behind (is_edit_word sym_of (keyword_of key)) key (key_rule key) (with_meta meta s) next at k.0 d h))
 
   pub owner_meta : (meta : MetaEntries) → IsMetaKept is_plain s.base meta → AreItems sym_of (meta_words meta) (Says []) (Says meta)
   owner_meta = meta_items sym_of is_plain s.base Says comment_taken key_taken

@@ -1,5 +1,5 @@
 -- Layers that are proper, and some that are not.
-use Rattle.std.proofs.Common.{◌≡◌, ◌⊎◌, ◌∙◌, ◌≤◌, inl, inr, ℕ, nat_le, Bool, true, false, List, [], ◌∷◌, length, Some, None, is_some, ap, sym, refl, subst, arith, cond, ◌||◌, ◌&&◌}
+use Rattle.std.proofs.Common.{◌≡◌, ◌⊎◌, ◌∙◌, ◌≤◌, inl, inr, ℕ, nat_le, Bool, true, false, List, [], ◌∷◌, ◌++◌, length, Some, None, is_some, ap, sym, refl, subst, arith, cond, ◌||◌, ◌&&◌}
 use Rattle.std.specs.Prelude.{codes}
 use Rattle.std.specs.Cmp.Lexicographic.{bytes_decides}
 use Rattle.std.specs.Fmt.{digits}
@@ -20,23 +20,31 @@ use Rattle.layer_texts.specs.Writable.{is_word}
 use Rattle.std.proofs.lemmas.Bool.{leb-true}
 use Rattle.sdf_paths.specs.Paths.{IsPath}
 use Rattle.sdf_values.specs.Conforms.{conforms, one, holds, holds_step, item_step, is_block_step, is_block_item}
+use Rattle.sdf_values.specs.Print.{print_step, print_item}
 use Rattle.sdf_values.specs.declared.type_name.ElementType.TheVariants.{String}
 use Rattle.sdf_values.specs.declared.type_name.TypeName.{TypeName}
 use Rattle.sdf_values.specs.declared.value.Value.TheVariants as value
 use Rattle.spec_parts.specs.Blank.{blank_body, blank_spec}
 use Rattle.spec_parts.specs.declared.items.Specifier.TheVariants.{Over}
 use Rattle.spec_parts.specs.declared.items.VariantSet.{VariantSet}
+use Rattle.spec_properties.specs.Entries.{MetaEntries}
+use Rattle.usda_fields.specs.Keys.{key_rule, rule_shape}
 use Rattle.usda_grammar.specs.declared.kinds.Keyword.{Keyword}
 use Rattle.usda_reader.specs.Texts.{IsText}
 use Rattle.usda_writer.specs.Canonical.{spec_below, canonical, body_text, first_line, set_word, spec_block}
 use Rattle.usda_writer.specs.Fields.{spec_lines}
+use Rattle.value_texts.specs.Readable.{depth_step, depth_item}
+use Rattle.value_texts.specs.Writable.{writable_step, writable_item}
+use Rattle.value_texts.proofs.ReadingSteps.{reads_word}
 use Rattle.value_texts.proofs.Values as fold
 use Rattle.text_checks.specs.Examples.{other_bytes}
+use Rattle.text_checks.specs.Utf8.{utf8_step, utf8_item}
+use Rattle.layer_reads.specs.Keys.{is_plain_key}
 use Rattle.value_returns.specs.Fields.{AreProperFields}
 use Rattle.value_returns.specs.FullPaths.{full_step, full_item}
 use Rattle.value_returns.specs.Proper.{IsProperMeta}
 use Rattle.layer_returns.proofs.Examples.{no_items, no_lists, no_selections}
-use Rattle.proper_layers.specs.Examples.{hollow, hollow_spec, hollow_text, naming, orphan, misplaced, having, saying, ProperExamples}
+use Rattle.proper_layers.specs.Examples.{hollow, hollow_spec, hollow_text, of_prim, naming, orphan, misplaced, having, saying, adding, adding_text, ProperExamples}
 use Rattle.proper_layers.specs.Proper.{IsPlace, IsProper, is_among}
 use Rattle.proper_layers.proofs.Returns.{proper_layers_return}
 
@@ -92,11 +100,11 @@ no_meta : (is_name : Keyword → Bool) → IsProperMeta is_name []
 unfolding IsStrictlySortedBy
 no_meta is_name = record { ordered = tt; each = tt }
 
--- what names sets, and says nothing else
-naming_sets : (sets : List VariantSet) → AreProperFields (record (blank_spec Over) { body = record (blank_body Over) { variant_names = sets } })
-naming_sets sets = record {
+-- what has keys and names sets, and says nothing else
+having_keys : (meta : MetaEntries) (sets : List VariantSet) → IsProperMeta is_plain_key meta → AreProperFields (record (blank_spec Over) { body = record (blank_body Over) { meta = meta; variant_names = sets } })
+having_keys meta sets keys = record {
   type_name = refl;
-  keys = no_meta _;
+  keys = keys;
   api_schemas = no_lists _ _;
   clip_sets = no_lists _ _;
   inherits = no_lists _ _;
@@ -108,6 +116,10 @@ naming_sets sets = record {
   child_order = tt;
   property_order = tt;
 }
+
+-- what names sets, and says nothing else
+naming_sets : (sets : List VariantSet) → AreProperFields (record (blank_spec Over) { body = record (blank_body Over) { variant_names = sets } })
+naming_sets sets = having_keys [] sets (no_meta _)
 
 -- a path of one prim
 prim_path : (c : ℕ) → is_identifier (c ∷ []) ≡ true → IsPath (Prim (c ∷ []) ∷ [])
@@ -200,23 +212,25 @@ small_proper = record {
   size = leb-true (length (canonical small)) 67108864 small_short;
 }
 
--- ---- a set without variants
+-- ---- layers of one prim
 
-hollow_named : (p : List Element) → is_some (spec_at p hollow.specs) ≡ true → p ≡ the_prim
-hollow_named p h = by (is_eq (path_cmp p the_prim)) refl hollow_spec h
+alone_named : (spec : Spec) (p : List Element) → is_some (spec_at p (of_prim spec).specs) ≡ true → p ≡ the_prim
+alone_named spec p h = by (is_eq (path_cmp p the_prim)) refl spec h
   where
     by : (b : Bool) → is_eq (path_cmp p the_prim) ≡ b → (s : Spec) → is_some (cond b (Some s) None) ≡ true → p ≡ the_prim
     by true e s h = same_path p the_prim e
     by false e s h = absurd cc
 
-hollow_deeper : (e : Element) → is_some (spec_below hollow.specs the_prim e) ≡ true → ⊥
-hollow_deeper e h = let same : Prim (codes "A") ∷ e ∷ [] ≡ the_prim = hollow_named (Prim (codes "A") ∷ e ∷ []) h in cc
+alone_deeper : (spec : Spec) (e : Element) → is_some (spec_below (of_prim spec).specs the_prim e) ≡ true → ⊥
+alone_deeper spec e h = let same : Prim (codes "A") ∷ e ∷ [] ≡ the_prim = alone_named spec (Prim (codes "A") ∷ e ∷ []) h in cc
 
-hollow_root : (name : List ℕ) → is_some (spec_below hollow.specs [] (Prim name)) ≡ true → is_among name (codes "A" ∷ []) ≡ true
-hollow_root name h =
-    let same : Prim name ∷ [] ≡ the_prim = hollow_named (Prim name ∷ []) h in
+alone_root : (spec : Spec) (name : List ℕ) → is_some (spec_below (of_prim spec).specs [] (Prim name)) ≡ true → is_among name (codes "A" ∷ []) ≡ true
+alone_root spec name h =
+    let same : Prim name ∷ [] ≡ the_prim = alone_named spec (Prim name ∷ []) h in
     let one : name ≡ codes "A" = cc in
     only name (codes "A") one
+
+-- ---- a set without variants
 
 hollow_written : canonical hollow ≡ hollow_text
 unfolding digits canonical body_text first_line set_word spec_block spec_lines
@@ -230,18 +244,18 @@ unfolding chars is_utf8 unicode_ident is_start is_identifier lib.Utf8.encode IsS
 hollow_proper = record {
   head = record { keys = no_meta _; apart = refl; default_prim = tt; sublayers = tt; root_order = tt };
   ordered = (tt, tt);
-  roots = record { once = (tt, tt); each = (refl, tt); all = hollow_root };
+  roots = record { once = (tt, tt); each = (refl, tt); all = alone_root hollow_spec };
   entries = (
     record {
       place = a_place;
       owned = refl;
       variant = tt;
-      children = record { once = tt; each = tt; all = λ name h. absurd (hollow_deeper (Prim name) h) };
+      children = record { once = tt; each = tt; all = λ name h. absurd (alone_deeper hollow_spec (Prim name) h) };
       sets = record {
         once = (tt, tt);
         named = (refl, tt);
-        each = (record { once = tt; each = tt; all = λ name h. absurd (hollow_deeper (Selection (codes "s") name) h) }, tt);
-        all = λ set name h. absurd (hollow_deeper (Selection set name) h);
+        each = (record { once = tt; each = tt; all = λ name h. absurd (alone_deeper hollow_spec (Selection (codes "s") name) h) }, tt);
+        all = λ set name h. absurd (alone_deeper hollow_spec (Selection set name) h);
       };
       fields = naming_sets hollow_spec.body.variant_names;
       once = tt;
@@ -255,6 +269,70 @@ hollow_proper = record {
 -- the text with the empty set says the layer
 hollow_said : IsText hollow_text hollow
 hollow_said = subst (λ t. IsText t hollow) hollow_written (proper_layers_return hollow hollow_proper)
+
+-- ---- an edit word as a key
+
+abbrev adding_spec : Spec
+adding_spec = record (blank_spec Over) { body = record (blank_body Over) { meta = (codes "add", value.Word (codes "x")) ∷ [] } }
+
+abbrev Printer : Type 0
+Printer = ℕ → List ℕ
+
+-- the layer with this in place of the value in print; each list that the prim does not have is empty
+abbrev adding_printed : Printer → List ℕ
+adding_printed p = codes "#usda 1.0\n\nover \"A\" (\n    add = " ++ p 1 ++ codes "\n" ++ [] ++ [] ++ [] ++ [] ++ [] ++ [] ++ [] ++ [] ++ [] ++ [] ++ codes ")" ++ codes "\n" ++ codes "{\n" ++ [] ++ codes "}\n" ++ []
+
+adding_written : canonical adding ≡ adding_text
+unfolding digits canonical body_text first_line set_word spec_block spec_lines
+adding_written = ap adding_printed (fold.of_word Printer Printer print_step print_item (codes "x"))
+
+adding_short : length (canonical adding) ≤ 67108864
+adding_short = subst (λ t. length t ≤ 67108864) (sym adding_written) (leb-true (length adding_text) 67108864 refl)
+
+adding_keys : IsProperMeta is_plain_key adding_spec.body.meta
+unfolding chars is_utf8 unicode_ident is_start is_identifier is_property_name is_word lib.Utf8.encode IsStrictlySortedBy
+adding_keys = record {
+  ordered = (tt, tt);
+  each = (
+    record {
+      word = refl;
+      name = refl;
+      taken = refl;
+      writable = fold.of_word Bool Bool writable_step writable_item (codes "x");
+      read = reads_word (codes "x") (rule_shape (key_rule (codes "add"))) true;
+      deep = omega (arith, fold.of_word ℕ ℕ depth_step depth_item (codes "x"));
+      full = fold.of_word Bool Bool full_step full_item (codes "x");
+      utf8 = fold.of_word Bool Bool utf8_step utf8_item (codes "x");
+    },
+    tt,
+  );
+}
+
+adding_proper : IsProper adding
+unfolding chars is_utf8 unicode_ident is_start is_identifier lib.Utf8.encode IsStrictlySortedBy IsDistinct
+adding_proper = record {
+  head = record { keys = no_meta _; apart = refl; default_prim = tt; sublayers = tt; root_order = tt };
+  ordered = (tt, tt);
+  roots = record { once = (tt, tt); each = (refl, tt); all = alone_root adding_spec };
+  entries = (
+    record {
+      place = a_place;
+      owned = refl;
+      variant = tt;
+      children = record { once = tt; each = tt; all = λ name h. absurd (alone_deeper adding_spec (Prim name) h) };
+      sets = record { once = tt; named = tt; each = tt; all = λ set name h. absurd (alone_deeper adding_spec (Selection set name) h) };
+      fields = having_keys adding_spec.body.meta [] adding_keys;
+      once = tt;
+      properties = tt;
+    },
+    tt,
+  );
+  size = adding_short;
+}
+
+-- the text with the edit word says the layer
+adding_said : IsText adding_text adding
+adding_said = subst (λ t. IsText t adding) adding_written (proper_layers_return adding adding_proper)
 
 -- ---- layers that are not proper
 
@@ -283,7 +361,7 @@ bool_other = ap (λ b. b || holds (value.Bool true) (one String)) (fold.of_bool 
 other_type : IsProper (having (value.Bool true)) → ⊥
 other_type proper = let bad : false ≡ true = sym bool_other ∙ proper.entries.0.properties.0.defaulted.typed in cc
 
-path_below : IsProper (saying (value.PathText (codes "B"))) → ⊥
+path_below : IsProper (saying (codes "k") (value.PathText (codes "B"))) → ⊥
 path_below proper = let bad : false ≡ true = sym (fold.of_path Bool Bool full_step full_item (codes "B")) ∙ proper.entries.0.fields.keys.each.0.full in cc
 
 no_utf8 : IsProper other_bytes → ⊥
@@ -295,6 +373,8 @@ proper_examples = record {
   small_proper = small_proper;
   hollow_proper = hollow_proper;
   hollow_said = hollow_said;
+  adding_proper = adding_proper;
+  adding_said = adding_said;
   missing_name = missing_name;
   name_twice = name_twice;
   name_without_spec = name_without_spec;

@@ -47,15 +47,25 @@ misplaced = record hollow { specs = (Prim (codes "A") ∷ [], hollow_spec) ∷ (
 abbrev pub having : Value → LayerTable
 having v = of_prim (record (blank_spec Over) { body = record (blank_body Over) { properties = Attr (codes "p") (one String) false false (Some v) [] no_edits [] ∷ [] } })
 
--- a prim with one key, `k`
-abbrev pub saying : Value → LayerTable
-saying v = of_prim (record (blank_spec Over) { body = record (blank_body Over) { meta = (codes "k", v) ∷ [] } })
+-- a prim with one key
+abbrev pub saying : List ℕ → Value → LayerTable
+saying key v = of_prim (record (blank_spec Over) { body = record (blank_body Over) { meta = (key, v) ∷ [] } })
 
--- layers that are proper, one with an empty variant set among them, and layers that are not
+-- the key is an edit word
+abbrev pub adding : LayerTable
+adding = saying (codes "add") (value.Word (codes "x"))
+
+-- a text that says it
+abbrev pub adding_text : List ℕ
+adding_text = codes "#usda 1.0\n\nover \"A\" (\n    add = x\n)\n{\n}\n"
+
+-- layers that are proper, one with an empty variant set and one with an edit word as a key among them, and layers that are not
 pub record ProperExamples : Type 0 where
   pub small_proper : IsProper small
   pub hollow_proper : IsProper hollow
   pub hollow_said : IsText hollow_text hollow
+  pub adding_proper : IsProper adding
+  pub adding_said : IsText adding_text adding
   -- names and paths
   pub missing_name : IsProper (naming []) → ⊥
   pub name_twice : IsProper (naming (codes "A" ∷ codes "A" ∷ [])) → ⊥
@@ -64,5 +74,5 @@ pub record ProperExamples : Type 0 where
   pub no_place : IsProper misplaced → ⊥
   -- a default of another type, a path that is not from the root down, and a sublayer whose name is not UTF-8
   pub other_type : IsProper (having (value.Bool true)) → ⊥
-  pub path_below : IsProper (saying (value.PathText (codes "B"))) → ⊥
+  pub path_below : IsProper (saying (codes "k") (value.PathText (codes "B"))) → ⊥
   pub no_utf8 : IsProper other_bytes → ⊥
