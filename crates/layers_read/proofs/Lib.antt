@@ -1,0 +1,16 @@
+pub mod Rows
+pub mod AllRows
+pub mod FitRows
+pub mod AllFitRows
+pub mod Fits
+pub mod States
+pub mod Words
+pub mod Others
+pub mod Hands
+pub mod KeyAims
+pub mod Stacks
+pub mod Kept
+pub mod Runs
+pub mod Texts
+pub mod Properties
+pub mod Layers

@@ -1,0 +1,6 @@
+pub mod Stacks
+pub mod Names
+pub mod Trees
+pub mod Drafts
+pub mod Laws
+pub mod Lists

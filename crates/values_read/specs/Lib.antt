@@ -1,0 +1,7 @@
+pub mod Tokens
+pub mod Sound
+pub mod Laws
+pub mod Words
+pub mod Owners
+pub mod Texts
+pub mod Proper
