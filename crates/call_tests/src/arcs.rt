@@ -107,41 +107,31 @@ fn lifted(alloc: Global, arc: &ArcMap, rows: &[(&str, &str)]) -> Result<u64, Pat
     Ok(right)
 }
 
-#[test]
-fn a_reference_moves_what_is_below_its_target(rt: HostRuntime) -> Result<(), Fail> {
-    let by = arc(rt.alloc(), ArcKind::Reference, "/Model", "/World/char")?;
-    assert_eq!(rt; translated(rt.alloc(), &by, &BY_REFERENCE)?, 8);
-    Ok(())
-}
+// Arcs by their kind, target and author, each with paths that it translates or not.
+const ARCS: [(ArcKind, &str, &str, &[(&str, &str)]); 5] = [
+    (ArcKind::Reference, "/Model", "/World/char", &BY_REFERENCE),
+    (
+        ArcKind::Payload,
+        "/M{s=x}",
+        "/A{t=y}B",
+        &BY_PAYLOAD_TO_A_VARIANT,
+    ),
+    (ArcKind::Inherits, "/_c", "/A", &BY_INHERITS),
+    (
+        ArcKind::Specializes,
+        "/_c",
+        "/A{s=x}B",
+        &BY_SPECIALIZES_IN_A_VARIANT,
+    ),
+    (ArcKind::Variant, "/A{s=x}", "/A", &BY_VARIANT),
+];
 
 #[test]
-fn a_payload_moves_what_is_below_its_target(rt: HostRuntime) -> Result<(), Fail> {
-    let by = arc(rt.alloc(), ArcKind::Payload, "/M{s=x}", "/A{t=y}B")?;
-    assert_eq!(rt; translated(rt.alloc(), &by, &BY_PAYLOAD_TO_A_VARIANT)?, 4);
-    Ok(())
-}
-
-#[test]
-fn inherits_leaves_other_paths_and_hides_the_author(rt: HostRuntime) -> Result<(), Fail> {
-    let by = arc(rt.alloc(), ArcKind::Inherits, "/_c", "/A")?;
-    assert_eq!(rt; translated(rt.alloc(), &by, &BY_INHERITS)?, 10);
-    Ok(())
-}
-
-#[test]
-fn specializes_passes_over_selections_of_the_author(rt: HostRuntime) -> Result<(), Fail> {
-    let by = arc(rt.alloc(), ArcKind::Specializes, "/_c", "/A{s=x}B")?;
-    assert_eq!(rt;
-        translated(rt.alloc(), &by, &BY_SPECIALIZES_IN_A_VARIANT)?,
-        5
-    );
-    Ok(())
-}
-
-#[test]
-fn a_variant_drops_selections(rt: HostRuntime) -> Result<(), Fail> {
-    let by = arc(rt.alloc(), ArcKind::Variant, "/A{s=x}", "/A")?;
-    assert_eq!(rt; translated(rt.alloc(), &by, &BY_VARIANT)?, 5);
+fn arcs_move_paths(rt: HostRuntime) -> Result<(), Fail> {
+    for (kind, target, author, rows) in ARCS {
+        let by = arc(rt.alloc(), kind, target, author)?;
+        assert!(rt; translated(rt.alloc(), &by, rows)? == rows.len() as u64);
+    }
     Ok(())
 }
 
@@ -170,9 +160,11 @@ fn fits(alloc: Global, kind: ArcKind, author: &str, path: &str) -> Result<bool, 
 #[test]
 fn names_past_the_limit_are_refused(rt: HostRuntime) -> Result<(), Fail> {
     let deep = "/a".repeat(rt.alloc(), 63)?;
-    assert!(rt; fits(rt.alloc(), ArcKind::Reference, deep.as_str(), "/T/b")?);
-    assert!(rt; !fits(rt.alloc(), ArcKind::Reference, deep.as_str(), "/T/b/c")?);
-    assert!(rt; !fits(rt.alloc(), ArcKind::Inherits, deep.as_str(), "/T/b/c")?);
+    assert!(rt;
+        fits(rt.alloc(), ArcKind::Reference, deep.as_str(), "/T/b")?
+            && !fits(rt.alloc(), ArcKind::Reference, deep.as_str(), "/T/b/c")?
+            && !fits(rt.alloc(), ArcKind::Inherits, deep.as_str(), "/T/b/c")?
+    );
     Ok(())
 }
 
@@ -180,9 +172,11 @@ fn names_past_the_limit_are_refused(rt: HostRuntime) -> Result<(), Fail> {
 fn bytes_past_the_limit_are_refused(rt: HostRuntime) -> Result<(), Fail> {
     let mut long = String::from_str(rt.alloc(), "/")?;
     long.push_str("a".repeat(rt.alloc(), 4090)?.as_str())?;
-    assert!(rt; fits(rt.alloc(), ArcKind::Payload, long.as_str(), "/T/bcde")?);
-    assert!(rt; !fits(rt.alloc(), ArcKind::Payload, long.as_str(), "/T/bcdef")?);
-    assert!(rt; !fits(rt.alloc(), ArcKind::Specializes, long.as_str(), "/T/bcdef")?);
+    assert!(rt;
+        fits(rt.alloc(), ArcKind::Payload, long.as_str(), "/T/bcde")?
+            && !fits(rt.alloc(), ArcKind::Payload, long.as_str(), "/T/bcdef")?
+            && !fits(rt.alloc(), ArcKind::Specializes, long.as_str(), "/T/bcdef")?
+    );
     Ok(())
 }
 

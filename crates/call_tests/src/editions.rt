@@ -11,14 +11,22 @@ fn an_edition_has_its_items_in_order(rt: HostRuntime) -> Result<(), Fail> {
     items.push((3, 30))?;
     items.push((9, 90))?;
     let edition = Edition::build(alloc, 4, 2, items, None)?;
-    assert!(rt; edition.version() == 4 && edition.batches() == 2 && edition.len() == 3);
-    assert!(rt; !edition.is_empty());
+    assert!(rt;
+        edition.version() == 4
+            && edition.batches() == 2
+            && edition.len() == 3
+            && !edition.is_empty()
+    );
     let view = edition.view();
     assert!(rt; view.version() == 4 && view.batches() == 2 && view.len() == 3);
     assert!(rt;
         view.find(&3) == Some(&30) && view.find(&9) == Some(&90) && view.find(&4).is_none()
     );
-    assert!(rt; view.nth(0) == Some((&5, &50)) && view.nth(2) == Some((&9, &90)));
-    assert!(rt; view.nth(3).is_none() && !view.is_empty());
+    assert!(rt;
+        view.nth(0) == Some((&5, &50))
+            && view.nth(2) == Some((&9, &90))
+            && view.nth(3).is_none()
+            && !view.is_empty()
+    );
     Ok(())
 }

@@ -7,11 +7,14 @@ use usda_grammar::{
 
 #[test]
 fn the_table_is_told(rt: HostRuntime) -> Result<(), Fail> {
-    assert_eq!(rt; kind_of_word("def"), TokenKind::Word(Keyword::Specifier));
-    assert_eq!(rt; keyword_of("payload"), Keyword::ReferenceField);
-    assert_eq!(rt; keyword_of("defs"), Keyword::Other);
-    assert_eq!(rt; layer().len(), 2);
-    assert!(rt; may_be_absent(Symbol::MaybeHead) && !may_be_absent(Symbol::Value));
+    assert!(rt;
+        kind_of_word("def") == TokenKind::Word(Keyword::Specifier)
+            && keyword_of("payload") == Keyword::ReferenceField
+            && keyword_of("defs") == Keyword::Other
+            && layer().len() == 2
+            && may_be_absent(Symbol::MaybeHead)
+            && !may_be_absent(Symbol::Value)
+    );
     assert_eq!(rt;
         starts(Symbol::Value, TokenKind::Number),
         Some([].as_slice())

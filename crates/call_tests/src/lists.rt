@@ -9,22 +9,25 @@ fn a_list_keeps_its_items_in_order(rt: HostRuntime) -> Result<(), Fail> {
     assert!(rt; list.is_empty());
     list.push(3)?;
     list.push(5)?;
-    assert!(rt; list.len() == 2);
-    assert!(rt; list.as_slice() == [3, 5].as_slice());
-    assert!(rt; list.get(1) == Some(&5));
-    assert!(rt; list.get(2).is_none());
-    assert!(rt; list.iter().count() == 2);
+    assert!(rt;
+        list.len() == 2
+            && list.as_slice() == [3, 5].as_slice()
+            && list.get(1) == Some(&5)
+            && list.get(2).is_none()
+            && list.iter().count() == 2
+    );
     let again = list.copy()?;
-    assert!(rt; list.same(&again));
-    assert!(rt; same(&list, &copy(&again)?));
+    assert!(rt; list.same(&again) && same(&list, &copy(&again)?));
     let roomy: Items<u64> = Items::with_room_of(&list)?;
     assert!(rt; !list.same(&roomy));
     let mut shorter = again.copy()?;
-    assert!(rt; shorter.pop() == Some(5));
-    assert!(rt; shorter.as_slice() == [3].as_slice());
-    assert!(rt; shorter.pop() == Some(3));
-    assert!(rt; shorter.pop().is_none());
-    assert!(rt; again.into_vec().len() == 2);
+    assert!(rt;
+        shorter.pop() == Some(5)
+            && shorter.as_slice() == [3].as_slice()
+            && shorter.pop() == Some(3)
+            && shorter.pop().is_none()
+            && again.into_vec().len() == 2
+    );
     Ok(())
 }
 
@@ -36,11 +39,12 @@ fn a_text_keeps_its_bytes(rt: HostRuntime) -> Result<(), Fail> {
     text.push_str("sce")?;
     text.push('n')?;
     text.push('e')?;
-    assert!(rt; text.as_str() == "scene");
-    assert!(rt; text.as_bytes() == b"scene".as_slice());
-    assert!(rt; text.len() == 5);
+    assert!(rt;
+        text.as_str() == "scene" && text.as_bytes() == b"scene".as_slice() && text.len() == 5
+    );
     let again = Text::of(alloc, "scene")?;
-    assert!(rt; same(&text, &again));
-    assert!(rt; same(&copy(&text)?, &Text::from_string(again.into_string())));
+    assert!(rt;
+        same(&text, &again) && same(&copy(&text)?, &Text::from_string(again.into_string()))
+    );
     Ok(())
 }

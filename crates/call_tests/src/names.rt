@@ -6,8 +6,14 @@ use usd_names::{
 
 #[test]
 fn names_are_identifiers_joined_by_colons(rt: HostRuntime) -> Result<(), Fail> {
-    assert!(rt; is_start('_') && is_start('é') && !is_start('1') && !is_start(':'));
-    assert!(rt; is_continue('1') && !is_continue('-'));
+    assert!(rt;
+        is_start('_')
+            && is_start('é')
+            && !is_start('1')
+            && !is_start(':')
+            && is_continue('1')
+            && !is_continue('-')
+    );
     assert!(rt;
         is_variant_character('-') && is_variant_character('|') && !is_variant_character('.')
     );

@@ -11,13 +11,19 @@ fn a_table_keeps_its_entries_in_the_order_of_keys(rt: HostRuntime) -> Result<(),
     table.insert(3, 30)?;
     table.insert(9, 90)?;
     table.insert(5, 55)?;
-    assert!(rt; !table.is_empty() && table.iter().count() == 3);
-    assert!(rt; table.get(&5) == Some(&55) && table.get(&4).is_none());
-    assert!(rt; table.has(&9) && !table.has(&10));
-    assert!(rt; table.iter().next() == Some((&3, &30)));
-    assert!(rt; table.iter_from(&4).next() == Some((&5, &55)));
-    assert!(rt; table.iter_from(&5).count() == 2 && table.iter_from(&9).count() == 1);
-    assert!(rt; table.iter_from(&10).next().is_none());
+    assert!(rt;
+        !table.is_empty()
+            && table.iter().count() == 3
+            && table.get(&5) == Some(&55)
+            && table.get(&4).is_none()
+            && table.has(&9)
+            && !table.has(&10)
+            && table.iter().next() == Some((&3, &30))
+            && table.iter_from(&4).next() == Some((&5, &55))
+            && table.iter_from(&5).count() == 2
+            && table.iter_from(&9).count() == 1
+            && table.iter_from(&10).next().is_none()
+    );
     Ok(())
 }
 
@@ -27,12 +33,20 @@ fn an_exchange_and_a_removal_change_one_entry(rt: HostRuntime) -> Result<(), Fai
     table.insert(3, 30)?;
     table.insert(5, 50)?;
     let before = copy(&table)?;
-    assert!(rt; same(&table, &before));
-    assert!(rt; table.exchange(&5, 51)? == Some(50) && table.exchange(&4, 40)?.is_none());
-    assert!(rt; !same(&table, &before) && !same(&before, &table));
-    assert!(rt; table.remove(&3)? && !table.remove(&3)?);
-    assert!(rt; table.iter().count() == 1 && table.get(&5) == Some(&51));
-    assert!(rt; before.iter().count() == 2 && before.get(&5) == Some(&50) && before.has(&3));
+    assert!(rt;
+        same(&table, &before)
+            && table.exchange(&5, 51)? == Some(50)
+            && table.exchange(&4, 40)?.is_none()
+            && !same(&table, &before)
+            && !same(&before, &table)
+            && table.remove(&3)?
+            && !table.remove(&3)?
+            && table.iter().count() == 1
+            && table.get(&5) == Some(&51)
+            && before.iter().count() == 2
+            && before.get(&5) == Some(&50)
+            && before.has(&3)
+    );
     Ok(())
 }
 
@@ -58,8 +72,9 @@ fn a_copy_of_many_entries_stays_as_it_was(rt: HostRuntime) -> Result<(), Fail> {
     for key in 0..1000 {
         assert!(rt; before.get(&key) == Some(&key) && table.has(&key) == (key % 4 != 0));
     }
-    assert!(rt; table.iter().count() == 1250 && table.get(&1499) == Some(&0));
-    assert!(rt; !same(&table, &before));
+    assert!(rt;
+        table.iter().count() == 1250 && table.get(&1499) == Some(&0) && !same(&table, &before)
+    );
     Ok(())
 }
 

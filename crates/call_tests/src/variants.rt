@@ -67,70 +67,37 @@ fn shown(alloc: Global, rows: &[Row]) -> Result<String, AllocError> {
     Ok(out)
 }
 
-#[test]
-fn nothing_is_chosen_where_nothing_is_met(rt: HostRuntime) -> Result<(), Fail> {
-    assert_eq!(rt; shown(rt.alloc(), &[])?.as_str(), "");
-    Ok(())
-}
+// Opinions of rounds, and the choices that they make: none where none is met; the first opinion counts; a set without an
+// opinion stays open, and ends the rounds where no other is decided; a set is decided, or met, in a later round; a choice
+// stays; the empty variant is one; choices stand in the order in which their sets are met.
+const ROUNDS: [(&[Row], &str); 9] = [
+    (&[], ""),
+    (&[(0, "s", "-"), (0, "s", "x"), (0, "s", "y")], "s=x "),
+    (&[(0, "s", "-"), (0, "t", "x"), (1, "s", "-")], "t=x "),
+    (&[(0, "s", "-"), (1, "t", "x")], ""),
+    (
+        &[
+            (0, "size", "big"),
+            (0, "look", "-"),
+            (1, "size", "big"),
+            (1, "look", "red"),
+        ],
+        "size=big look=red ",
+    ),
+    (
+        &[(0, "s", "x"), (1, "t", "y"), (2, "u", "z")],
+        "s=x t=y u=z ",
+    ),
+    (&[(0, "s", "x"), (1, "s", "y"), (1, "t", "z")], "s=x t=z "),
+    (&[(0, "s", ""), (0, "s", "x"), (1, "s", "y")], "s= "),
+    (&[(0, "b", "-"), (0, "a", "x"), (0, "b", "y")], "b=y a=x "),
+];
 
 #[test]
-fn the_first_opinion_counts(rt: HostRuntime) -> Result<(), Fail> {
-    let rows = [(0, "s", "-"), (0, "s", "x"), (0, "s", "y")];
-    assert_eq!(rt; shown(rt.alloc(), &rows)?.as_str(), "s=x ");
-    Ok(())
-}
-
-#[test]
-fn a_set_without_an_opinion_stays_open(rt: HostRuntime) -> Result<(), Fail> {
-    let rows = [(0, "s", "-"), (0, "t", "x"), (1, "s", "-")];
-    assert_eq!(rt; shown(rt.alloc(), &rows)?.as_str(), "t=x ");
-    Ok(())
-}
-
-#[test]
-fn a_set_that_no_opinion_decides_ends_the_rounds(rt: HostRuntime) -> Result<(), Fail> {
-    let rows = [(0, "s", "-"), (1, "t", "x")];
-    assert_eq!(rt; shown(rt.alloc(), &rows)?.as_str(), "");
-    Ok(())
-}
-
-#[test]
-fn a_set_is_decided_in_a_later_round(rt: HostRuntime) -> Result<(), Fail> {
-    let rows = [
-        (0, "size", "big"),
-        (0, "look", "-"),
-        (1, "size", "big"),
-        (1, "look", "red"),
-    ];
-    assert_eq!(rt; shown(rt.alloc(), &rows)?.as_str(), "size=big look=red ");
-    Ok(())
-}
-
-#[test]
-fn a_set_is_met_in_a_later_round(rt: HostRuntime) -> Result<(), Fail> {
-    let rows = [(0, "s", "x"), (1, "t", "y"), (2, "u", "z")];
-    assert_eq!(rt; shown(rt.alloc(), &rows)?.as_str(), "s=x t=y u=z ");
-    Ok(())
-}
-
-#[test]
-fn a_choice_stays(rt: HostRuntime) -> Result<(), Fail> {
-    let rows = [(0, "s", "x"), (1, "s", "y"), (1, "t", "z")];
-    assert_eq!(rt; shown(rt.alloc(), &rows)?.as_str(), "s=x t=z ");
-    Ok(())
-}
-
-#[test]
-fn the_empty_variant_is_a_choice(rt: HostRuntime) -> Result<(), Fail> {
-    let rows = [(0, "s", ""), (0, "s", "x"), (1, "s", "y")];
-    assert_eq!(rt; shown(rt.alloc(), &rows)?.as_str(), "s= ");
-    Ok(())
-}
-
-#[test]
-fn choices_stand_in_the_order_in_which_sets_are_met(rt: HostRuntime) -> Result<(), Fail> {
-    let rows = [(0, "b", "-"), (0, "a", "x"), (0, "b", "y")];
-    assert_eq!(rt; shown(rt.alloc(), &rows)?.as_str(), "b=y a=x ");
+fn opinions_make_choices_round_by_round(rt: HostRuntime) -> Result<(), Fail> {
+    for (rows, choices) in ROUNDS {
+        assert!(rt; shown(rt.alloc(), rows)?.as_str() == choices);
+    }
     Ok(())
 }
 

@@ -1,5 +1,5 @@
 -- What the calls on files, sources and sinks do.
-use Rattle.std.specs.Prelude.{◌≡◌, ℕ, ◌+◌, ◌<◌, ◌≤◌, List, ◌++◌, length, take, Option, Some, None}
+use Rattle.std.specs.Prelude.{◌≡◌, ◌⊎◌, ℕ, ◌+◌, ◌<◌, ◌≤◌, List, [], ◌∷◌, ◌++◌, length, take, Option, Some, None}
 use Rattle.std.specs.Io.{StartsWith}
 use Rattle.std.specs.Io.KnownBytes.{Appends, Consumes, Keeps, IsAtEnd}
 use Rattle.io_edges.specs.declared.Fetched.{Fetched}
@@ -26,6 +26,22 @@ FetchTells Found file old new = (bytes : List ℕ) × (file ≡ Some bytes) × (
 FetchTells Absent file old new = file ≡ None
 FetchTells Failed file old new = Unit {0}
 FetchTells NoMemory file old new = Unit {0}
+
+-- these names were asked for, behind those before; where the names are not told, nothing is said
+abbrev pub Asks : Option (List (List ℕ)) → Option (List (List ℕ)) → List (List ℕ) → Type 0
+Asks None after names = after ≡ None
+Asks (Some before) after names = after ≡ Some (before ++ names)
+
+-- this name was asked for, or none
+abbrev pub AsksAtMost : Option (List (List ℕ)) → Option (List (List ℕ)) → List ℕ → Type 0
+AsksAtMost before after name = Asks before after [] ⊎ Asks before after (name ∷ [])
+
+-- a fetch asks for its name and for no other; where memory ran out for it, the name may be missing
+abbrev pub FetchAsks : Fetched → Option (List (List ℕ)) → Option (List (List ℕ)) → List ℕ → Type 0
+FetchAsks Found before after name = Asks before after (name ∷ [])
+FetchAsks Absent before after name = Asks before after (name ∷ [])
+FetchAsks Failed before after name = AsksAtMost before after name
+FetchAsks NoMemory before after name = AsksAtMost before after name
 
 -- what a read takes from the bytes that are left and puts at the front of the buffer
 abbrev pub ReadTakes : Got → Option (List ℕ) → Option (List ℕ) → List ℕ → Type 0

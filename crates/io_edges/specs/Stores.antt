@@ -18,9 +18,10 @@ abbrev pub file_named : List Entry → List ℕ → Option (List ℕ)
 file_named [] name = None
 file_named (f ∷ fs) name = if bytes_eq f.name name then Some f.bytes else file_named fs name
 
--- files, of which some fetches fail
+-- files, of which some fetches fail, and the names that were asked for
 pub record FailingFiles : Type 0 where
   pub files : List Entry
+  pub asked : List (List ℕ)
   pub plan : Plan
 
 -- bytes that are left, and how many of them one read moves at most

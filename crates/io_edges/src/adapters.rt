@@ -82,6 +82,8 @@ fn append_all<T: Read>(reader: &mut T, into: &mut Vec<u8>) -> Fetched
 impl<R: Files + Drop> LayerFiles for FolderFiles<R> {
     ghost files = { λ _. None };
 
+    ghost asked = { λ _. None };
+
     ghost faults = { λ count. count };
 
     fn fetch(&mut self, name: &str, into: &mut Vec<u8>) -> Fetched {
@@ -131,9 +133,8 @@ impl<T: Read + Drop> Source for StdSource<T> {
                 Ok(0) => return Got::End,
                 Ok(n) => return Got::Bytes(n),
                 Err(e) => {
-                    self.faults = self.faults.saturating_add(1);
                     if e.kind() != ErrorKind::Interrupted {
-                        return Got::Failed;
+                        break;
                     }
                 }
             }
@@ -175,19 +176,13 @@ impl<W: Write + Drop> Sink for StdSink<W> {
     fn write(&mut self, piece: &[u8]) -> Put {
         for _ in 0..u64::MAX {
             match self.inner.write(piece) {
-                Ok(0) => {
-                    self.faults = self.faults.saturating_add(1);
-                    return Put::Failed;
-                }
+                Ok(0) => break,
                 Ok(n) => return Put::Took(n),
-                Err(e) => {
-                    self.faults = self.faults.saturating_add(1);
-                    match e.kind() {
-                        ErrorKind::Interrupted => {}
-                        ErrorKind::OutOfMemory => return Put::NoMemory,
-                        _ => return Put::Failed,
-                    }
-                }
+                Err(e) => match e.kind() {
+                    ErrorKind::Interrupted => {}
+                    ErrorKind::OutOfMemory => return Put::NoMemory,
+                    _ => break,
+                },
             }
         }
         self.faults = self.faults.saturating_add(1);

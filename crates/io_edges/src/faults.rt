@@ -1,6 +1,6 @@
 //! Which calls of an object in memory are to fail.
 
-ghost use Rattle.std.specs.Prelude.{◌≡◌, ◌≤◌, ◌↔◌, IsTrue, Contains};
+ghost use Rattle.std.specs.Prelude.{◌≡◌, ◌↔◌, IsTrue, Contains};
 ghost use Rattle.io_edges.specs.Plans.{after_call};
 ghost use Rattle.io_edges.specs.Causes.{one_more};
 
@@ -38,7 +38,6 @@ impl FaultPlan {
     pub fn fails_now(&mut self) -> bool
         ensures fails { IsTrue result ↔ Contains self.old.failing (one_more self.old.calls) }
         ensures after { self.new ≡ after_call self.old result }
-        ensures later { self.old.faults ≤ self.new.faults }
     {
         self.calls = self.calls.saturating_add(1);
         let fails = self.failing.contains(&self.calls);

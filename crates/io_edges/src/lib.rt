@@ -9,9 +9,9 @@ mod adapters;
 mod faults;
 mod memory;
 
-ghost use Rattle.std.specs.Prelude.{◌≡◌, ◌<◌, ◌≤◌, ℕ, List, Option, length, IfSome};
-ghost use Rattle.io_edges.specs.Causes.{Rose};
-ghost use Rattle.io_edges.specs.Edges.{FetchLeaves, FetchTells, ReadTakes, WriteTakes};
+ghost use Rattle.std.specs.Prelude.{◌≡◌, ◌<◌, ℕ, List, Option, length, IfSome};
+ghost use Rattle.io_edges.specs.Causes.{IsCounted};
+ghost use Rattle.io_edges.specs.Edges.{FetchAsks, FetchLeaves, FetchTells, ReadTakes, WriteTakes};
 
 pub use adapters::{FolderFiles, StdSink, StdSource};
 pub use memory::{
@@ -73,10 +73,14 @@ pub enum GatePoint {
 
 /// Layers by their names.
 ///
-/// Which bytes each name has is a map that no call changes. It is told by objects in memory and not by folders.
+/// Which bytes each name has is a map that no call changes. It is told by objects in memory and not by folders. Which
+/// names were asked for is told by `MemoryFiles` alone: what is proved over any files holds over these too.
 pub trait LayerFiles {
     /// The bytes of each name, where they are told.
     ghost files: { Self → Option (List ℕ → Option (List ℕ)) };
+
+    /// The names that were asked for, the first one first, where they are told.
+    ghost asked: { Self → Option (List (List ℕ)) };
 
     /// How often a fetch has failed. The count never falls, and stands still at 2^64 - 1.
     ghost faults: { Self → ℕ };
@@ -86,8 +90,8 @@ pub trait LayerFiles {
         ensures same { files self.new ≡ files self.old }
         ensures tells { IfSome (files self.old) (λ f. FetchTells result (f name.now) into.old.items into.new.items) }
         ensures leaves { FetchLeaves result into.old.items into.new.items }
-        ensures later { faults self.old ≤ faults self.new }
-        ensures cause { result ≡ Fetched.Failed → Rose (faults self.old) (faults self.new) };
+        ensures asks { FetchAsks result (asked self.old) (asked self.new) name.now }
+        ensures counted { IsCounted (result ≡ Fetched.Failed) (faults self.old) (faults self.new) };
 }
 
 /// A stream that is read.
@@ -102,8 +106,7 @@ pub trait Source {
     fn read(&mut self, into: &mut [u8]) -> Got
         requires { 0 < length into.old }
         ensures takes { ReadTakes result (left self.old) (left self.new) into.new }
-        ensures later { faults self.old ≤ faults self.new }
-        ensures cause { result ≡ Got.Failed → Rose (faults self.old) (faults self.new) };
+        ensures counted { IsCounted (result ≡ Got.Failed) (faults self.old) (faults self.new) };
 }
 
 /// A stream that is written.
@@ -118,8 +121,7 @@ pub trait Sink {
     fn write(&mut self, piece: &[u8]) -> Put
         requires { 0 < length piece.now }
         ensures takes { WriteTakes result (taken self.old) (taken self.new) piece.now }
-        ensures later { faults self.old ≤ faults self.new }
-        ensures cause { result ≡ Put.Failed → Rose (faults self.old) (faults self.new) };
+        ensures counted { IsCounted (result ≡ Put.Failed) (faults self.old) (faults self.new) };
 }
 
 /// Where tests hold a thread. A gate tells nothing and changes nothing.

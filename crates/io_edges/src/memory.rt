@@ -1,9 +1,9 @@
 //! Files, sources and sinks in memory: the ones that never fail, and the same with faults at calls of given numbers.
 
-ghost use Rattle.std.specs.Prelude.{◌≡◌, ◌+◌, ◌++◌, ◌<◌, ◌≤◌, ◌↔◌, [], Some, length, take, drop, map, OnOk, OnErr, IfSome, Contains};
+ghost use Rattle.std.specs.Prelude.{◌≡◌, ◌+◌, ◌++◌, ◌∷◌, ◌<◌, ◌≤◌, ◌↔◌, [], None, Some, length, take, drop, map, OnOk, OnErr, IfSome, Contains, string_bytes};
 ghost use Rattle.std.specs.Option.{option_copied};
-ghost use Rattle.io_edges.specs.Causes.{one_more, Rose};
-ghost use Rattle.io_edges.specs.Edges.{most, FetchTells, FetchLeaves, ReadTakes, ReadsFew, WriteTakes, WritesFew};
+ghost use Rattle.io_edges.specs.Causes.{one_more, IsCounted};
+ghost use Rattle.io_edges.specs.Edges.{most, FetchAsks, FetchTells, FetchLeaves, ReadTakes, ReadsFew, WriteTakes, WritesFew};
 ghost use Rattle.io_edges.specs.Plans.{IsCalled};
 ghost use Rattle.io_edges.specs.Stores.{entry_of, file_named};
 
@@ -74,6 +74,8 @@ impl SureFiles {
 impl LayerFiles for SureFiles {
     ghost files = { λ s. Some (file_named s) };
 
+    ghost asked = { λ _. None };
+
     ghost faults = { λ _. 0 };
 
     fn fetch(&mut self, name: &str, into: &mut Vec<u8>) -> Fetched {
@@ -81,36 +83,60 @@ impl LayerFiles for SureFiles {
     }
 }
 
-/// Files of which some fetches fail.
+// Adds a name to those that were asked for.
+fn note(asked: &mut Vec<String>, name: &str) -> Result<(), AllocError>
+    ensures ok { OnOk result (map string_bytes asked.new.items ≡ map string_bytes asked.old.items ++ name.now ∷ []) }
+    ensures err { OnErr result (asked.new.items ≡ asked.old.items) }
+{
+    let name = String::from_str(*asked.allocator(), name)?;
+    asked.push(name)?;
+    Ok(())
+}
+
+/// Files of which some fetches fail, and which keep the names that were asked for.
 #[derive(Drop)]
 pub struct MemoryFiles {
     files: SureFiles,
+    asked: Vec<String>,
     plan: FaultPlan,
 }
 
 impl Model for MemoryFiles {
+    ghost use Rattle.std.specs.Prelude.{map, string_bytes};
     ghost use Rattle.io_edges.specs.Stores.{FailingFiles};
 
     ghost Value = { FailingFiles };
 
-    ghost view = { λ s. record { files = s.files; plan = s.plan } };
+    ghost view = { λ s. record { files = s.files; asked = map string_bytes s.asked.items; plan = s.plan } };
 }
 
 impl MemoryFiles {
     /// These files, of which the fetches of these numbers fail, counted from 1.
     pub fn new(files: Vec<(String, Vec<u8>)>, failing: Vec<u64>) -> MemoryFiles
         ensures files { result.files ≡ map entry_of files.items }
+        ensures asked { result.asked ≡ [] }
         ensures plan { result.plan ≡ record { failing = failing.items; calls = 0; faults = 0 } }
     {
+        let asked = Vec::new(*files.allocator());
         MemoryFiles {
             files: SureFiles::new(files),
+            asked,
             plan: FaultPlan::new(failing),
         }
+    }
+
+    /// The names that were asked for, the first one first.
+    pub fn asked(&self) -> &[String]
+        ensures { map string_bytes result.now ≡ self.now.asked }
+    {
+        self.asked.as_slice()
     }
 }
 
 impl LayerFiles for MemoryFiles {
     ghost files = { λ s. Some (file_named s.files) };
+
+    ghost asked = { λ s. Some s.asked };
 
     ghost faults = { λ s. s.plan.faults };
 
@@ -118,14 +144,18 @@ impl LayerFiles for MemoryFiles {
         ensures same { Some (file_named self.new.files) ≡ Some (file_named self.old.files) }
         ensures tells { IfSome (Some (file_named self.old.files)) (λ f. FetchTells result (f name.now) into.old.items into.new.items) }
         ensures leaves { FetchLeaves result into.old.items into.new.items }
-        ensures later { self.old.plan.faults ≤ self.new.plan.faults }
-        ensures cause { result ≡ Fetched.Failed → Rose self.old.plan.faults self.new.plan.faults }
+        ensures asks { FetchAsks result (Some self.old.asked) (Some self.new.asked) name.now }
+        ensures counted { IsCounted (result ≡ Fetched.Failed) self.old.plan.faults self.new.plan.faults }
         ensures planned { IsCalled self.old.plan self.new.plan (result ≡ Fetched.Failed) }
     {
+        let noted = note(&mut self.asked, name);
         if self.plan.fails_now() {
             return Fetched::Failed;
         }
-        self.files.fetch(name, into)
+        match noted {
+            Ok(()) => self.files.fetch(name, into),
+            Err(_) => Fetched::NoMemory,
+        }
     }
 }
 
@@ -189,8 +219,8 @@ impl Source for SureSource {
         ensures takes { ReadTakes result (Some self.old.left) (Some self.new.left) into.new }
         ensures few { ReadsFew self.old.step result }
         ensures step { self.new.step ≡ self.old.step }
-        ensures later { 0 ≤ 0 }
-        ensures cause { result ≡ Got.Failed → ⊥ }
+        ensures counted { IsCounted (result ≡ Got.Failed) 0 0 }
+        ensures sure { result ≡ Got.Failed → ⊥ }
     {
         let text = rest_of(&self.bytes, self.at);
         if text.is_empty() {
@@ -242,8 +272,7 @@ impl Source for MemorySource {
         ensures takes { ReadTakes result (Some self.old.stream.left) (Some self.new.stream.left) into.new }
         ensures few { ReadsFew self.old.stream.step result }
         ensures step { self.new.stream.step ≡ self.old.stream.step }
-        ensures later { self.old.plan.faults ≤ self.new.plan.faults }
-        ensures cause { result ≡ Got.Failed → Rose self.old.plan.faults self.new.plan.faults }
+        ensures counted { IsCounted (result ≡ Got.Failed) self.old.plan.faults self.new.plan.faults }
         ensures planned { IsCalled self.old.plan self.new.plan (result ≡ Got.Failed) }
     {
         if self.plan.fails_now() {
@@ -316,8 +345,8 @@ impl Sink for SureSink {
         ensures takes { WriteTakes result (Some self.old.taken) (Some self.new.taken) piece.now }
         ensures few { WritesFew self.old.step result }
         ensures step { self.new.step ≡ self.old.step }
-        ensures later { 0 ≤ 0 }
-        ensures cause { result ≡ Put.Failed → ⊥ }
+        ensures counted { IsCounted (result ≡ Put.Failed) 0 0 }
+        ensures sure { result ≡ Put.Failed → ⊥ }
     {
         keep(&mut self.bytes, self.step, piece)
     }
@@ -370,8 +399,7 @@ impl Sink for MemorySink {
         ensures takes { WriteTakes result (Some self.old.store.taken) (Some self.new.store.taken) piece.now }
         ensures few { WritesFew self.old.store.step result }
         ensures step { self.new.store.step ≡ self.old.store.step }
-        ensures later { self.old.plan.faults ≤ self.new.plan.faults }
-        ensures cause { result ≡ Put.Failed → Rose self.old.plan.faults self.new.plan.faults }
+        ensures counted { IsCounted (result ≡ Put.Failed) self.old.plan.faults self.new.plan.faults }
         ensures planned { IsCalled self.old.plan self.new.plan (result ≡ Put.Failed) }
     {
         if self.plan.fails_now() {

@@ -29,9 +29,9 @@ fn put(layer: &mut Layer, path: &Path, alloc: Global) -> Result<bool, Fail> {
 #[test]
 fn a_new_layer_has_no_spec(rt: HostRuntime) -> Result<(), Fail> {
     let layer = Layer::new(rt.alloc());
-    assert!(rt; layer.is_empty());
-    assert!(rt; layer.len() == 0);
-    assert!(rt; same(layer.head(), &Head::blank(rt.alloc())));
+    assert!(rt;
+        layer.is_empty() && layer.len() == 0 && same(layer.head(), &Head::blank(rt.alloc()))
+    );
     Ok(())
 }
 
@@ -39,8 +39,7 @@ fn a_new_layer_has_no_spec(rt: HostRuntime) -> Result<(), Fail> {
 fn a_spec_that_is_put_is_found(rt: HostRuntime) -> Result<(), Fail> {
     let mut layer = Layer::new(rt.alloc());
     let place = path(rt.alloc(), "/A")?;
-    assert!(rt; put(&mut layer, &place, rt.alloc())?);
-    assert!(rt; layer.has(&place));
+    assert!(rt; put(&mut layer, &place, rt.alloc())? && layer.has(&place));
     let Some(spec) = layer.get(&place) else {
         return Err(Fail::from("no spec"));
     };
@@ -52,8 +51,7 @@ fn a_spec_that_is_put_is_found(rt: HostRuntime) -> Result<(), Fail> {
 fn an_owner_has_to_be_there(rt: HostRuntime) -> Result<(), Fail> {
     let mut layer = Layer::new(rt.alloc());
     let place = path(rt.alloc(), "/A/B")?;
-    assert!(rt; !put(&mut layer, &place, rt.alloc())?);
-    assert!(rt; layer.is_empty());
+    assert!(rt; !put(&mut layer, &place, rt.alloc())? && layer.is_empty());
     Ok(())
 }
 
@@ -73,10 +71,12 @@ fn three(alloc: Global) -> Result<Layer, Fail> {
 fn a_tree_is_removed(rt: HostRuntime) -> Result<(), Fail> {
     let mut layer = three(rt.alloc())?;
     let place = path(rt.alloc(), "/A")?;
-    assert!(rt; layer.remove_tree(&place)?);
-    assert!(rt; layer.len() == 1);
-    assert!(rt; layer.has(&path(rt.alloc(), "/AB")?));
-    assert!(rt; !layer.remove_tree(&place)?);
+    assert!(rt;
+        layer.remove_tree(&place)?
+            && layer.len() == 1
+            && layer.has(&path(rt.alloc(), "/AB")?)
+            && !layer.remove_tree(&place)?
+    );
     Ok(())
 }
 
@@ -88,8 +88,7 @@ fn the_head_changes_alone(rt: HostRuntime) -> Result<(), Fail> {
     layer.set_head(copy(&head)?);
     assert!(rt; same(layer.head(), &head));
     let before = layer.replace_head(Head::blank(rt.alloc()));
-    assert!(rt; same(&before, &head));
-    assert!(rt; layer.head().default_prim.is_none());
+    assert!(rt; same(&before, &head) && layer.head().default_prim.is_none());
     Ok(())
 }
 
@@ -98,7 +97,6 @@ fn a_copy_is_its_original(rt: HostRuntime) -> Result<(), Fail> {
     let mut head = Head::blank(rt.alloc());
     head.default_prim = Some(Text::of(rt.alloc(), "A")?);
     let layer = Layer::from_parts(rt.alloc(), head, SharedTable::new(rt.alloc()));
-    assert!(rt; same(&layer, &copy(&layer)?));
-    assert!(rt; !same(&layer, &Layer::new(rt.alloc())));
+    assert!(rt; same(&layer, &copy(&layer)?) && !same(&layer, &Layer::new(rt.alloc())));
     Ok(())
 }

@@ -16,8 +16,7 @@ fn copies_are_one_with_their_originals(rt: HostRuntime) -> Result<(), Fail> {
             scale: 2,
         },
     })?;
-    assert!(rt; same(&head, &copy(&head)?));
-    assert!(rt; !same(&head, &Head::blank(alloc)));
+    assert!(rt; same(&head, &copy(&head)?) && !same(&head, &Head::blank(alloc)));
     let mut spec = Spec::blank(alloc, Specifier::Def);
     let mut references = Items::new(alloc);
     references.push(RefItem {

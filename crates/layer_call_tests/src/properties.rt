@@ -45,15 +45,20 @@ fn properties_keep_their_order_and_names_stand_once(rt: HostRuntime) -> Result<(
     let before = copy(&properties)?;
     assert!(rt; same(&properties, &before));
     let was = properties.insert(attribute(alloc, "size", true)?)?;
-    assert!(rt; was == Some(attribute(alloc, "size", false)?));
-    assert!(rt; !same(&properties, &before));
-    assert!(rt; properties.len() == 2 && properties.as_slice().len() == 2);
-    assert!(rt; properties.at(0) == properties.get(&size) && properties.at(2).is_none());
-    assert!(rt; properties.has(&kind) && !properties.has(&other));
-    assert!(rt; properties.iter().next() == Some(&attribute(alloc, "size", true)?));
-    assert!(rt; properties.remove(&size) == Some(attribute(alloc, "size", true)?));
-    assert!(rt; properties.remove(&size).is_none());
-    assert!(rt; properties.at(0) == Some(&attribute(alloc, "kind", false)?));
+    assert!(rt;
+        was == Some(attribute(alloc, "size", false)?)
+            && !same(&properties, &before)
+            && properties.len() == 2
+            && properties.as_slice().len() == 2
+            && properties.at(0) == properties.get(&size)
+            && properties.at(2).is_none()
+            && properties.has(&kind)
+            && !properties.has(&other)
+            && properties.iter().next() == Some(&attribute(alloc, "size", true)?)
+            && properties.remove(&size) == Some(attribute(alloc, "size", true)?)
+            && properties.remove(&size).is_none()
+            && properties.at(0) == Some(&attribute(alloc, "kind", false)?)
+    );
     Ok(())
 }
 
@@ -69,13 +74,18 @@ fn a_property_is_taken_out_and_put_back_in_its_place(rt: HostRuntime) -> Result<
         return Err(Fail::new("the property is there"));
     };
     let blank = Property::blank_relationship(alloc, copy(&size)?);
-    assert!(rt; blank.name() == &size && properties.at(0) == Some(&blank));
-    assert!(rt; properties.replace(taken) == Ok(blank));
-    assert!(rt; same(&properties, &before));
-    assert!(rt; properties.take(&other)?.is_none());
+    assert!(rt;
+        blank.name() == &size
+            && properties.at(0) == Some(&blank)
+            && properties.replace(taken) == Ok(blank)
+            && same(&properties, &before)
+            && properties.take(&other)?.is_none()
+    );
     let stranger = attribute(alloc, "other", false)?;
-    assert!(rt; properties.replace(stranger) == Err(attribute(alloc, "other", false)?));
-    assert!(rt; same(&properties, &before));
+    assert!(rt;
+        properties.replace(stranger) == Err(attribute(alloc, "other", false)?)
+            && same(&properties, &before)
+    );
     Ok(())
 }
 
@@ -88,7 +98,10 @@ fn the_small_tables_begin_empty(rt: HostRuntime) -> Result<(), Fail> {
             .insert(Text::of(alloc, "size")?, Text::of(alloc, "big")?)?
             .is_none()
     );
-    assert!(rt; selections.get(&Text::of(alloc, "size")?) == Some(&Text::of(alloc, "big")?));
-    assert!(rt; Meta::new(alloc).is_empty() && Samples::new(alloc).is_empty());
+    assert!(rt;
+        selections.get(&Text::of(alloc, "size")?) == Some(&Text::of(alloc, "big")?)
+            && Meta::new(alloc).is_empty()
+            && Samples::new(alloc).is_empty()
+    );
     Ok(())
 }

@@ -34,123 +34,75 @@ fn typed(alloc: Global, element: ElementType, text: &str) -> Result<Value, Fail>
     }
 }
 
-fn is_whole(value: &Value, number: i128) -> bool {
-    match value {
-        Value::Whole(n) => *n == number,
+/// What is told of a value.
+#[derive(Clone, Copy)]
+enum Told {
+    Whole(i128),
+    Number { digits: i128, exp: i16 },
+    Infinite,
+    Truth,
+    Word(&'static str),
+    Block,
+    Time(i128),
+}
+
+// The value is told by this.
+fn is_told(value: &Value, told: &Told) -> bool {
+    match (value, told) {
+        (Value::Whole(n), Told::Whole(number)) => n == number,
+        (Value::Number(Num::Finite(d)), Told::Number { digits, exp }) => {
+            d.digits == *digits && d.exp == *exp
+        }
+        (Value::Number(Num::Inf), Told::Infinite) => true,
+        (Value::Bool(b), Told::Truth) => *b,
+        (Value::Word(text), Told::Word(word)) => text.as_str() == *word,
+        (Value::Block, Told::Block) => true,
+        (Value::Time(time), Told::Time(units)) => time.units == *units,
         _ => false,
     }
+}
+
+fn is_whole(value: &Value, number: i128) -> bool {
+    is_told(value, &Told::Whole(number))
 }
 
 fn is_number(value: &Value, digits: i128, exp: i16) -> bool {
-    match value {
-        Value::Number(Num::Finite(d)) => d.digits == digits && d.exp == exp,
-        _ => false,
+    is_told(value, &Told::Number { digits, exp })
+}
+
+// Values of which nothing is known. Two to 127 is about 1.7 times ten to 38.
+const UNTYPED: [(&str, Told); 10] = [
+    ("1", Told::Whole(1)),
+    ("-0", Told::Whole(0)),
+    ("1.0", Told::Number { digits: 1, exp: 0 }),
+    ("1e2", Told::Number { digits: 1, exp: 2 }),
+    ("0.5", Told::Number { digits: 5, exp: -1 }),
+    (
+        "100000000000000000000000000000000000000",
+        Told::Whole(100_000_000_000_000_000_000_000_000_000_000_000_000),
+    ),
+    (
+        "200000000000000000000000000000000000000",
+        Told::Number { digits: 2, exp: 38 },
+    ),
+    ("inf", Told::Infinite),
+    ("true", Told::Word("true")),
+    ("None", Told::Block),
+];
+
+#[test]
+fn values_of_no_type(rt: HostRuntime) -> Result<(), Fail> {
+    for (text, told) in UNTYPED {
+        let value = untyped(rt.alloc(), text)?;
+        assert!(rt; is_told(&value, &told));
     }
-}
-
-#[test]
-fn one_is_whole(rt: HostRuntime) -> Result<(), Fail> {
-    let value = untyped(rt.alloc(), "1")?;
-    assert!(rt; is_whole(&value, 1));
     Ok(())
-}
-
-#[test]
-fn zero_with_a_sign_is_whole(rt: HostRuntime) -> Result<(), Fail> {
-    let value = untyped(rt.alloc(), "-0")?;
-    assert!(rt; is_whole(&value, 0));
-    Ok(())
-}
-
-#[test]
-fn one_with_a_point_is_a_number(rt: HostRuntime) -> Result<(), Fail> {
-    let value = untyped(rt.alloc(), "1.0")?;
-    assert!(rt; is_number(&value, 1, 0));
-    Ok(())
-}
-
-#[test]
-fn a_hundred_with_an_exponent_is_a_number(rt: HostRuntime) -> Result<(), Fail> {
-    let value = untyped(rt.alloc(), "1e2")?;
-    assert!(rt; is_number(&value, 1, 2));
-    Ok(())
-}
-
-#[test]
-fn a_half_is_a_number(rt: HostRuntime) -> Result<(), Fail> {
-    let value = untyped(rt.alloc(), "0.5")?;
-    assert!(rt; is_number(&value, 5, -1));
-    Ok(())
-}
-
-// Two to 127 is about 1.7 times ten to 38.
-#[test]
-fn ten_to_38_is_whole(rt: HostRuntime) -> Result<(), Fail> {
-    let value = untyped(rt.alloc(), "100000000000000000000000000000000000000")?;
-    assert!(rt; is_whole(&value, 100_000_000_000_000_000_000_000_000_000_000_000_000));
-    Ok(())
-}
-
-#[test]
-fn a_whole_number_past_128_bits_is_a_number(rt: HostRuntime) -> Result<(), Fail> {
-    let value = untyped(rt.alloc(), "200000000000000000000000000000000000000")?;
-    assert!(rt; is_number(&value, 2, 38));
-    Ok(())
-}
-
-fn is_infinite(value: &Value) -> bool {
-    match value {
-        Value::Number(Num::Inf) => true,
-        _ => false,
-    }
-}
-
-#[test]
-fn infinity_is_a_number(rt: HostRuntime) -> Result<(), Fail> {
-    let value = untyped(rt.alloc(), "inf")?;
-    assert!(rt; is_infinite(&value));
-    Ok(())
-}
-
-fn is_true(value: &Value) -> bool {
-    match value {
-        Value::Bool(b) => *b,
-        _ => false,
-    }
-}
-
-fn is_word(value: &Value, word: &str) -> bool {
-    match value {
-        Value::Word(text) => text.as_str() == word,
-        _ => false,
-    }
 }
 
 #[test]
 fn true_of_a_type_is_a_truth_value(rt: HostRuntime) -> Result<(), Fail> {
     let value = typed(rt.alloc(), ElementType::Bool, "true")?;
-    assert!(rt; is_true(&value));
-    Ok(())
-}
-
-#[test]
-fn true_of_no_type_is_a_word(rt: HostRuntime) -> Result<(), Fail> {
-    let value = untyped(rt.alloc(), "true")?;
-    assert!(rt; is_word(&value, "true"));
-    Ok(())
-}
-
-fn is_none(value: &Value) -> bool {
-    match value {
-        Value::Block => true,
-        _ => false,
-    }
-}
-
-#[test]
-fn none_is_the_block(rt: HostRuntime) -> Result<(), Fail> {
-    let value = untyped(rt.alloc(), "None")?;
-    assert!(rt; is_none(&value));
+    assert!(rt; is_told(&value, &Told::Truth));
     Ok(())
 }
 
@@ -192,9 +144,9 @@ fn a_dictionary_has_its_entry(rt: HostRuntime) -> Result<(), Fail> {
     let Some(entry) = only_entry(&value) else {
         return Err(Fail::from("not one entry"));
     };
-    assert!(rt; entry.key.as_str() == "s");
-    assert!(rt; is_string_type(entry.ty));
-    assert!(rt; is_text(&entry.value, "y"));
+    assert!(rt;
+        entry.key.as_str() == "s" && is_string_type(entry.ty) && is_text(&entry.value, "y")
+    );
     Ok(())
 }
 
@@ -254,8 +206,7 @@ fn refusal(alloc: Global, text: &str) -> Result<(RefusalKind, usize), Fail> {
 fn the_65th_tuple_is_too_deep(rt: HostRuntime) -> Result<(), Fail> {
     let text = nested(rt.alloc(), 65)?;
     let (kind, at) = refusal(rt.alloc(), text.as_str())?;
-    assert!(rt; kind == RefusalKind::TooDeep);
-    assert!(rt; at == 64);
+    assert!(rt; kind == RefusalKind::TooDeep && at == 64);
     Ok(())
 }
 
@@ -272,31 +223,27 @@ fn shaped(alloc: Global, element: ElementType, text: &str) -> Result<Value, Fail
     }
 }
 
-#[test]
-fn a_word_is_taken_as_a_truth_value(rt: HostRuntime) -> Result<(), Fail> {
-    let value = shaped(rt.alloc(), ElementType::Bool, "true")?;
-    assert!(rt; is_true(&value));
-    Ok(())
-}
+// Values of no type, each taken as one of a type.
+const TAKEN: [(ElementType, &str, Told); 3] = [
+    (ElementType::Bool, "true", Told::Truth),
+    (
+        ElementType::Real(Precision::Double),
+        "120",
+        Told::Number { digits: 12, exp: 1 },
+    ),
+    (
+        ElementType::Timecode,
+        "0.5",
+        Told::Time(500_000_000_000_000_000),
+    ),
+];
 
 #[test]
-fn a_whole_number_is_taken_as_a_decimal(rt: HostRuntime) -> Result<(), Fail> {
-    let value = shaped(rt.alloc(), ElementType::Real(Precision::Double), "120")?;
-    assert!(rt; is_number(&value, 12, 1));
-    Ok(())
-}
-
-fn is_time(value: &Value, units: i128) -> bool {
-    match value {
-        Value::Time(time) => time.units == units,
-        _ => false,
+fn values_are_taken_as_a_type(rt: HostRuntime) -> Result<(), Fail> {
+    for (element, text, told) in TAKEN {
+        let value = shaped(rt.alloc(), element, text)?;
+        assert!(rt; is_told(&value, &told));
     }
-}
-
-#[test]
-fn a_half_is_taken_as_a_time(rt: HostRuntime) -> Result<(), Fail> {
-    let value = shaped(rt.alloc(), ElementType::Timecode, "0.5")?;
-    assert!(rt; is_time(&value, 500_000_000_000_000_000));
     Ok(())
 }
 
@@ -329,8 +276,7 @@ fn a_number_with_a_point_is_no_int(rt: HostRuntime) -> Result<(), Fail> {
     };
     match value_of_type(rt.alloc(), ty, value) {
         Err(ValueFault::Refused { kind, at }) => {
-            assert!(rt; kind == RefusalKind::ValueShape);
-            assert!(rt; at == 0);
+            assert!(rt; kind == RefusalKind::ValueShape && at == 0);
             Ok(())
         }
         _ => Err(Fail::from("not refused")),

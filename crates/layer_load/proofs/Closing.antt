@@ -159,7 +159,7 @@ module _ (held : Text → Held) (size : Text → ℕ) (root : Text) (session : O
       closed left (place + 1) (with_held s n (held n) (s.bytes + size n)) l (going_on place s n (s.bytes + size n) some g)
       (went_on (opened_from held size left (place + 1)) s n (held n) (size n) l (sym (one_turn held size left place s n some) ∙ is)))
 
-  known_first : (o : Option Text) → session ≡ o → (q : Text) → has q (first_names root o) ≡ true → IsMet held root session q
+  pub known_first : (o : Option Text) → session ≡ o → (q : Text) → has q (first_names root o) ≡ true → IsMet held root session q
   known_first None is q h = elim (has_last q [] root h) [ inl front ↦ not_both front refl | inr one ↦ subst (IsMet held root session) (sym one) as_root ]
   known_first (Some x) is q h = elim (noted_back (root ∷ []) x q h) [
     | inl front ↦ elim (has_last q [] root front) [ inl none ↦ not_both none refl | inr one ↦ subst (IsMet held root session) (sym one) as_root ]

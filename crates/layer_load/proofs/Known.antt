@@ -1,6 +1,8 @@
 -- Files that are known at the names that had their turn.
-use Rattle.std.proofs.Common.{◌≡◌, ◌∙◌, sym, ap, refl, subst, ℕ, suc, ◌+◌, ◌<◌, ◌≤◌, arith, length, take, Bool, true, false, List, [], ◌∷◌, ◌++◌, Option, Some, None, Result, Ok, Err}
+use Rattle.std.proofs.Common.{◌≡◌, ◌∙◌, inl, inr, sym, ap, refl, subst, ℕ, suc, ◌+◌, ◌<◌, ◌≤◌, arith, length, take, Bool, true, false, List, [], ◌∷◌, ◌++◌, Option, Some, None, Result, Ok, Err}
 use Rattle.std.specs.List.{slice_get}
+use Rattle.std.specs.Prelude.{OnOk}
+use Rattle.std.proofs.lemmas.List.Folds.{list_any_at}
 use Rattle.std.proofs.lemmas.List.{take_more, take-append-le}
 use Rattle.std.proofs.lemmas.Option.{slice_get_within, get_or_from_slice_get}
 use Rattle.asset_names.specs.Anchoring.{kind_of}
@@ -10,12 +12,13 @@ use Rattle.layer_stack.specs.Visiting.{AreApart}
 use Rattle.layer_stack.proofs.Names.{not_both, same_text_same, same_itself}
 use Rattle.layer_load.specs.Answers.{Answers, GoesOn, TakesTurn, Opens}
 use Rattle.layer_load.specs.Files.{Files, AreRead, Fit, FitsAt, Stands, StandsAt, taken_of, taken_at}
-use Rattle.layer_load.specs.Opening.{Opening, Ending, taken, by_turn, loaded, begun, opened_from, opened}
+use Rattle.layer_load.specs.Opening.{Opening, Ending, assets_of, taken, by_turn, loaded, begun, opened_from, opened}
 use Rattle.layer_load.specs.declared.fault.LoadFault.{LoadFault}
 use Rattle.layer_load.specs.declared.fault.LoadFault.TheVariants.{ReadFault, RootRefused, WorldTooLarge, NoMemory}
 use Rattle.layer_load.proofs.Apart.{not_before}
-use Rattle.layer_load.proofs.Closing.{by_name, opened_closed}
-use Rattle.layer_load.proofs.Noting.{has, has_front, has_this}
+use Rattle.layer_load.specs.Closure.{IsMet, as_named}
+use Rattle.layer_load.proofs.Closing.{by_name, known_first as met_first, opened_closed}
+use Rattle.layer_load.proofs.Noting.{has, has_front, has_this, back}
 use Rattle.layer_load.proofs.Turns.{one_turn, no_turn, last_turn}
 
 -- what stands at these names, and how many bytes are fetched for them, is told by the files
@@ -23,11 +26,12 @@ pub record Agree (files : Files) (held : Text → Held) (size : Text → ℕ) (n
   pub stand : (q : Text) → has q names ≡ true → StandsAt files q (held q)
   pub sizes : (q : Text) → has q names ≡ true → size q ≡ taken_at files q
 
--- files that fit what is told, by which the opening goes on as it began
+-- files that fit what is told, by which the opening goes on as it began, and by which each name is met
 pub record Known (told : Option Files) (names : ℕ) (root : Text) (session : Option Text) (left place : ℕ) (s : Opening) : Type 0 where
   pub files : Files
   pub fit : Fit told files
   pub same : (held : Text → Held) (size : Text → ℕ) → Agree files held size (take place s.names) → opened_from held size left place s ≡ opened held size names root session
+  pub met : (held : Text → Held) (size : Text → ℕ) → Agree files held size (take place s.names) → (q : Text) → has q s.names ≡ true → IsMet held root session q
 
 -- files with one more of them known
 record Extended (told : Option Files) (old : Files) (name : Text) (file : Option (List ℕ)) : Type 0 where
@@ -62,7 +66,12 @@ module _ (told : Option Files) (names : ℕ) (root : Text) (session : Option Tex
 
   pub known_first : (s : Opening) → s ≡ begun root session → Known told names root session names 0 s
   unfolding opened
-  known_first s is = let some = some_files told in record { files = some.0; fit = some.1; same = λ held size agree. ap (opened_from held size names 0) is }
+  known_first s is = let some = some_files told in record {
+    files = some.0;
+    fit = some.1;
+    same = λ held size agree. ap (opened_from held size names 0) is;
+    met = λ held size agree q h. met_first held size root session session refl q (sym (ap (λ (x : Opening). has q x.names) is) ∙ h);
+  }
 
   -- by files that are read everywhere, the opening goes on as it began
   read_everywhere : (files : Files) (held : Text → Held) → AreRead files held → (front : List Text) → Agree files held (taken_at files) front
@@ -137,8 +146,25 @@ module _ (told : Option Files) (names : ℕ) (root : Text) (session : Option Tex
               let goes : taken (opened_from held size left (place + 1)) s name (held name) (taken_of (kind_of name) t.file) ≡ opened_from held size left (place + 1) new =
               went_on result ok (t.goes_on (held name) stands (opened_from held size left (place + 1))) in
               sym (turn e.files held size t.file sized (before e.files held size (take (place + 1) new.names) e.elsewhere there agree) ∙ goes);
+          met = λ held size agree q h.
+              let there : (p : Text) → has p (take place s.names) ≡ true → has p (take (place + 1) new.names) ≡ true =
+              λ p i. ap (has p) front ∙ has_front p (take place s.names) (name ∷ []) i in
+              let here : has name (take (place + 1) new.names) ≡ true = ap (has name) front ∙ has_this (take place s.names) name in
+              let stands : Stands (kind_of name) t.file (held name) = subst (λ (file : Option (List ℕ)). Stands (kind_of name) file (held name)) e.here (agree.stand name here) in
+              let old : (p : Text) → has p s.names ≡ true → IsMet held root session p = k.met held size (before e.files held size (take (place + 1) new.names) e.elsewhere there agree) in
+              elim (back name (assets_of (held name)) s.names q (sym (ap (has q) (named result ok t.names (held name) stands)) ∙ h)) [
+                | inl there ↦ old q there
+                | inr give ↦ as_named name q (old name among) give
+              ];
         }
       where
+        among : has name s.names ≡ true
+        among = list_any_at (same_text name) s.names place name (slice_get_within s.names place name some) (ap (same_text name) (get_or_from_slice_get s.names place name name some) ∙ same_itself name)
+
+        named : (r : Result (Unit {0}) LoadFault) → r ≡ Ok tt → {P : Type 0} → OnOk r P → P
+        named (Ok u) is p = p
+        named (Err e) is p = absurd cc
+
         went_on : {before now : Ending} (r : Result (Unit {0}) LoadFault) → r ≡ Ok tt → GoesOn r before now → before ≡ now
         went_on (Ok u) is goes = goes
         went_on (Err e) is goes = absurd cc

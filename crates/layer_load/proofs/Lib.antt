@@ -1,4 +1,5 @@
 pub mod Apart
+pub mod Asking
 pub mod Closing
 pub mod Fetching
 pub mod Known

@@ -1,11 +1,11 @@
 -- What the calls answer.
-use Rattle.std.specs.Prelude.{◌≡◌, ℕ, ◌+◌, ◌<◌, ◌≤◌, List, Option, Result, Ok, Err}
+use Rattle.std.specs.Prelude.{◌≡◌, ℕ, ◌+◌, ◌<◌, ◌≤◌, List, Option, Result, Ok, Err, OnOk}
 use Rattle.asset_names.specs.Anchoring.{kind_of}
 use Rattle.composition.specs.Texts.{Text}
 use Rattle.layer_set.specs.declared.held.Held.{Held}
 use Rattle.layer_load.specs.Closure.{IsClosed}
 use Rattle.layer_load.specs.Files.{Files, AreRead, Fit, FitsAt, Holds, Stands, size_of, taken_of, taken_at}
-use Rattle.layer_load.specs.Opening.{Opening, Ending, most_bytes, taken, opened}
+use Rattle.layer_load.specs.Opening.{Opening, Ending, most_bytes, taken, opened, with_assets}
 use Rattle.layer_load.specs.declared.fault.LoadFault.{LoadFault}
 use Rattle.layer_load.specs.declared.fault.LoadFault.TheVariants.{ReadFault, RootRefused, WorldTooLarge, NoMemory}
 
@@ -46,11 +46,12 @@ pub record AnswersOne (told : Option Files) (name : Text) (before : ℕ) (result
   pub answers : AnswersWith (Stands (kind_of name) file) before (taken_of (kind_of name) file) result
 
 -- A name had its turn: there is a file of this name, or none, which is the one that is told. By what stands there the opening ends now
--- as it did before.
+-- as it did before, and the names are those with what it names.
 pub record TakesTurn (told : Option Files) (name : Text) (old new : Opening) (result : Result (Unit {0}) LoadFault) : Type 0 where
   pub file : Option (List ℕ)
   pub fits : FitsAt told name file
   pub goes_on : (held : Held) → Stands (kind_of name) file held → (go : Opening → Ending) → GoesOn result (taken go old name held (taken_of (kind_of name) file)) (go new)
+  pub names : OnOk result ((held : Held) → Stands (kind_of name) file held → new.names ≡ with_assets old.names name held)
 
 -- a world that is opened has what stands at the names that are met, and no more; of a fault nothing is said
 abbrev pub OpensWorld : (Text → Held) → Text → Option Text → Ending → Type 0

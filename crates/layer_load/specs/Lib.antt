@@ -1,4 +1,5 @@
 pub mod Answers
+pub mod Asking
 pub mod Assets
 pub mod Closure
 pub mod Drafts

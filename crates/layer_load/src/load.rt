@@ -1,8 +1,9 @@
 // A world from its files.
-ghost use Rattle.std.specs.Prelude.{◌≡◌, ◌≤◌, Err};
-ghost use Rattle.io_edges.specs.Causes.{Rose};
+ghost use Rattle.std.specs.Prelude.{◌≡◌, Err, IfSome};
+ghost use Rattle.io_edges.specs.Causes.{IsCounted};
 ghost use Rattle.layer_load.specs.Opening.{most_names};
 ghost use Rattle.layer_load.specs.Answers.{Opens};
+ghost use Rattle.layer_load.specs.Asking.{AsksMet};
 
 use crate::fault::LoadFault;
 use crate::opening::{begin, finished, finished_within, name_at, take_turn};
@@ -33,8 +34,8 @@ fn load_within<F: LayerFiles>(
 ) -> Result<Loaded, LoadFault>
     ensures opens { Opens (F.files files.old) most root session result }
     ensures same { F.files files.new ≡ F.files files.old }
-    ensures later { F.faults files.old ≤ F.faults files.new }
-    ensures cause { result ≡ Err LoadFault.ReadFault → Rose (F.faults files.old) (F.faults files.new) }
+    ensures asks { IfSome (F.files files.old) (λ told. AsksMet told root session (F.asked files.old) (F.asked files.new)) }
+    ensures counted { IsCounted (result ≡ Err LoadFault.ReadFault) (F.faults files.old) (F.faults files.new) }
 {
     let mut draft = begin(alloc, root, session)?;
     for place in 0..most {
@@ -67,9 +68,10 @@ pub fn load_world<F: LayerFiles>(
     // What is answered is what is defined by the files, which are those that are told.
     ensures opens { Opens (F.files files.old) most_names root session result }
     ensures same { F.files files.new ≡ F.files files.old }
-    ensures later { F.faults files.old ≤ F.faults files.new }
-    // A fault is told only where one happened.
-    ensures cause { result ≡ Err LoadFault.ReadFault → Rose (F.faults files.old) (F.faults files.new) }
+    // No file is asked for but those of the names that are met, and each of these once.
+    ensures asks { IfSome (F.files files.old) (λ told. AsksMet told root session (F.asked files.old) (F.asked files.new)) }
+    // A fault is told where one happened, and only there: no fetch is tried again.
+    ensures counted { IsCounted (result ≡ Err LoadFault.ReadFault) (F.faults files.old) (F.faults files.new) }
 {
     load_within(alloc, files, root, session, MAX_NAMES)
 }

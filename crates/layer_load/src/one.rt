@@ -1,11 +1,13 @@
 // One layer from its file.
 ghost use Rattle.std.specs.Prelude.{◌≡◌, ◌≢◌, ◌+◌, ◌<◌, ◌≤◌, Err, length, MatchResult};
 ghost use Rattle.asset_names.specs.Anchoring.{kind_of};
-ghost use Rattle.io_edges.specs.Causes.{Rose};
+ghost use Rattle.io_edges.specs.Causes.{IsCounted};
+ghost use Rattle.io_edges.specs.Edges.{AsksAtMost};
 ghost use Rattle.layer_set.specs.declared.held.Held.{Held as SaidHeld};
 ghost use Rattle.layer_load.specs.Files.{Says, unread};
 ghost use Rattle.layer_load.specs.Opening.{most_bytes};
 ghost use Rattle.layer_load.specs.Answers.{AnswersWith, AnswersFile, AnswersOne};
+ghost use Rattle.layer_load.specs.Asking.{AsksInTurn};
 
 use crate::fault::LoadFault;
 use asset_names::{AssetId, NameKind};
@@ -87,8 +89,8 @@ fn fetch_one<F: LayerFiles>(
 ) -> Result<(Held, u64), LoadFault>
     ensures file { AnswersFile (F.files files.old) name.now before result }
     ensures same { F.files files.new ≡ F.files files.old }
-    ensures later { F.faults files.old ≤ F.faults files.new }
-    ensures cause { result ≡ Err LoadFault.ReadFault → Rose (F.faults files.old) (F.faults files.new) }
+    ensures asks { AsksAtMost (F.asked files.old) (F.asked files.new) name.now }
+    ensures counted { IsCounted (result ≡ Err LoadFault.ReadFault) (F.faults files.old) (F.faults files.new) }
 {
     let mut bytes = Vec::new(alloc);
     match files.fetch(name, &mut bytes) {
@@ -115,9 +117,11 @@ pub fn load_one<F: LayerFiles>(
     // What is answered is what the file of this name has, which is the one that is told; the root is not refused here.
     ensures answers { AnswersOne (F.files files.old) id.now before result }
     ensures same { F.files files.new ≡ F.files files.old }
-    ensures later { F.faults files.old ≤ F.faults files.new }
+    // No other name is asked for.
+    ensures asks { AsksInTurn (F.asked files.old) (F.asked files.new) id.now }
     ensures unfetched { kind_of id.now ≢ NameKind.Plain → files.new ≡ files.old }
-    ensures cause { result ≡ Err LoadFault.ReadFault → Rose (F.faults files.old) (F.faults files.new) }
+    // It is answered where a fetch failed, and only there: no fetch is tried again.
+    ensures counted { IsCounted (result ≡ Err LoadFault.ReadFault) (F.faults files.old) (F.faults files.new) }
 {
     match id.name_kind() {
         NameKind::Plain => fetch_one(alloc, files, id.text(), before),

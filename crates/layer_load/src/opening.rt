@@ -1,9 +1,10 @@
 // A world that is being opened.
-ghost use Rattle.std.specs.Prelude.{◌≡◌, ◌+◌, ◌≤◌, Ok, Err, length, slice_get, map, IfOk, OnOk};
-ghost use Rattle.io_edges.specs.Causes.{Rose};
+ghost use Rattle.std.specs.Prelude.{◌≡◌, ◌+◌, Ok, Err, length, slice_get, map, IfOk, OnOk};
+ghost use Rattle.io_edges.specs.Causes.{IsCounted};
 ghost use Rattle.layer_set.specs.declared.held.Held.{Held as SaidHeld};
 ghost use Rattle.layer_load.specs.Opening.{Opening, Ending, is_session, is_needed, if_needed, refusal_of, with_assets, judged, first_names, begun, by_turn, loaded};
 ghost use Rattle.layer_load.specs.Answers.{GoesOn, TakesTurn};
+ghost use Rattle.layer_load.specs.Asking.{AsksInTurn};
 ghost use Rattle.layer_load.specs.Drafts.{AreMet, opening_of};
 
 use crate::fault::LoadFault;
@@ -158,8 +159,8 @@ pub fn take_turn<F: LayerFiles>(
     ensures names { OnOk result ((held : SaidHeld) × (draft.new.names.listed ≡ with_assets draft.old.names.listed name.now held)) }
     ensures turn { TakesTurn (F.files files.old) name.now (opening_of draft.old) (opening_of draft.new) result }
     ensures same { F.files files.new ≡ F.files files.old }
-    ensures later { F.faults files.old ≤ F.faults files.new }
-    ensures cause { result ≡ Err LoadFault.ReadFault → Rose (F.faults files.old) (F.faults files.new) }
+    ensures asks { AsksInTurn (F.asked files.old) (F.asked files.new) name.now }
+    ensures counted { IsCounted (result ≡ Err LoadFault.ReadFault) (F.faults files.old) (F.faults files.new) }
 {
     texts_have_one_answer();
     match load_one(alloc, files, name, draft.bytes) {

@@ -43,6 +43,8 @@ impl AskedFiles {
 impl LayerFiles for AskedFiles {
     ghost files = { λ _. None };
 
+    ghost asked = { λ _. None };
+
     ghost faults = { λ s. s.files.plan.faults };
 
     fn fetch(&mut self, name: &str, into: &mut Vec<u8>) -> Fetched {

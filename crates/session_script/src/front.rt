@@ -2,7 +2,7 @@
 
 ghost use Rattle.std.specs.Prelude.{◌≡◌, ◌+◌, ◌-◌, ◌<◌, ◌≤◌, ◌++◌, List, ℕ, length, drop, take, false, true, Ok, Err, IfOk, IfErr, OnErr, IfSome, IfNone, slice_index, if◌then◌else◌, nat_lt, ◌==◌};
 ghost use Rattle.std.specs.Io.KnownBytes.{Consumes, IsAtEnd, Keeps};
-ghost use Rattle.io_edges.specs.Causes.{Rose};
+ghost use Rattle.io_edges.specs.Causes.{IsCounted};
 ghost use Rattle.session_script.specs.States.{has_feed, IsScanned};
 ghost use Rattle.session_script.specs.Fronts.{ReadsMore, IsFront, Grows, IsReadError};
 ghost use Rattle.session_script.specs.Told.{coming, Heeds};
@@ -44,8 +44,7 @@ fn find_feed(bytes: &[u8], from: usize) -> Option<usize>
 // Takes the next bytes from the source; `false` where it is at its end. A fault leaves the bytes as they were.
 fn read_more<S: Source>(bytes: &mut Vec<u8>, source: &mut S) -> Result<bool, ScriptFault>
     ensures more { ReadsMore result bytes.old.items bytes.new.items (S.left source.old) (S.left source.new) }
-    ensures later { S.faults source.old ≤ S.faults source.new }
-    ensures cause { result ≡ Err ScriptFault.ReadFault → Rose (S.faults source.old) (S.faults source.new) }
+    ensures counted { IsCounted (result ≡ Err ScriptFault.ReadFault) (S.faults source.old) (S.faults source.new) }
     ensures faults { IsReadError result }
 {
     bytes.reserve(PIECE)?;
@@ -100,8 +99,7 @@ pub fn read_front<S: Source>(
     ensures front { IfOk result (λ f. IsFront f start bytes.new.items ended.new (coming ended.old (S.left source.old)) (coming ended.new (S.left source.new))) }
     ensures heeds { Heeds ended.old ended.new (S.left source.old) (S.left source.new) }
     ensures quiet { ended.old ≡ true → source.new ≡ source.old }
-    ensures later { S.faults source.old ≤ S.faults source.new }
-    ensures cause { result ≡ Err ScriptFault.ReadFault → Rose (S.faults source.old) (S.faults source.new) }
+    ensures counted { IsCounted (result ≡ Err ScriptFault.ReadFault) (S.faults source.old) (S.faults source.new) }
     ensures faults { IsReadError result }
     // The source is read only where no whole line is held.
     ensures held { has_feed (drop start bytes.old.items) ≡ true → source.new ≡ source.old }

@@ -1,7 +1,7 @@
 //! The script, step by step.
 
 ghost use Rattle.std.specs.Prelude.{◌≡◌, ◌+◌, ◌<◌, ◌≤◌, ◌++◌, [], List, ℕ, length, drop, take, true, false, Ok, Err, None, Some, IfErr, IfOk, IsSome};
-ghost use Rattle.io_edges.specs.Causes.{Rose};
+ghost use Rattle.io_edges.specs.Causes.{IsCounted};
 ghost use Rattle.session_script.specs.Fronts.{IsReadError};
 
 use crate::faults::{ScriptFault, ScriptKind};
@@ -89,8 +89,7 @@ impl Script {
         ensures heeds { Heeds self.old.ended self.new.ended (S.left source.old) (S.left source.new) }
         ensures quiet { self.old.ended ≡ true → source.new ≡ source.old }
         ensures short { self.new.taken ≤ 16777216 }
-        ensures later { S.faults source.old ≤ S.faults source.new }
-        ensures cause { result ≡ Err ScriptFault.ReadFault → Rose (S.faults source.old) (S.faults source.new) }
+        ensures counted { IsCounted (result ≡ Err ScriptFault.ReadFault) (S.faults source.old) (S.faults source.new) }
         ensures faults { IsReadError result }
         ensures held { has_feed self.old.held ≡ true → source.new ≡ source.old }
         ensures none { IfErr result (λ _. (has_feed self.new.held ≡ false) × (self.new.ended ≡ false) × (self.new.taken + length self.new.held ≤ 16777216)) }
@@ -167,8 +166,8 @@ impl Script {
         ensures quiet { self.old.ended ≡ true → source.new ≡ source.old }
         ensures counts { Counts result self.old self.new }
         ensures again { IsSome self.old.stopped → (self.new ≡ self.old) × (source.new ≡ source.old) }
-        ensures later { S.faults source.old ≤ S.faults source.new }
-        ensures cause { result ≡ Err ScriptFault.ReadFault → Rose (S.faults source.old) (S.faults source.new) }
+        // A fault is told where a read failed, and only there: no read is tried again.
+        ensures counted { IsCounted (result ≡ Err ScriptFault.ReadFault) (S.faults source.old) (S.faults source.new) }
     {
         if let Some((line, kind)) = self.stopped {
             return Err(ScriptFault::Refused { line, kind });

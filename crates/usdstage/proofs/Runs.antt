@@ -1,9 +1,9 @@
 -- A run by what its parts answer.
-use Rattle.std.proofs.Common.{◌≡◌, ◌∙◌, ℕ, List, [], Option, Some, None, Ok, Err, refl, ap, subst, sym, inl, inr, arith, ◌⊎◌}
+use Rattle.std.proofs.Common.{◌≡◌, ◌∙◌, ℕ, List, [], Option, Some, None, Result, Ok, Err, refl, ap, subst, sym, inl, inr, arith, ◌⊎◌}
 use Rattle.std.specs.Prelude.{IfSome}
 use Rattle.std.specs.Io.KnownBytes.{Appends}
 use Rattle.composition.specs.Texts.{Text}
-use Rattle.io_edges.specs.Causes.{Rose}
+use Rattle.io_edges.specs.Causes.{IsCounted, Rose, one_more}
 use Rattle.layer_load.specs.Answers.{Opens}
 use Rattle.layer_load.specs.Files.{Files, taken_at}
 use Rattle.layer_load.specs.Opening.{Ending, most_names, opened}
@@ -18,7 +18,7 @@ use Rattle.session_script.proofs.Going.{told_weaker}
 use Rattle.stage_session.specs.Sessions.{Session as SessionState, stage_after, most_paths, opening, opening_text}
 use Rattle.std.specs.Prelude.{length, ◌≤◌}
 use Rattle.usdstage.specs.Course.{Course, unopened, flat_course, session_course, world_course, opened_course, carried, course}
-use Rattle.usdstage.specs.Outcome.{ByFiles, EndsAsDue, EndsWith, IsScript, GoesOn, RepliesToLines}
+use Rattle.usdstage.specs.Outcome.{AreCounted, ByFiles, EndsAsDue, EndsWith, IsScript, GoesOn, RepliesToLines}
 use Rattle.usdstage.specs.declared.status.Status.{Status}
 use Rattle.usdstage.specs.declared.status.Status.TheVariants.{ReadFault, WriteFault, RootRefused, WorldTooLarge, NoMemory, Usage}
 use Rattle.usdstage.specs.declared.words.Command.{Command}
@@ -31,6 +31,10 @@ use Rattle.usdstage.proofs.Outcomes.{cut_at_once, ends_with_nothing, due_by}
 pub some_then : (x : Option (List ℕ)) (P Q : List ℕ → Type 0) → IfSome x P → ((all : List ℕ) → P all → Q all) → IfSome x Q
 some_then None P Q p h = tt
 some_then (Some a) P Q p h = h a p
+
+pub command_all : (x : Option Command) (Q : Command → Type 0) → ((c : Command) → Q c) → IfSome x Q
+command_all None Q h = tt
+command_all (Some c) Q h = h c
 
 pub some_all : (x : Option (List ℕ)) (Q : List ℕ → Type 0) → ((all : List ℕ) → Q all) → IfSome x Q
 some_all None Q h = tt
@@ -150,3 +154,46 @@ is_script (Some command) script = by_verb command command.verb script refl
 
 pub never_rose : Rose 0 0 → ⊥
 never_rose rose = absurd (omega arith)
+
+-- ---- faults that were counted
+
+pub never_counted : 0 ≡ one_more 0 → ⊥
+never_counted is = absurd (omega (arith, is))
+
+pub rose : (before now : ℕ) → now ≡ one_more before → Rose before now
+rose before now is = omega (arith, is)
+
+-- a fault of the files or of the script rose its count
+pub reads_rose : (Failed : Type 0) (files files_now script script_now : ℕ) → AreCounted Failed files files_now script script_now → Failed → Rose files files_now ⊎ Rose script script_now
+reads_rose Failed files files_now script script_now counted failed = elim (counted.0 failed) [ inl f ↦ inl (rose files files_now f.0) | inr s ↦ inr (rose script script_now s.1) ]
+
+-- what did not fail counted nothing
+pub uncounted : {Failed : Type 0} → (Failed → ⊥) → (before now : ℕ) → now ≡ before → IsCounted Failed before now
+uncounted not before now same = (λ failed. absurd (not failed), λ k. same)
+
+-- a whole counted what its part counted, where it failed exactly where the part did
+pub counted_as : {Part Whole : Type 0} → (before now : ℕ) → (Whole → Part) → (Part → Whole) → IsCounted Part before now → IsCounted Whole before now
+counted_as before now to from counted = (λ w. counted.0 (to w), λ not. counted.1 (λ p. not (from p)))
+
+abbrev fault_in : {T : Type 0} → LoadFault → Result T LoadFault → LoadFault
+fault_in fault (Ok t) = fault
+fault_in fault (Err f) = f
+
+abbrev status_in : {V : Type 0} → Status → Result V Status → Status
+status_in status (Ok v) = status
+status_in status (Err s) = s
+
+as_status : (fault : LoadFault) (status : Status) → status ≡ unopened fault → fault ≡ load.ReadFault → status ≡ ReadFault
+as_status fault status is e = is ∙ ap unopened e
+
+-- a run that was not opened counted what its opening counted
+pub unopened_counted : {T : Type 0} → (fault : LoadFault) (status : Status) → status ≡ unopened fault → (before now other : ℕ)
+    → IsCounted (◌≡◌ {A = Result T LoadFault} (Err fault) (Err load.ReadFault)) before now → AreCounted (status ≡ ReadFault) before now other other
+unopened_counted fault status is before now other counted =
+    (λ e. inl (counted.0 (ap Err (unopened_by_files fault status is e)), refl), λ not. (counted.1 (λ e. not (as_status fault status is (ap (fault_in fault) e))), refl))
+
+-- the same of a step that was not carried out
+pub step_counted : {T V : Type 0} → (fault : LoadFault) (status : Status) → status ≡ unopened fault → (before now : ℕ)
+    → IsCounted (◌≡◌ {A = Result T LoadFault} (Err fault) (Err load.ReadFault)) before now → IsCounted (◌≡◌ {A = Result V Status} (Err status) (Err ReadFault)) before now
+step_counted fault status is before now counted =
+    counted_as before now (λ e. ap Err (unopened_by_files fault status is (ap (status_in status) e))) (λ e. ap Err (as_status fault status is (ap (fault_in fault) e))) counted

@@ -2,6 +2,7 @@
 use Rattle.std.specs.Prelude.{◌≡◌, ℕ, ◌⊎◌, List, ◌++◌, take, Option, Some, None, Result, Ok, Err, IfSome}
 use Rattle.std.specs.Io.KnownBytes.{Appends}
 use Rattle.composition.specs.Texts.{Text}
+use Rattle.io_edges.specs.Causes.{one_more}
 use Rattle.layer_load.specs.Files.{Files, AreRead, taken_at}
 use Rattle.layer_set.specs.declared.held.Held.{Held}
 use Rattle.session_script.specs.Cuts.{AreWholeLines}
@@ -36,6 +37,12 @@ Ends c NoMemory written = IsFront c written
 -- something was written with which the run ends so
 abbrev pub EndsWith : Course → Status → Option (List ℕ) → Option (List ℕ) → Type 0
 EndsWith c status before after = (written : List ℕ) × Ends c status written × Appends before after written
+
+-- where it failed, one fault was counted, of the files or of the script, and else none
+abbrev pub AreCounted : Type 0 → ℕ → ℕ → ℕ → ℕ → Type 0
+AreCounted Failed files files_now script script_now =
+    (Failed → ((files_now ≡ one_more files) × (script_now ≡ script)) ⊎ ((files_now ≡ files) × (script_now ≡ one_more script)))
+    × ((Failed → ⊥) → (files_now ≡ files) × (script_now ≡ script))
 
 -- a run that more lines go on: its lines are at their end, in a batch or outside
 abbrev pub GoesOn : Status → Type 0

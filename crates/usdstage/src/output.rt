@@ -2,7 +2,7 @@
 
 ghost use Rattle.std.specs.Prelude.{◌≡◌, ◌≤◌, ℕ, take, drop, length};
 ghost use Rattle.std.specs.Io.KnownBytes.{Appends};
-ghost use Rattle.io_edges.specs.Causes.{Rose};
+ghost use Rattle.io_edges.specs.Causes.{IsCounted};
 
 use io_edges::{Put, Sink};
 
@@ -29,8 +29,7 @@ fn rest_of(text: &[u8], at: usize) -> &[u8]
 pub fn write_all<K: Sink>(out: &mut K, text: &[u8]) -> Written
     ensures whole { result ≡ Written.Whole → Appends (K.taken out.old) (K.taken out.new) text.now }
     ensures front { (n : ℕ) × Appends (K.taken out.old) (K.taken out.new) (take n text.now) }
-    ensures later { K.faults out.old ≤ K.faults out.new }
-    ensures cause { result ≡ Written.Failed → Rose (K.faults out.old) (K.faults out.new) }
+    ensures counted { IsCounted (result ≡ Written.Failed) (K.faults out.old) (K.faults out.new) }
 {
     let mut at = 0;
     while at < text.len() {

@@ -2,15 +2,16 @@
 
 ghost use Rattle.std.specs.Prelude.{◌≡◌, ◌≢◌, ◌≤◌, ◌↔◌, ◌++◌, ◌⊎◌, ℕ, List, [], map, take, length, Ok, Err, Some, None, IfSome, IfOk, IfErr, string_bytes};
 ghost use Rattle.std.specs.Io.KnownBytes.{Appends};
-ghost use Rattle.io_edges.specs.Causes.{Rose};
+ghost use Rattle.io_edges.specs.Causes.{IsCounted, Rose};
 ghost use Rattle.io_edges.specs.Stores.{file_named};
+ghost use Rattle.layer_load.specs.Asking.{AsksMet};
 ghost use Rattle.layer_load.specs.Files.{AreRead, taken_at};
 ghost use Rattle.session_script.specs.Told.{BothTold};
 ghost use Rattle.session_script.specs.Reading.{steps_of};
 ghost use Rattle.stage_session.specs.Sessions.{most_paths, opening, opening_text, stage_after};
 ghost use Rattle.usdstage.specs.Command.{command_of};
 ghost use Rattle.usdstage.specs.Course.{nothing, onto, unopened, turn, flat_course, session_course, carried, course};
-ghost use Rattle.usdstage.specs.Outcome.{ByFiles, Carries, Ends, EndsAsDue, EndsWith, IsFront, IsScript, RepliesToLines, Takes};
+ghost use Rattle.usdstage.specs.Outcome.{AreCounted, ByFiles, Carries, Ends, EndsAsDue, EndsWith, IsFront, IsScript, RepliesToLines, Takes};
 ghost use Rattle.usdstage.specs.declared.words.Verb.{Verb as SaidVerb};
 ghost use Rattle.usdstage.specs.declared.words.Verb.TheVariants as verbs;
 
@@ -45,7 +46,7 @@ fn unopened(fault: LoadFault) -> Status
 // Writes the text of the flattened layer.
 fn write_flat<K: Sink>(alloc: Global, world: &World, out: &mut K) -> Status
     ensures outcome { EndsWith (flat_course world.now) result (K.taken out.old) (K.taken out.new) }
-    ensures cause { result ≡ Status.WriteFault → Rose (K.faults out.old) (K.faults out.new) }
+    ensures writes { IsCounted (result ≡ Status.WriteFault) (K.faults out.old) (K.faults out.new) }
     ensures calm { result ≢ Status.ReadFault }
     ensures kinds { result ≢ Status.Usage }
 {
@@ -71,8 +72,7 @@ fn open_layer<F: LayerFiles>(
 ) -> Result<(Vec<u8>, u64), Status>
     ensures turn { ByFiles (F.files files.old) (λ held size. Takes (λ v. v.items) result session.new (turn held size session.old bytes (Step.OpenLayer id))) }
     ensures same { F.files files.new ≡ F.files files.old }
-    ensures later { F.faults files.old ≤ F.faults files.new }
-    ensures cause { result ≡ Err Status.ReadFault → Rose (F.faults files.old) (F.faults files.new) }
+    ensures counted { IsCounted (result ≡ Err Status.ReadFault) (F.faults files.old) (F.faults files.new) }
     ensures calm { (result ≢ Err Status.WriteFault) × (result ≢ Err Status.Done) × (result ≢ Err Status.Usage) }
 {
     texts_have_one_answer();
@@ -131,8 +131,7 @@ fn reply_to<F: LayerFiles>(
 ) -> Result<(Vec<u8>, u64), Status>
     ensures turn { ByFiles (F.files files.old) (λ held size. Takes (λ v. v.items) result session.new (turn held size session.old bytes step)) }
     ensures same { F.files files.new ≡ F.files files.old }
-    ensures later { F.faults files.old ≤ F.faults files.new }
-    ensures cause { result ≡ Err Status.ReadFault → Rose (F.faults files.old) (F.faults files.new) }
+    ensures counted { IsCounted (result ≡ Err Status.ReadFault) (F.faults files.old) (F.faults files.new) }
     ensures calm { (result ≢ Err Status.WriteFault) × (result ≢ Err Status.Done) × (result ≢ Err Status.Usage) }
 {
     match step {
@@ -154,9 +153,8 @@ fn carry_out<F: LayerFiles, K: Sink>(
 ) -> Result<u64, Status>
     ensures carried { ByFiles (F.files files.old) (λ held size. Carries result session.new (turn held size session.old bytes step) (K.taken out.old) (K.taken out.new)) }
     ensures same { F.files files.new ≡ F.files files.old }
-    ensures later { (F.faults files.old ≤ F.faults files.new) × (K.faults out.old ≤ K.faults out.new) }
-    ensures read_fault { result ≡ Err Status.ReadFault → Rose (F.faults files.old) (F.faults files.new) }
-    ensures write_fault { result ≡ Err Status.WriteFault → Rose (K.faults out.old) (K.faults out.new) }
+    ensures reads { IsCounted (result ≡ Err Status.ReadFault) (F.faults files.old) (F.faults files.new) }
+    ensures writes { IsCounted (result ≡ Err Status.WriteFault) (K.faults out.old) (K.faults out.new) }
     ensures calm { (result ≢ Err Status.Done) × (result ≢ Err Status.Usage) }
 {
     let (reply, total) = match reply_to(alloc, session, bytes, step, files) {
@@ -181,10 +179,10 @@ fn run_script<F: LayerFiles, S: Source, K: Sink>(
 ) -> Status
     ensures outcome { ByFiles (F.files files.old) (λ held size. IfSome (S.left script.old) (λ all. EndsWith (carried held size session bytes (steps_of all)) result (K.taken out.old) (K.taken out.new))) }
     ensures end { result ≡ Status.Done → BothTold (S.left script.old) (S.left script.new) (λ _ b. b ≡ []) }
-    ensures read_fault { result ≡ Status.ReadFault → Rose (F.faults files.old) (F.faults files.new) ⊎ Rose (S.faults script.old) (S.faults script.new) }
+    ensures reads { AreCounted (result ≡ Status.ReadFault) (F.faults files.old) (F.faults files.new) (S.faults script.old) (S.faults script.new) }
     ensures script_fault { result ≡ Status.ReadFault → (Rose (F.faults files.old) (F.faults files.new) → ⊥) → ByFiles (F.files files.old) (λ held size. BothTold (S.left script.old) (S.left script.new)
         (λ all left. RepliesToLines (λ lines. carried held size session bytes (steps_of lines)) all left (K.taken out.old) (K.taken out.new))) }
-    ensures write_fault { result ≡ Status.WriteFault → Rose (K.faults out.old) (K.faults out.new) }
+    ensures writes { IsCounted (result ≡ Status.WriteFault) (K.faults out.old) (K.faults out.new) }
     ensures kinds { result ≢ Status.Usage }
 {
     let mut session = session;
@@ -211,8 +209,7 @@ fn open_session<K: Sink>(alloc: Global, world: World, out: &mut K) -> Result<Ses
     ensures opened { IfOk result (λ session. (session ≡ opening world) × Appends (K.taken out.old) (K.taken out.new) (opening_text world)) }
     ensures few { IfOk result (λ _. length (stage_after world []) ≤ most_paths) }
     ensures outcome { (bytes : ℕ) (held : _) (size : _) (script : List ℕ) → IfErr result (λ status. EndsWith (session_course held size world bytes script) status (K.taken out.old) (K.taken out.new)) }
-    ensures later { K.faults out.old ≤ K.faults out.new }
-    ensures cause { result ≡ Err Status.WriteFault → Rose (K.faults out.old) (K.faults out.new) }
+    ensures counted { IsCounted (result ≡ Err Status.WriteFault) (K.faults out.old) (K.faults out.new) }
     ensures calm { (result ≢ Err Status.ReadFault) × (result ≢ Err Status.Done) × (result ≢ Err Status.Usage) }
 {
     let (session, reply) = match Session::open(alloc, world) {
@@ -237,10 +234,10 @@ fn run_session<F: LayerFiles, S: Source, K: Sink>(
 ) -> Status
     ensures outcome { ByFiles (F.files files.old) (λ held size. IfSome (S.left script.old) (λ all. EndsWith (session_course held size loaded.world loaded.bytes all) result (K.taken out.old) (K.taken out.new))) }
     ensures end { result ≡ Status.Done → BothTold (S.left script.old) (S.left script.new) (λ _ b. b ≡ []) }
-    ensures read_fault { result ≡ Status.ReadFault → Rose (F.faults files.old) (F.faults files.new) ⊎ Rose (S.faults script.old) (S.faults script.new) }
+    ensures reads { AreCounted (result ≡ Status.ReadFault) (F.faults files.old) (F.faults files.new) (S.faults script.old) (S.faults script.new) }
     ensures script_fault { result ≡ Status.ReadFault → (Rose (F.faults files.old) (F.faults files.new) → ⊥) → ByFiles (F.files files.old) (λ held size. BothTold (S.left script.old) (S.left script.new)
         (λ all left. RepliesToLines (λ lines. session_course held size loaded.world loaded.bytes lines) all left (K.taken out.old) (K.taken out.new))) }
-    ensures write_fault { result ≡ Status.WriteFault → Rose (K.faults out.old) (K.faults out.new) }
+    ensures writes { IsCounted (result ≡ Status.WriteFault) (K.faults out.old) (K.faults out.new) }
     ensures kinds { result ≢ Status.Usage }
 {
     let Loaded { world, bytes } = loaded;
@@ -260,11 +257,12 @@ fn run_command<F: LayerFiles, S: Source, K: Sink>(
 ) -> Status
     ensures outcome { ByFiles (F.files files.old) (λ held size. (s : List ℕ) → IsScript (Some command) (S.left script.old) s → EndsWith (course held size (Some command) s) result (K.taken out.old) (K.taken out.new)) }
     ensures unread { command.verb ≡ verbs.Flatten → script.new ≡ script.old }
+    ensures asks { command.verb ≡ verbs.Flatten → IfSome (F.files files.old) (λ told. AsksMet told command.root command.session (F.asked files.old) (F.asked files.new)) }
     ensures end { command.verb ≡ verbs.Session → result ≡ Status.Done → BothTold (S.left script.old) (S.left script.new) (λ _ left. left ≡ []) }
-    ensures read_fault { result ≡ Status.ReadFault → Rose (F.faults files.old) (F.faults files.new) ⊎ Rose (S.faults script.old) (S.faults script.new) }
+    ensures reads { AreCounted (result ≡ Status.ReadFault) (F.faults files.old) (F.faults files.new) (S.faults script.old) (S.faults script.new) }
     ensures script_fault { result ≡ Status.ReadFault → (Rose (F.faults files.old) (F.faults files.new) → ⊥) → ByFiles (F.files files.old) (λ held size. BothTold (S.left script.old) (S.left script.new)
         (λ all left. RepliesToLines (λ lines. course held size (Some command) lines) all left (K.taken out.old) (K.taken out.new))) }
-    ensures write_fault { result ≡ Status.WriteFault → Rose (K.faults out.old) (K.faults out.new) }
+    ensures writes { IsCounted (result ≡ Status.WriteFault) (K.faults out.old) (K.faults out.new) }
     ensures kinds { result ≢ Status.Usage }
 {
     let Command {
@@ -305,14 +303,18 @@ pub fn run_tool<R, F: LayerFiles, S: Source, K: Sink, G: Gate + Sync>(
     ensures untouched { command_of (map string_bytes words.now) ≡ None → (files.new ≡ files.old) × (script.new ≡ script.old) × (out.new ≡ out.old) }
     // `flatten` reads no script.
     ensures unread { IfSome (command_of (map string_bytes words.now)) (λ c. c.verb ≡ verbs.Flatten → script.new ≡ script.old) }
+    // `flatten` asks for no file but those of the names that are met from its layers, and for each of these once.
+    ensures asks { IfSome (command_of (map string_bytes words.now)) (λ c. c.verb ≡ verbs.Flatten
+        → IfSome (F.files files.old) (λ told. AsksMet told c.root c.session (F.asked files.old) (F.asked files.new))) }
     // A session that is done has read its script to the end.
     ensures end { IfSome (command_of (map string_bytes words.now)) (λ c. c.verb ≡ verbs.Session → result ≡ Status.Done
         → BothTold (S.left script.old) (S.left script.new) (λ _ left. left ≡ [])) }
-    ensures read_fault { result ≡ Status.ReadFault → Rose (F.faults files.old) (F.faults files.new) ⊎ Rose (S.faults script.old) (S.faults script.new) }
+    // A fault ends the run: `ReadFault` is answered where one fetch or one read failed, and only there; the same of writes. None is tried again.
+    ensures reads { AreCounted (result ≡ Status.ReadFault) (F.faults files.old) (F.faults files.new) (S.faults script.old) (S.faults script.new) }
     // Where reading the script fails, the replies to all whole lines that were read of it before were written.
     ensures script_fault { result ≡ Status.ReadFault → (Rose (F.faults files.old) (F.faults files.new) → ⊥) → ByFiles (F.files files.old) (λ held size. BothTold (S.left script.old) (S.left script.new)
         (λ all left. RepliesToLines (λ lines. course held size (command_of (map string_bytes words.now)) lines) all left (K.taken out.old) (K.taken out.new))) }
-    ensures write_fault { result ≡ Status.WriteFault → Rose (K.faults out.old) (K.faults out.new) }
+    ensures writes { IsCounted (result ≡ Status.WriteFault) (K.faults out.old) (K.faults out.new) }
     // Where nothing fails, the run ends as it is due by the words, the files and the script, unless memory runs out.
     ensures complete { ByFiles (F.files files.old) (λ held size. (s : List ℕ) → IsScript (command_of (map string_bytes words.now)) (S.left script.old) s
         → (Rose (F.faults files.old) (F.faults files.new) → ⊥) → (Rose (S.faults script.old) (S.faults script.new) → ⊥) → (Rose (K.faults out.old) (K.faults out.new) → ⊥)

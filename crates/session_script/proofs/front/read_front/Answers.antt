@@ -101,7 +101,7 @@ loop-at-preserved g c =
       heeds = heeds_then c.args.ended.now c.loop-at.ended c.loop-at.ended (g.S.Source.left c.args.source.now) (g.S.Source.left c.loop-at.source) (g.S.Source.left c.read_more.new.source) i.heeds (rw shut (heeds_more (g.S.Source.left c.loop-at.source) (g.S.Source.left c.read_more.new.source) m.0 m.3));
       quiet = λ e. absurd (let k : true ≡ false = sym e ∙ first in cc);
       held = λ e. absurd (let k : true ≡ false = sym (ap (λ (l : List ℕ). has_feed (drop c.args.start l)) (i.held e).1 ∙ e) ∙ held_scanned c.args.start c.loop-at.bytes.items scan in cc);
-      later = omega (arith, i.later, c.in_ok-read_more.ensures.later);
+      steady = c.in_ok-read_more.ensures.counted.1 (λ k. absurd (let clash = k in cc)) ∙ i.steady;
     }
 
 pub returns-in_err-read_more-clause-none : goal.returns-in_err-read_more-clause-none

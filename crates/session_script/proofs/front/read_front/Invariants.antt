@@ -1,4 +1,4 @@
-use Rattle.std.proofs.Common.{◌≡◌, ◌-◌, ◌≤◌, true, drop, length}
+use Rattle.std.proofs.Common.{◌≡◌, ◌-◌, true, drop, length}
 use Rattle.session_script.specs.States.{has_feed, IsScanned}
 use Rattle.session_script.specs.Fronts.{Grows}
 use Rattle.session_script.specs.Told.{coming, Heeds}
@@ -12,7 +12,7 @@ invariant-loop-at g l = record {
   heeds : Heeds l.initial.ended l.ended (g.S.Source.left l.initial.source) (g.S.Source.left l.source);
   quiet : l.initial.ended ≡ true → l.source ≡ l.initial.source;
   held : has_feed (drop l.start l.initial.bytes.items) ≡ true → (l.source ≡ l.initial.source) × (l.bytes.items ≡ l.initial.bytes.items);
-  later : g.S.Source.faults l.initial.source ≤ g.S.Source.faults l.source;
+  steady : g.S.Source.faults l.source ≡ g.S.Source.faults l.initial.source;
 }
 
 abbrev pub decreases-loop-at : goal.decreases-loop-at

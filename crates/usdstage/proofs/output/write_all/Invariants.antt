@@ -1,4 +1,4 @@
-use Rattle.std.proofs.Common.{◌≤◌, ◌-◌, length, take}
+use Rattle.std.proofs.Common.{◌≡◌, ◌≤◌, ◌-◌, length, take}
 use Rattle.std.specs.Io.KnownBytes.{Appends}
 use Rattle.usdstage.proofs.output.write_all.Given as goal
 
@@ -6,7 +6,7 @@ abbrev pub invariant-loop-at : goal.invariant-loop-at
 invariant-loop-at g l = record {
   within : l.at ≤ length l.text;
   wrote : Appends (g.K.Sink.taken l.fn.out) (g.K.Sink.taken l.out) (take l.at l.text);
-  later : g.K.Sink.faults l.fn.out ≤ g.K.Sink.faults l.out;
+  steady : g.K.Sink.faults l.out ≡ g.K.Sink.faults l.fn.out;
 }
 
 abbrev pub decreases-loop-at : goal.decreases-loop-at

@@ -1,4 +1,4 @@
-use Rattle.std.proofs.Common.{◌∙◌, refl, ap, arith, false, Ok, Err, None}
+use Rattle.std.proofs.Common.{◌∙◌, refl, ap, false, Ok, Err, None}
 use Rattle.session_script.specs.declared.faults.ScriptFault.TheVariants as faults
 use Rattle.usdstage.specs.declared.status.Status.TheVariants as status
 use Rattle.usdstage.specs.Course.{turn}
@@ -8,6 +8,8 @@ use Rattle.usdstage.proofs.Follows.{follows_none, follows_on, fault_writes}
 use Rattle.session_script.specs.Told.{coming}
 use Rattle.session_script.proofs.Feeds.{heeds_then}
 use Rattle.usdstage.proofs.Files.{by_files, then_files, both_files, same_files, heard_here}
+use Rattle.io_edges.specs.Causes.{one_more}
+use Rattle.usdstage.proofs.Runs.{rose}
 use Rattle.usdstage.proofs.tool.run_script.Goals as goal
 
 pub returns-in-Ok-None-clause-outcome : goal.returns-in-Ok-None-clause-outcome
@@ -28,9 +30,9 @@ loop-steps-init g c = record {
   told = by_files (g.F.LayerFiles.files c.args.files.now) _ (λ held size. starts held size c.args.session c.args.bytes _ (g.S.Source.left c.args.script.now) (g.K.Sink.taken c.args.out.now) c.new-steps.ensures);
   heeds = rw c.new-steps.ensures (heard_here (g.S.Source.left c.args.script.now));
   same = refl;
-  files_later = omega arith;
-  read_later = omega arith;
-  write_later = omega arith;
+  fetched = refl;
+  read = refl;
+  wrote = refl;
 }
 
 pub loop-steps-preserved : goal.loop-steps-preserved
@@ -45,9 +47,9 @@ loop-steps-preserved g c =
           (λ held size have carried. goes_on held size c.args.session c.loop-steps.session c.carry_out.new.session c.args.bytes c.loop-steps.bytes c.in-Ok.total c.loop-steps.steps c.next.new.self c.in-Ok-Some.step (g.S.Source.left c.args.script.now) (coming c.loop-steps.steps.ended (g.S.Source.left c.loop-steps.script)) (coming c.next.new.self.ended (g.S.Source.left c.next.new.source)) (g.K.Sink.taken c.args.out.now) (g.K.Sink.taken c.loop-steps.out) (g.K.Sink.taken c.carry_out.new.out) have n carried);
       heeds = heeds_then false c.loop-steps.steps.ended c.next.new.self.ended (g.S.Source.left c.args.script.now) (g.S.Source.left c.loop-steps.script) (g.S.Source.left c.next.new.source) i.heeds c.in-Ok-Some.ensures.heeds;
       same = c.in-Ok.ensures.same ∙ i.same;
-      files_later = omega (arith, i.files_later, c.in-Ok.ensures.later.0);
-      read_later = omega (arith, i.read_later, c.in-Ok-Some.ensures.later);
-      write_later = omega (arith, i.write_later, c.in-Ok.ensures.later.1);
+      fetched = c.in-Ok.ensures.reads.1 (λ k. absurd (let clash = k in cc)) ∙ i.fetched;
+      read = (rw c.in-Ok-Some.field-0-is at c.in-Ok-Some.ensures.counted).1 (λ k. absurd (let clash = k in cc)) ∙ i.read;
+      wrote = c.in-Ok.ensures.writes.1 (λ k. absurd (let clash = k in cc)) ∙ i.wrote;
     }
 
 pub returns-in-Err-clause-outcome : goal.returns-in-Err-clause-outcome
@@ -87,4 +89,4 @@ returns-in-Err-ReadFault-clause-script_fault g c =
     (λ held size have. fault_writes held size c.args.session c.loop-steps.session c.args.bytes c.loop-steps.bytes c.loop-steps.steps c.next.new.self (g.S.Source.left c.args.script.now) (coming c.loop-steps.steps.ended (g.S.Source.left c.loop-steps.script)) (g.S.Source.left c.next.new.source) (g.K.Sink.taken c.args.out.now) (g.K.Sink.taken c.loop-steps.out) have l n.1)
 
 pub returns-in-Err-clause-script_fault : goal.returns-in-Err-clause-script_fault
-returns-in-Err-clause-script_fault g c = λ e k. absurd (k (omega (arith, c.loop-steps.invariant.files_later, c.in-Err.ensures.read_fault (ap Err e))))
+returns-in-Err-clause-script_fault g c = λ e k. absurd (k (rose _ _ (c.in-Err.ensures.reads.0 (ap Err e) ∙ ap one_more c.loop-steps.invariant.fetched)))

@@ -1,4 +1,4 @@
-use Rattle.std.proofs.Common.{◌≡◌, ◌≤◌, ◌-◌, false}
+use Rattle.std.proofs.Common.{◌≡◌, ◌-◌, false}
 use Rattle.session_script.specs.Told.{coming, Heeds}
 use Rattle.usdstage.specs.Outcome.{ByFiles}
 use Rattle.usdstage.proofs.Carrying.{Stands}
@@ -13,9 +13,9 @@ invariant-loop-steps g l = record {
       (λ held size. Follows held size l.initial.session l.session l.initial.bytes l.bytes l.steps (g.S.Source.left l.initial.script) (coming l.steps.ended (g.S.Source.left l.script)) (g.K.Sink.taken l.initial.out) (g.K.Sink.taken l.out));
   heeds : Heeds false l.steps.ended (g.S.Source.left l.initial.script) (g.S.Source.left l.script);
   same : g.F.LayerFiles.files l.files ≡ g.F.LayerFiles.files l.initial.files;
-  files_later : g.F.LayerFiles.faults l.initial.files ≤ g.F.LayerFiles.faults l.files;
-  read_later : g.S.Source.faults l.initial.script ≤ g.S.Source.faults l.script;
-  write_later : g.K.Sink.faults l.initial.out ≤ g.K.Sink.faults l.out;
+  fetched : g.F.LayerFiles.faults l.files ≡ g.F.LayerFiles.faults l.initial.files;
+  read : g.S.Source.faults l.script ≡ g.S.Source.faults l.initial.script;
+  wrote : g.K.Sink.faults l.out ≡ g.K.Sink.faults l.initial.out;
 }
 
 abbrev pub decreases-loop-steps : goal.decreases-loop-steps

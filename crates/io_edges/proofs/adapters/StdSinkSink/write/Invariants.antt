@@ -1,5 +1,5 @@
-use Rattle.std.proofs.Common.{◌≤◌}
+use Rattle.std.proofs.Common.{◌≡◌}
 use Rattle.io_edges.proofs.adapters.StdSinkSink.write.Given as goal
 
 abbrev pub invariant-loop : goal.invariant-loop
-invariant-loop g l = l.fn.self ≤ l.self-inside.faults
+invariant-loop g l = l.self-inside.faults ≡ l.fn.self

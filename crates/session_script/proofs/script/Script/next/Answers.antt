@@ -66,7 +66,7 @@ loop-self-preserved g c =
       goes_on = ap (λ (s : State). s.stopped) took.2 ∙ none;
       same_line = ap (λ (s : State). s.line) took.2 ∙ ap (λ (s : State). s.line) n.feeds.1 ∙ i.same_line;
       taken = omega (arith, ap (λ (s : State). s.taken) took.2, ap (λ (s : State). s.taken) n.feeds.1, i.taken);
-      later = omega (arith, n.later, i.later);
+      steady = n.counted.1 (λ k. absurd (let clash = k in cc)) ∙ i.steady;
     }
 
 pub returns-in-End-clause-lines : goal.returns-in-End-clause-lines

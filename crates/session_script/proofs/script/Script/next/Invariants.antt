@@ -13,7 +13,7 @@ invariant-loop-self g l = record {
   goes_on : l.self.stopped ≡ None;
   same_line : l.self.line ≡ l.initial.self.line;
   taken : l.initial.self.taken ≤ l.self.taken;
-  later : g.S.Source.faults l.initial.source ≤ g.S.Source.faults l.source;
+  steady : g.S.Source.faults l.source ≡ g.S.Source.faults l.initial.source;
 }
 
 abbrev pub decreases-loop-self : goal.decreases-loop-self
