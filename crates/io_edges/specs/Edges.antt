@@ -66,3 +66,11 @@ abbrev pub WritesFew : ℕ → Put → Type 0
 WritesFew step (put.Took n) = n ≤ step
 WritesFew step put.Failed = Unit {0}
 WritesFew step put.NoMemory = Unit {0}
+
+-- Whatever a reader tells of what it has left, what was added to the buffer is what it gave. Where that is less than is
+-- taken of one file, it is all that the reader had.
+abbrev pub GivesAll : Fetched → List ℕ → List ℕ → Option (List ℕ) → Option (List ℕ) → Type 0
+GivesAll Found old new before after = (bytes : List ℕ) × (new ≡ old ++ bytes) × Consumes before after bytes × (length bytes < most → IsAtEnd after)
+GivesAll Absent old new before after = Unit {0}
+GivesAll Failed old new before after = Unit {0}
+GivesAll NoMemory old new before after = Unit {0}

@@ -43,3 +43,8 @@ pub record Store : Type 0 where
 pub record FailingStore : Type 0 where
   pub store : Store
   pub plan : Plan
+
+-- a reader or a writer of another's, and how often it has failed
+pub record Counted (T : Type 0) : Type 0 where
+  pub inner : T
+  pub faults : ℕ

@@ -1,9 +1,11 @@
 //! The files of the working folder, standard input and standard output.
 //!
-//! What these hold is not told: they are the trusted edge of the program.
+//! What a folder holds is not told: that is the trusted edge of the program. A source and a sink tell what the reader
+//! and the writer below them tell.
 
-ghost use Rattle.std.specs.Prelude.{◌≡◌, ◌≢◌, None};
-ghost use Rattle.io_edges.specs.Edges.{FetchLeaves};
+ghost use Rattle.std.specs.Prelude.{◌≡◌, ◌≢◌, ◌↔◌, None};
+ghost use Rattle.std.specs.IoError.{error_kind};
+ghost use Rattle.io_edges.specs.Edges.{FetchLeaves, GivesAll};
 
 use crate::{Fetched, Got, LayerFiles, MOST_BYTES, Put, Sink, Source};
 use std::fs;
@@ -40,7 +42,9 @@ impl<R: Files + Drop> FolderFiles<R> {
 
 // What a file that could not be opened is: a missing one is no fault.
 fn fault_of(e: &io::Error) -> Fetched
-    ensures { result ≢ Fetched.Found }
+    ensures fault { result ≢ Fetched.Found }
+    ensures absent { result ≡ Fetched.Absent ↔ error_kind e.now ≡ ErrorKind.NotFound }
+    ensures memory { result ≡ Fetched.NoMemory ↔ error_kind e.now ≡ ErrorKind.OutOfMemory }
 {
     match e.kind() {
         ErrorKind::NotFound => Fetched::Absent,
@@ -53,6 +57,7 @@ fn fault_of(e: &io::Error) -> Fetched
 fn append_all<T: Read>(reader: &mut T, into: &mut Vec<u8>) -> Fetched
     ensures leaves { FetchLeaves result into.old.items into.new.items }
     ensures present { result ≢ Fetched.Absent }
+    ensures gives { GivesAll result into.old.items into.new.items (T.remaining reader.old) (T.remaining reader.new) }
 {
     let mut piece = [0u8; PIECE];
     let mut left = MOST_BYTES;
@@ -98,7 +103,7 @@ impl<R: Files + Drop> LayerFiles for FolderFiles<R> {
     }
 }
 
-/// A source over a reader, as standard input. Contracts see the count of faults.
+/// A source over a reader, as standard input. What the reader tells of the bytes that it has left, the source tells.
 #[derive(Drop)]
 pub struct StdSource<T: Read + Drop> {
     inner: T,
@@ -106,26 +111,26 @@ pub struct StdSource<T: Read + Drop> {
 }
 
 impl<T: Read + Drop> Model for StdSource<T> {
-    ghost use Rattle.std.specs.Prelude.{ℕ};
+    ghost use Rattle.io_edges.specs.Stores.{Counted};
 
-    ghost Value = { ℕ };
+    ghost Value = { Counted T };
 
-    ghost view = { λ s. s.faults };
+    ghost view = { λ s. record { inner = s.inner; faults = s.faults } };
 }
 
 impl<T: Read + Drop> StdSource<T> {
     /// A source of what this reader gives.
     pub fn new(inner: T) -> StdSource<T>
-        ensures { result ≡ 0 }
+        ensures { result ≡ record { inner = inner; faults = 0 } }
     {
         StdSource { inner, faults: 0 }
     }
 }
 
 impl<T: Read + Drop> Source for StdSource<T> {
-    ghost left = { λ _. None };
+    ghost left = { λ s. T.remaining s.inner };
 
-    ghost faults = { λ count. count };
+    ghost faults = { λ s. s.faults };
 
     fn read(&mut self, into: &mut [u8]) -> Got {
         for _ in 0..u64::MAX {
@@ -144,7 +149,7 @@ impl<T: Read + Drop> Source for StdSource<T> {
     }
 }
 
-/// A sink over a writer, as standard output. Contracts see the count of faults.
+/// A sink over a writer, as standard output. What the writer tells of the bytes that it has taken, the sink tells.
 #[derive(Drop)]
 pub struct StdSink<W: Write + Drop> {
     inner: W,
@@ -152,26 +157,26 @@ pub struct StdSink<W: Write + Drop> {
 }
 
 impl<W: Write + Drop> Model for StdSink<W> {
-    ghost use Rattle.std.specs.Prelude.{ℕ};
+    ghost use Rattle.io_edges.specs.Stores.{Counted};
 
-    ghost Value = { ℕ };
+    ghost Value = { Counted W };
 
-    ghost view = { λ s. s.faults };
+    ghost view = { λ s. record { inner = s.inner; faults = s.faults } };
 }
 
 impl<W: Write + Drop> StdSink<W> {
     /// A sink that hands on to this writer.
     pub fn new(inner: W) -> StdSink<W>
-        ensures { result ≡ 0 }
+        ensures { result ≡ record { inner = inner; faults = 0 } }
     {
         StdSink { inner, faults: 0 }
     }
 }
 
 impl<W: Write + Drop> Sink for StdSink<W> {
-    ghost taken = { λ _. None };
+    ghost taken = { λ s. W.contents s.inner };
 
-    ghost faults = { λ count. count };
+    ghost faults = { λ s. s.faults };
 
     fn write(&mut self, piece: &[u8]) -> Put {
         for _ in 0..u64::MAX {
