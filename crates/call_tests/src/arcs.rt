@@ -75,12 +75,24 @@ fn arc(alloc: Global, kind: ArcKind, target: &str, author: &str) -> Result<ArcMa
     })
 }
 
-/// Whether the text of the path is this one; of no path it is empty.
-fn has_text(path: Option<Path>, text: &str) -> Result<bool, PathFault> {
-    match path {
-        Some(path) => Ok(path.print()?.as_str() == text),
+/// Whether the text of the path is this one.
+fn has_text(path: &Path, text: &str) -> Result<bool, PathFault> {
+    let printed = path.print()?;
+    Ok(printed.as_str() == text)
+}
+
+/// Whether the path is translated to the one of this text; where that is empty, whether it has no translation.
+fn is_translated(arc: &ArcMap, path: &Path, text: &str) -> Result<bool, PathFault> {
+    match arc.translate(path)? {
+        Some(there) => has_text(&there, text),
         None => Ok(text.is_empty()),
     }
+}
+
+/// Whether the class is lifted to the one of this text.
+fn is_lifted(arc: &ArcMap, class: &Path, text: &str) -> Result<bool, PathFault> {
+    let there = arc.lift_class(class)?;
+    has_text(&there, text)
 }
 
 /// How many rows hold.
@@ -88,7 +100,7 @@ fn translated(alloc: Global, arc: &ArcMap, rows: &[(&str, &str)]) -> Result<u64,
     let mut right: u64 = 0;
     for (path, there) in rows {
         let path = Path::parse(alloc, path)?;
-        if has_text(arc.translate(&path)?, there)? {
+        if is_translated(arc, &path, there)? {
             right = right.saturating_add(1);
         }
     }
@@ -100,7 +112,7 @@ fn lifted(alloc: Global, arc: &ArcMap, rows: &[(&str, &str)]) -> Result<u64, Pat
     let mut right: u64 = 0;
     for (path, there) in rows {
         let path = Path::parse(alloc, path)?;
-        if has_text(Some(arc.lift_class(&path)?), there)? {
+        if is_lifted(arc, &path, there)? {
             right = right.saturating_add(1);
         }
     }
@@ -142,28 +154,31 @@ fn classes_are_lifted_to_the_author(rt: HostRuntime) -> Result<(), Fail> {
     Ok(())
 }
 
-/// Whether a path can be translated and lifted through an arc from `/T` to this author. It cannot
-/// where both are refused for a limit.
-fn fits(alloc: Global, kind: ArcKind, author: &str, path: &str) -> Result<bool, PathFault> {
+/// Whether an answer is the refusal for a limit.
+fn is_past_a_limit<T>(answer: &Result<T, PathFault>) -> bool {
+    matches!(answer, Err(PathFault::Bad { at: 0 }))
+}
+
+/// Whether a path is both translated and lifted through an arc from `/T` to this author, and whether both are refused for a
+/// limit.
+fn fits(alloc: Global, kind: ArcKind, author: &str, path: &str) -> Result<(bool, bool), PathFault> {
     let by = arc(alloc, kind, "/T", author)?;
     let path = Path::parse(alloc, path)?;
-    match (by.translate(&path), by.lift_class(&path)) {
-        (Err(PathFault::Bad { at: 0 }), Err(PathFault::Bad { at: 0 })) => Ok(false),
-        (there, lifted) => {
-            there?;
-            lifted?;
-            Ok(true)
-        }
-    }
+    let translated = by.translate(&path);
+    let lifted = by.lift_class(&path);
+    let given = translated.is_ok() && lifted.is_ok();
+    let refused = is_past_a_limit(&translated) && is_past_a_limit(&lifted);
+    Ok((given, refused))
 }
 
 #[test]
 fn names_past_the_limit_are_refused(rt: HostRuntime) -> Result<(), Fail> {
     let deep = "/a".repeat(rt.alloc(), 63)?;
+    let author = deep.as_str();
     assert!(rt;
-        fits(rt.alloc(), ArcKind::Reference, deep.as_str(), "/T/b")?
-            && !fits(rt.alloc(), ArcKind::Reference, deep.as_str(), "/T/b/c")?
-            && !fits(rt.alloc(), ArcKind::Inherits, deep.as_str(), "/T/b/c")?
+        fits(rt.alloc(), ArcKind::Reference, author, "/T/b")? == (true, false)
+            && fits(rt.alloc(), ArcKind::Reference, author, "/T/b/c")? == (false, true)
+            && fits(rt.alloc(), ArcKind::Inherits, author, "/T/b/c")? == (false, true)
     );
     Ok(())
 }
@@ -172,10 +187,11 @@ fn names_past_the_limit_are_refused(rt: HostRuntime) -> Result<(), Fail> {
 fn bytes_past_the_limit_are_refused(rt: HostRuntime) -> Result<(), Fail> {
     let mut long = String::from_str(rt.alloc(), "/")?;
     long.push_str("a".repeat(rt.alloc(), 4090)?.as_str())?;
+    let author = long.as_str();
     assert!(rt;
-        fits(rt.alloc(), ArcKind::Payload, long.as_str(), "/T/bcde")?
-            && !fits(rt.alloc(), ArcKind::Payload, long.as_str(), "/T/bcdef")?
-            && !fits(rt.alloc(), ArcKind::Specializes, long.as_str(), "/T/bcdef")?
+        fits(rt.alloc(), ArcKind::Payload, author, "/T/bcde")? == (true, false)
+            && fits(rt.alloc(), ArcKind::Payload, author, "/T/bcdef")? == (false, true)
+            && fits(rt.alloc(), ArcKind::Specializes, author, "/T/bcdef")? == (false, true)
     );
     Ok(())
 }

@@ -55,12 +55,19 @@ fn fetches_of_the_given_numbers_fail(rt: HostRuntime) -> Result<(), Fail> {
     let alloc = rt.alloc();
     let mut files = MemoryFiles::new(three_files(alloc)?, Vec::from_slice(alloc, &[2, 3])?);
     let mut into = Vec::new(alloc);
+    let told = [
+        files.fetch("a", &mut into),
+        files.fetch("a", &mut into),
+        files.fetch("c", &mut into),
+        files.fetch("c", &mut into),
+    ];
     assert!(rt;
-        files.fetch("a", &mut into) == Fetched::Found
-            && files.fetch("a", &mut into) == Fetched::Failed
-            && files.fetch("c", &mut into) == Fetched::Failed
-            && files.fetch("c", &mut into) == Fetched::Absent
-            && into.as_slice() == b"first".as_slice()
+        told == [
+            Fetched::Found,
+            Fetched::Failed,
+            Fetched::Failed,
+            Fetched::Absent
+        ] && into.as_slice() == b"first".as_slice()
             && are_names(files.asked(), ["a", "a", "c", "c"].as_slice())
     );
     Ok(())
@@ -71,12 +78,13 @@ fn a_source_gives_its_bytes_step_by_step(rt: HostRuntime) -> Result<(), Fail> {
     let alloc = rt.alloc();
     let mut source = SureSource::new(Vec::from_slice(alloc, b"abcde".as_slice())?, 3);
     let mut into = [b'-'; 4];
+    let first = source.read(&mut into);
+    let begun = into.as_slice() == b"abc-".as_slice();
+    let told = [first, source.read(&mut into), source.read(&mut into)];
     assert!(rt;
-        source.read(&mut into) == Got::Bytes(3)
-            && into.as_slice() == b"abc-".as_slice()
-            && source.read(&mut into) == Got::Bytes(2)
+        begun
+            && told == [Got::Bytes(3), Got::Bytes(2), Got::End]
             && into.as_slice() == b"dec-".as_slice()
-            && source.read(&mut into) == Got::End
     );
     Ok(())
 }
@@ -87,13 +95,16 @@ fn reads_of_the_given_numbers_fail(rt: HostRuntime) -> Result<(), Fail> {
     let bytes = Vec::from_slice(alloc, b"abc".as_slice())?;
     let mut source = MemorySource::new(bytes, 2, Vec::from_slice(alloc, &[2, 4])?);
     let mut into = [b'-'; 4];
+    let first = [
+        source.read(&mut into),
+        source.read(&mut into),
+        source.read(&mut into),
+    ];
+    let held = into.as_slice() == b"cb--".as_slice();
+    let last = [source.read(&mut into), source.read(&mut into)];
     assert!(rt;
-        source.read(&mut into) == Got::Bytes(2)
-            && source.read(&mut into) == Got::Failed
-            && source.read(&mut into) == Got::Bytes(1)
-            && into.as_slice() == b"cb--".as_slice()
-            && source.read(&mut into) == Got::Failed
-            && source.read(&mut into) == Got::End
+        held && first == [Got::Bytes(2), Got::Failed, Got::Bytes(1)]
+            && last == [Got::Failed, Got::End]
     );
     Ok(())
 }
@@ -101,11 +112,8 @@ fn reads_of_the_given_numbers_fail(rt: HostRuntime) -> Result<(), Fail> {
 #[test]
 fn a_sink_takes_bytes_step_by_step(rt: HostRuntime) -> Result<(), Fail> {
     let mut sink = SureSink::new(rt.alloc(), 2);
-    assert!(rt;
-        sink.write(b"abc".as_slice()) == Put::Took(2)
-            && sink.write(b"c".as_slice()) == Put::Took(1)
-            && sink.taken() == b"abc".as_slice()
-    );
+    let told = [sink.write(b"abc".as_slice()), sink.write(b"c".as_slice())];
+    assert!(rt; told == [Put::Took(2), Put::Took(1)] && sink.taken() == b"abc".as_slice());
     Ok(())
 }
 
@@ -113,11 +121,14 @@ fn a_sink_takes_bytes_step_by_step(rt: HostRuntime) -> Result<(), Fail> {
 fn writes_of_the_given_numbers_fail(rt: HostRuntime) -> Result<(), Fail> {
     let alloc = rt.alloc();
     let mut sink = MemorySink::new(alloc, 2, Vec::from_slice(alloc, &[1, 3])?);
+    let told = [
+        sink.write(b"abc".as_slice()),
+        sink.write(b"abc".as_slice()),
+        sink.write(b"c".as_slice()),
+        sink.write(b"c".as_slice()),
+    ];
     assert!(rt;
-        sink.write(b"abc".as_slice()) == Put::Failed
-            && sink.write(b"abc".as_slice()) == Put::Took(2)
-            && sink.write(b"c".as_slice()) == Put::Failed
-            && sink.write(b"c".as_slice()) == Put::Took(1)
+        told == [Put::Failed, Put::Took(2), Put::Failed, Put::Took(1)]
             && sink.taken() == b"abc".as_slice()
     );
     Ok(())
@@ -130,14 +141,15 @@ fn a_folder_has_the_files_that_lie_there(rt: HostRuntime) -> Result<(), Fail> {
     let mut into = Vec::new(rt.alloc());
     let found = files.fetch("io_edges_layer.usda", &mut into);
     fs::remove_file(&rt, "io_edges_layer.usda")?;
-    assert!(rt; found == Fetched::Found && into.as_slice() == b"#usda 1.0\n".as_slice());
-    assert_eq!(rt;
-        files.fetch("io_edges_layer.usda", &mut into),
-        Fetched::Absent
-    );
+    let held = into.as_slice() == b"#usda 1.0\n".as_slice();
     // a folder is opened, and cannot be read
+    let told = [
+        found,
+        files.fetch("io_edges_layer.usda", &mut into),
+        files.fetch(".", &mut into),
+    ];
     assert!(rt;
-        files.fetch(".", &mut into) == Fetched::Failed
+        held && told == [Fetched::Found, Fetched::Absent, Fetched::Failed]
             && into.as_slice() == b"#usda 1.0\n".as_slice()
     );
     Ok(())
@@ -147,12 +159,13 @@ fn a_folder_has_the_files_that_lie_there(rt: HostRuntime) -> Result<(), Fail> {
 fn a_source_over_a_reader_gives_what_it_reads(rt: HostRuntime) -> Result<(), Fail> {
     let mut source = StdSource::new(b"abc".as_slice());
     let mut into = [b'-'; 2];
+    let first = source.read(&mut into);
+    let begun = into.as_slice() == b"ab".as_slice();
+    let told = [first, source.read(&mut into), source.read(&mut into)];
     assert!(rt;
-        source.read(&mut into) == Got::Bytes(2)
-            && into.as_slice() == b"ab".as_slice()
-            && source.read(&mut into) == Got::Bytes(1)
+        begun
+            && told == [Got::Bytes(2), Got::Bytes(1), Got::End]
             && into.as_slice() == b"cb".as_slice()
-            && source.read(&mut into) == Got::End
     );
     Ok(())
 }
@@ -182,11 +195,12 @@ impl Write for Faltering {
 #[test]
 fn a_sink_over_a_writer_tells_how_much_it_took(rt: HostRuntime) -> Result<(), Fail> {
     let mut sink = StdSink::new(Faltering { calls: 0 });
-    assert!(rt;
-        sink.write(b"abc".as_slice()) == Put::Took(2)
-            && sink.write(b"c".as_slice()) == Put::Failed
-            && sink.write(b"c".as_slice()) == Put::Failed
-    );
+    let told = [
+        sink.write(b"abc".as_slice()),
+        sink.write(b"c".as_slice()),
+        sink.write(b"c".as_slice()),
+    ];
+    assert!(rt; told == [Put::Took(2), Put::Failed, Put::Failed]);
     Ok(())
 }
 

@@ -15,15 +15,23 @@ fn the_table_is_told(rt: HostRuntime) -> Result<(), Fail> {
             && may_be_absent(Symbol::MaybeHead)
             && !may_be_absent(Symbol::Value)
     );
-    assert_eq!(rt;
-        starts(Symbol::Value, TokenKind::Number),
-        Some([].as_slice())
+    Ok(())
+}
+
+#[test]
+fn a_value_may_start_with_a_number_and_with_no_comma(rt: HostRuntime) -> Result<(), Fail> {
+    assert!(rt;
+        starts(Symbol::Value, TokenKind::Number) == Some([].as_slice())
+            && starts(Symbol::Value, TokenKind::Comma).is_none()
     );
-    assert_eq!(rt; starts(Symbol::Value, TokenKind::Comma), None);
+    Ok(())
+}
+
+#[test]
+fn the_laws_are_calls_that_do_nothing() {
     accepted_is_text();
     refused_has_no_text();
     taken_has_text();
     text_has_one_derivation();
     examples_are_told();
-    Ok(())
 }

@@ -1,4 +1,4 @@
-//! Calls of tables, maps, grammars and files, each once with ample memory and with answers from the rules; no part of the program.
+//! Calls of tables, maps, grammars, texts of values and files, each once with ample memory and with answers from the rules; no part of the program.
 #![tactic(auto)]
 
 #[cfg(test)]
@@ -21,5 +21,7 @@ mod names;
 mod ordered_tables;
 #[cfg(test)]
 mod shared_copies;
+#[cfg(test)]
+mod values_back;
 #[cfg(test)]
 mod variants;

@@ -1,25 +1,44 @@
 // Each call with ample memory.
 use plain_data::{Items, Text, copy, same};
+use std::alloc::Global;
 use std::test::Fail;
+
+// The list of 3 and 5.
+fn two_items(alloc: Global) -> Result<Items<u64>, Fail> {
+    let mut list = Items::new(alloc);
+    list.push(3)?;
+    list.push(5)?;
+    Ok(list)
+}
 
 #[test]
 fn a_list_keeps_its_items_in_order(rt: HostRuntime) -> Result<(), Fail> {
-    let alloc = rt.alloc();
-    let mut list: Items<u64> = Items::new(alloc);
-    assert!(rt; list.is_empty());
-    list.push(3)?;
-    list.push(5)?;
+    let none: Items<u64> = Items::new(rt.alloc());
+    let list = two_items(rt.alloc())?;
     assert!(rt;
-        list.len() == 2
+        none.is_empty()
+            && list.len() == 2
             && list.as_slice() == [3, 5].as_slice()
             && list.get(1) == Some(&5)
             && list.get(2).is_none()
             && list.iter().count() == 2
     );
+    Ok(())
+}
+
+#[test]
+fn a_copy_of_a_list_has_its_items(rt: HostRuntime) -> Result<(), Fail> {
+    let list = two_items(rt.alloc())?;
     let again = list.copy()?;
-    assert!(rt; list.same(&again) && same(&list, &copy(&again)?));
+    let copied = copy(&again)?;
     let roomy: Items<u64> = Items::with_room_of(&list)?;
-    assert!(rt; !list.same(&roomy));
+    assert!(rt; list.same(&again) && same(&list, &copied) && !list.same(&roomy));
+    Ok(())
+}
+
+#[test]
+fn a_list_gives_its_items_back_from_the_end(rt: HostRuntime) -> Result<(), Fail> {
+    let again = two_items(rt.alloc())?;
     let mut shorter = again.copy()?;
     assert!(rt;
         shorter.pop() == Some(5)
@@ -33,18 +52,26 @@ fn a_list_keeps_its_items_in_order(rt: HostRuntime) -> Result<(), Fail> {
 
 #[test]
 fn a_text_keeps_its_bytes(rt: HostRuntime) -> Result<(), Fail> {
-    let alloc = rt.alloc();
-    let mut text = Text::new(alloc);
-    assert!(rt; text.is_empty());
+    let mut text = Text::new(rt.alloc());
+    let begins_empty = text.is_empty();
     text.push_str("sce")?;
     text.push('n')?;
     text.push('e')?;
     assert!(rt;
-        text.as_str() == "scene" && text.as_bytes() == b"scene".as_slice() && text.len() == 5
+        begins_empty
+            && text.as_str() == "scene"
+            && text.as_bytes() == b"scene".as_slice()
+            && text.len() == 5
     );
-    let again = Text::of(alloc, "scene")?;
-    assert!(rt;
-        same(&text, &again) && same(&copy(&text)?, &Text::from_string(again.into_string()))
-    );
+    Ok(())
+}
+
+#[test]
+fn a_copy_of_a_text_has_its_bytes(rt: HostRuntime) -> Result<(), Fail> {
+    let mut text = Text::new(rt.alloc());
+    text.push_str("scene")?;
+    let again = Text::of(rt.alloc(), "scene")?;
+    let copied = copy(&text)?;
+    assert!(rt; same(&text, &again) && same(&copied, &Text::from_string(again.into_string())));
     Ok(())
 }

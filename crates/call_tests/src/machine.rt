@@ -4,23 +4,33 @@ use std::test::Fail;
 use usda_grammar::{Keyword, Symbol, TokenKind};
 use usda_machine::{is_done, push_all, step};
 
-// over "name" { }
+// over "name" { }: each token with the symbol that takes it.
+const PRIM: [(TokenKind, Symbol); 4] = [
+    (TokenKind::Word(Keyword::Specifier), Symbol::RootStatements),
+    (TokenKind::Quoted, Symbol::PrimName),
+    (TokenKind::OpenBrace, Symbol::OpenBrace),
+    (TokenKind::CloseBrace, Symbol::BodyEnd),
+];
+
+// Whether the prim is taken token by token.
+fn takes_prim(stack: &mut Items<Symbol>) -> Result<bool, Fail> {
+    for (kind, symbol) in PRIM {
+        if step(stack, kind)? != Some(symbol) {
+            return Ok(false);
+        }
+    }
+    Ok(true)
+}
+
 #[test]
 fn a_prim_is_taken_token_by_token(rt: HostRuntime) -> Result<(), Fail> {
     let mut stack = Items::new(rt.alloc());
     push_all(&mut stack, &[Symbol::MaybeHead, Symbol::RootStatements])?;
-    for (kind, symbol) in [
-        (TokenKind::Word(Keyword::Specifier), Symbol::RootStatements),
-        (TokenKind::Quoted, Symbol::PrimName),
-        (TokenKind::OpenBrace, Symbol::OpenBrace),
-        (TokenKind::CloseBrace, Symbol::BodyEnd),
-    ] {
-        assert!(rt; step(&mut stack, kind)? == Some(symbol));
-    }
-    assert!(rt; is_done(&mut stack));
+    let taken = takes_prim(&mut stack)?;
+    let done = is_done(&mut stack);
     push_all(&mut stack, &[Symbol::Value])?;
-    assert!(rt; step(&mut stack, TokenKind::Comma)?.is_none());
+    let refused = step(&mut stack, TokenKind::Comma)?;
     push_all(&mut stack, &[Symbol::Value])?;
-    assert!(rt; !is_done(&mut stack));
+    assert!(rt; taken && done && refused.is_none() && !is_done(&mut stack));
     Ok(())
 }

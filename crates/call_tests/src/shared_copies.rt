@@ -1,26 +1,57 @@
 // Each call with ample memory, and copies that stay as they were.
 use plain_data::{copy, same};
 use shared_tables::SharedTable;
+use std::alloc::Global;
 use std::test::Fail;
 
-#[test]
-fn a_table_keeps_its_entries_in_the_order_of_keys(rt: HostRuntime) -> Result<(), Fail> {
-    let mut table: SharedTable<u64, u64> = SharedTable::new(rt.alloc());
-    assert!(rt; table.is_empty() && table.iter().next().is_none());
+// The table of 3, 5 and 9, where what 5 had at first was replaced.
+fn three_entries(alloc: Global) -> Result<SharedTable<u64, u64>, Fail> {
+    let mut table = SharedTable::new(alloc);
     table.insert(5, 50)?;
     table.insert(3, 30)?;
     table.insert(9, 90)?;
     table.insert(5, 55)?;
+    Ok(table)
+}
+
+// The table of 3 and 5.
+fn two_entries(alloc: Global) -> Result<SharedTable<u64, u64>, Fail> {
+    let mut table = SharedTable::new(alloc);
+    table.insert(3, 30)?;
+    table.insert(5, 50)?;
+    Ok(table)
+}
+
+#[test]
+fn a_table_begins_empty(rt: HostRuntime) -> Result<(), Fail> {
+    let table: SharedTable<u64, u64> = SharedTable::new(rt.alloc());
+    assert!(rt; table.is_empty() && table.iter().next().is_none());
+    Ok(())
+}
+
+#[test]
+fn entries_are_found_by_their_keys(rt: HostRuntime) -> Result<(), Fail> {
+    let table = three_entries(rt.alloc())?;
     assert!(rt;
         !table.is_empty()
-            && table.iter().count() == 3
             && table.get(&5) == Some(&55)
             && table.get(&4).is_none()
             && table.has(&9)
             && !table.has(&10)
+    );
+    Ok(())
+}
+
+#[test]
+fn entries_stand_in_the_order_of_keys(rt: HostRuntime) -> Result<(), Fail> {
+    let table = three_entries(rt.alloc())?;
+    assert!(rt;
+        table.iter().count() == 3
             && table.iter().next() == Some((&3, &30))
             && table.iter_from(&4).next() == Some((&5, &55))
-            && table.iter_from(&5).count() == 2
+    );
+    assert!(rt;
+        table.iter_from(&5).count() == 2
             && table.iter_from(&9).count() == 1
             && table.iter_from(&10).next().is_none()
     );
@@ -28,70 +59,138 @@ fn a_table_keeps_its_entries_in_the_order_of_keys(rt: HostRuntime) -> Result<(),
 }
 
 #[test]
-fn an_exchange_and_a_removal_change_one_entry(rt: HostRuntime) -> Result<(), Fail> {
-    let mut table: SharedTable<u64, u64> = SharedTable::new(rt.alloc());
-    table.insert(3, 30)?;
-    table.insert(5, 50)?;
+fn an_exchange_changes_one_entry(rt: HostRuntime) -> Result<(), Fail> {
+    let mut table = two_entries(rt.alloc())?;
     let before = copy(&table)?;
+    let equal_at_first = same(&table, &before);
+    let given = table.exchange(&5, 51)?;
+    let absent = table.exchange(&4, 40)?;
     assert!(rt;
-        same(&table, &before)
-            && table.exchange(&5, 51)? == Some(50)
-            && table.exchange(&4, 40)?.is_none()
+        equal_at_first
+            && given == Some(50)
+            && absent.is_none()
             && !same(&table, &before)
             && !same(&before, &table)
-            && table.remove(&3)?
-            && !table.remove(&3)?
-            && table.iter().count() == 1
-            && table.get(&5) == Some(&51)
-            && before.iter().count() == 2
-            && before.get(&5) == Some(&50)
-            && before.has(&3)
     );
     Ok(())
 }
 
 #[test]
-fn a_copy_of_many_entries_stays_as_it_was(rt: HostRuntime) -> Result<(), Fail> {
-    let mut table: SharedTable<u64, u64> = SharedTable::new(rt.alloc());
+fn a_removal_takes_one_entry_and_none_of_a_copy(rt: HostRuntime) -> Result<(), Fail> {
+    let mut table = two_entries(rt.alloc())?;
+    let before = copy(&table)?;
+    table.exchange(&5, 51)?;
+    let taken = table.remove(&3)?;
+    let taken_again = table.remove(&3)?;
+    assert!(rt; taken && !taken_again && table.iter().count() == 1 && table.get(&5) == Some(&51));
+    assert!(rt; before.iter().count() == 2 && before.get(&5) == Some(&50) && before.has(&3));
+    Ok(())
+}
+
+// The table of the numbers below 1000, each with itself.
+fn thousand_entries(alloc: Global) -> Result<SharedTable<u64, u64>, Fail> {
+    let mut table = SharedTable::new(alloc);
     for key in 0..1000 {
         table.insert(key, key)?;
     }
-    let before = copy(&table)?;
+    Ok(table)
+}
+
+// Replaces the upper half by zeros, and adds as many entries.
+fn overwrite_upper_half(table: &mut SharedTable<u64, u64>) -> Result<(), Fail> {
     for key in 500..1500 {
         table.insert(key, 0)?;
     }
+    Ok(())
+}
+
+// Whether each fourth number below 1000 had an entry, which is taken.
+fn take_each_fourth(table: &mut SharedTable<u64, u64>) -> Result<bool, Fail> {
     for key in 0..250 {
-        assert!(rt; table.remove(&(4 * key))?);
+        if !table.remove(&(4 * key))? {
+            return Ok(false);
+        }
     }
-    let mut expected = 0;
-    for (key, value) in before.iter() {
-        assert!(rt; *key == expected && *value == expected);
+    Ok(true)
+}
+
+// Whether the entries are the numbers below 1000 in order, each with itself.
+fn is_gone_over_in_order(table: &SharedTable<u64, u64>) -> bool {
+    let mut expected: u64 = 0;
+    for (key, value) in table.iter() {
+        if *key != expected || *value != expected {
+            return false;
+        }
         expected = expected.saturating_add(1);
     }
-    assert!(rt; expected == 1000);
+    expected == 1000
+}
+
+// Whether each number below 1000 has itself in the one table, and all but each fourth an entry in the other.
+fn are_found(before: &SharedTable<u64, u64>, after: &SharedTable<u64, u64>) -> bool {
     for key in 0..1000 {
-        assert!(rt; before.get(&key) == Some(&key) && table.has(&key) == (key % 4 != 0));
+        if before.get(&key) != Some(&key) || after.has(&key) != (key % 4 != 0) {
+            return false;
+        }
     }
+    true
+}
+
+#[test]
+fn a_copy_of_many_entries_stays_as_it_was(rt: HostRuntime) -> Result<(), Fail> {
+    let mut table = thousand_entries(rt.alloc())?;
+    let before = copy(&table)?;
+    overwrite_upper_half(&mut table)?;
+    let taken = take_each_fourth(&mut table)?;
+    assert!(rt; taken && is_gone_over_in_order(&before) && are_found(&before, &table));
     assert!(rt;
         table.iter().count() == 1250 && table.get(&1499) == Some(&0) && !same(&table, &before)
     );
     Ok(())
 }
 
+// The table of the numbers below 257, as they are inserted: rising, falling and mixed.
+fn rising(alloc: Global) -> Result<SharedTable<u64, u64>, Fail> {
+    let mut table = SharedTable::new(alloc);
+    for key in 0..257 {
+        table.insert(key, 7)?;
+    }
+    Ok(table)
+}
+
+fn falling(alloc: Global) -> Result<SharedTable<u64, u64>, Fail> {
+    let mut table = SharedTable::new(alloc);
+    for key in 0..257 {
+        table.insert(256 - key, 7)?;
+    }
+    Ok(table)
+}
+
+fn mixed(alloc: Global) -> Result<SharedTable<u64, u64>, Fail> {
+    let mut table = SharedTable::new(alloc);
+    for key in 0..257 {
+        table.insert((key * 101) % 257, 7)?;
+    }
+    Ok(table)
+}
+
+// Whether each of the numbers below 257 had an entry, which is taken.
+fn take_all(table: &mut SharedTable<u64, u64>) -> Result<bool, Fail> {
+    for key in 0..257 {
+        if !table.remove(&((key * 55) % 257))? {
+            return Ok(false);
+        }
+    }
+    Ok(true)
+}
+
 #[test]
 fn keys_in_any_order_end_in_order(rt: HostRuntime) -> Result<(), Fail> {
-    let mut rising: SharedTable<u64, u64> = SharedTable::new(rt.alloc());
-    let mut falling: SharedTable<u64, u64> = SharedTable::new(rt.alloc());
-    let mut mixed: SharedTable<u64, u64> = SharedTable::new(rt.alloc());
-    for key in 0..257 {
-        rising.insert(key, 7)?;
-        falling.insert(256 - key, 7)?;
-        mixed.insert((key * 101) % 257, 7)?;
-    }
-    assert!(rt; same(&rising, &falling) && same(&rising, &mixed));
-    for key in 0..257 {
-        assert!(rt; mixed.remove(&((key * 55) % 257))?);
-    }
-    assert!(rt; mixed.is_empty());
+    let rising = rising(rt.alloc())?;
+    let falling = falling(rt.alloc())?;
+    let mut mixed = mixed(rt.alloc())?;
+    let equal = same(&rising, &falling) && same(&rising, &mixed);
+    let taken = take_all(&mut mixed)?;
+    assert!(rt; equal && taken && mixed.is_empty());
     Ok(())
 }

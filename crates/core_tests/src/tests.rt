@@ -2,7 +2,7 @@ use crate::Toy;
 use change_core::{Core, EditReply, PublishReply};
 use std::test::Fail;
 
-// The version, the number of batches and the places of a stage, as one text.
+// The version, the number of batches and the number of places of a stage.
 fn told(reply: &PublishReply<Toy>) -> (u64, u64, usize) {
     match reply {
         PublishReply::Published { edition } => {
@@ -12,27 +12,61 @@ fn told(reply: &PublishReply<Toy>) -> (u64, u64, usize) {
     }
 }
 
+// Whether the stage that is published now has this version, after so many batches, and so many places.
+fn publishes(core: &mut Core<Toy>, stage: (u64, u64, usize)) -> Result<bool, Fail> {
+    Ok(told(&core.publish(0)?) == stage)
+}
+
+// Whether the batch with this world is accepted as the one of this number.
+fn accepts(core: &mut Core<Toy>, world: u64, number: u64) -> Result<bool, Fail> {
+    match core.edit(0, Some(world))? {
+        EditReply::Accepted { number: given } => Ok(given == number),
+        _ => Ok(false),
+    }
+}
+
+// Whether the batch with no world is refused as it has to be.
+fn refuses(core: &mut Core<Toy>) -> Result<bool, Fail> {
+    Ok(matches!(core.edit(0, None)?, EditReply::Refused { op: 1, fault: 7 }))
+}
+
 #[test]
 fn a_batch_counts_from_one_and_a_refused_one_changes_nothing(rt: HostRuntime) -> Result<(), Fail> {
     let mut core = Core::new(rt.alloc(), Toy, 3, 1)?;
-    assert!(rt; told(&core.publish(0)?) == (0, 0, 2));
-    assert!(rt; matches!(core.edit(0, None)?, EditReply::Refused { op: 1, fault: 7 }));
-    assert!(rt; told(&core.publish(0)?) == (1, 0, 2));
-    assert!(rt; matches!(core.edit(0, Some(0))?, EditReply::Accepted { number: 1 }));
-    assert!(rt; told(&core.publish(0)?) == (2, 1, 1));
-    assert!(rt; matches!(core.edit(0, Some(5))?, EditReply::Accepted { number: 2 }));
-    assert!(rt; told(&core.publish(0)?) == (3, 2, 2));
+    assert!(rt;
+        publishes(&mut core, (0, 0, 2))?
+            && refuses(&mut core)?
+            && publishes(&mut core, (1, 0, 2))?
+            && accepts(&mut core, 0, 1)?
+            && publishes(&mut core, (2, 1, 1))?
+            && accepts(&mut core, 5, 2)?
+            && publishes(&mut core, (3, 2, 2))?
+    );
     Ok(())
+}
+
+// Whether the history has no room for a batch.
+fn is_full(core: &mut Core<Toy>, world: u64) -> Result<bool, Fail> {
+    Ok(matches!(core.edit(0, Some(world))?, EditReply::JournalFull))
+}
+
+// Whether the history has room for so many batches, which are made.
+fn has_room_for(core: &mut Core<Toy>, batches: u64) -> Result<bool, Fail> {
+    for world in 0..batches {
+        if is_full(core, world)? {
+            return Ok(false);
+        }
+    }
+    Ok(true)
 }
 
 #[test]
 fn the_history_takes_65536_edit_calls(rt: HostRuntime) -> Result<(), Fail> {
     let mut core = Core::new(rt.alloc(), Toy, 0, 1)?;
-    for i in 0..65_536u64 {
-        let reply = core.edit(0, Some(i))?;
-        assert!(rt; !matches!(reply, EditReply::JournalFull));
-    }
-    assert!(rt; matches!(core.edit(0, Some(9))?, EditReply::JournalFull));
-    assert!(rt; told(&core.publish(0)?) == (0, 65_536, 2));
+    assert!(rt;
+        has_room_for(&mut core, 65_536)?
+            && is_full(&mut core, 9)?
+            && publishes(&mut core, (0, 65_536, 2))?
+    );
     Ok(())
 }

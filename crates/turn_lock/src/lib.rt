@@ -6,8 +6,6 @@ mod calls;
 mod desk;
 mod rule;
 mod seat;
-#[cfg(test)]
-mod tests;
 mod view;
 
 pub use desk::{Desk, SplitRefused};

@@ -6,8 +6,6 @@ mod book;
 mod entry;
 mod many;
 mod pair;
-#[cfg(test)]
-mod tests;
 mod turns;
 
 pub use book::Book;

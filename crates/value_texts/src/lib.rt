@@ -15,6 +15,3 @@ pub use laws::{
     sources_are_read, tokens_are_meant, typed_values_are_read, types_are_read, values_are_given,
     values_are_read, values_are_tokens, values_are_words, values_follow_the_grammar,
 };
-
-#[cfg(test)]
-mod tests;

@@ -1,8 +1,7 @@
 ghost use Rattle.std.specs.Prelude.{◌≡◌};
 
-use crate::{Desk, Journalled, SplitRefused};
-use std::alloc::AllocError;
 use std::test::Fail;
+use turn_lock::{Desk, Journalled, SplitRefused};
 
 // A value with a list of who had it.
 #[derive(Drop)]

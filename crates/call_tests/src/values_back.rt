@@ -1,9 +1,9 @@
-//! Values through their texts and back.
-use crate::{dictionary_printed_and_read, printed_and_read};
+// Values through their texts and back.
 use plain_data::{Items, Text};
 use sdf_values::{Decimal, DictItem, DictType, ElementType, Num, TypeName, Value};
 use std::test::Fail;
 use usda_values::Shape;
+use value_texts::{dictionary_printed_and_read, printed_and_read};
 
 #[test]
 fn a_whole_number_comes_back(rt: HostRuntime) -> Result<(), Fail> {

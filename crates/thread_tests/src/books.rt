@@ -1,5 +1,5 @@
-use crate::{Book, write_by_many, write_by_two};
 use std::test::Fail;
+use turn_writers::{Book, write_by_many, write_by_two};
 
 // Whether the entries of this seat count up from 0, and how many it has.
 fn counted(book: &Book, by: u64) -> Option<u64> {

@@ -11,7 +11,7 @@ use Rattle.value_texts.specs.Readable.{is_read_as}
 use Rattle.value_texts.specs.Writable.{is_writable}
 use Rattle.value_texts.proofs.Values.{of_whole, of_dict, of_item}
 use Rattle.value_texts.proofs.ReadingSteps.{reads_whole, reads_dict}
-use Rattle.value_texts.proofs.tests.a_dictionary_comes_back.Goals as goal
+use Rattle.call_tests.proofs.values_back.a_dictionary_comes_back.Goals as goal
 
 only : List DictItem
 only = entry (codes "a") (plain element.Int) (value.Whole (pos 1)) ∷ []

@@ -1,6 +1,6 @@
 use Rattle.usda_values.specs.Scalars.{decimal_of_whole, tens_out}
 use Rattle.value_texts.proofs.Values.{of_whole}
-use Rattle.value_texts.proofs.tests.a_whole_number_comes_back.Goals as goal
+use Rattle.call_tests.proofs.values_back.a_whole_number_comes_back.Goals as goal
 
 pub printed_and_read-requires-clause-writable : goal.printed_and_read-requires-clause-writable
 unfolding decimal_of_whole tens_out

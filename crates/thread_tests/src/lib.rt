@@ -1,0 +1,7 @@
+//! Threads that take turns, on real ones; no part of the program.
+#![tactic(auto)]
+
+#[cfg(test)]
+mod books;
+#[cfg(test)]
+mod desks;
