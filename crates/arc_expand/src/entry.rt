@@ -1,5 +1,5 @@
 // Entries of lists of arcs as layers write them, and the items that they stand for.
-ghost use Rattle.std.specs.Prelude.{◌≡◌, IfOk, map, option_map};
+ghost use Rattle.std.specs.Prelude.{◌≡◌, IfOk, OnOk, map, option_map};
 ghost use Rattle.composition.specs.Texts.{Text};
 ghost use Rattle.composition.specs.Arcs.{Item, source_of, class_item, reference_item, map_op};
 ghost use Rattle.sdf_values.specs.Scales.{Offset};
@@ -116,6 +116,66 @@ fn explicit_items<T: Entry>(
     }
 }
 
+/// The items of the explicit list, if there is one, and those that are deleted, in the place of others.
+fn put_explicit<T: Entry>(
+    alloc: Global,
+    layer: &AssetId,
+    offset: LayerOffset,
+    op: &ListOp<T>,
+    edit: &mut ListOp<OrderedItem>,
+) -> Result<(), AllocError>
+    ensures { OnOk result (edit.new ≡ record edit.old { explicit = option_map (map (T.item_of layer.now offset)) op.now.explicit; deleted = map (T.item_of layer.now offset) op.now.deleted }) }
+{
+    edit.explicit = explicit_items(alloc, layer, offset, &op.explicit)?;
+    edit.deleted = items(alloc, layer, offset, &op.deleted)?;
+    Ok(())
+}
+
+/// The items that are added and those that are prepended, in the place of others.
+fn put_added<T: Entry>(
+    alloc: Global,
+    layer: &AssetId,
+    offset: LayerOffset,
+    op: &ListOp<T>,
+    edit: &mut ListOp<OrderedItem>,
+) -> Result<(), AllocError>
+    ensures { OnOk result (edit.new ≡ record edit.old { added = map (T.item_of layer.now offset) op.now.added; prepended = map (T.item_of layer.now offset) op.now.prepended }) }
+{
+    edit.added = items(alloc, layer, offset, &op.added)?;
+    edit.prepended = items(alloc, layer, offset, &op.prepended)?;
+    Ok(())
+}
+
+/// The items that are appended and those that are ordered, in the place of others.
+fn put_appended<T: Entry>(
+    alloc: Global,
+    layer: &AssetId,
+    offset: LayerOffset,
+    op: &ListOp<T>,
+    edit: &mut ListOp<OrderedItem>,
+) -> Result<(), AllocError>
+    ensures { OnOk result (edit.new ≡ record edit.old { appended = map (T.item_of layer.now offset) op.now.appended; ordered = map (T.item_of layer.now offset) op.now.ordered }) }
+{
+    edit.appended = items(alloc, layer, offset, &op.appended)?;
+    edit.ordered = items(alloc, layer, offset, &op.ordered)?;
+    Ok(())
+}
+
+/// The items of all lists, in the place of others.
+fn put_all<T: Entry>(
+    alloc: Global,
+    layer: &AssetId,
+    offset: LayerOffset,
+    op: &ListOp<T>,
+    edit: &mut ListOp<OrderedItem>,
+) -> Result<(), AllocError>
+    ensures { OnOk result (edit.new ≡ map_op (T.item_of layer.now offset) op.now) }
+{
+    put_explicit(alloc, layer, offset, op, edit)?;
+    put_added(alloc, layer, offset, op, edit)?;
+    put_appended(alloc, layer, offset, op, edit)
+}
+
 /// The edit, item by item: deletes and reorders name items like the others.
 pub fn edit<T: Entry>(
     alloc: Global,
@@ -125,12 +185,12 @@ pub fn edit<T: Entry>(
 ) -> Result<ListOp<OrderedItem>, AllocError>
     ensures { IfOk result (λ edit. edit ≡ map_op (T.item_of layer.now offset) op.now) }
 {
-    Ok(ListOp {
-        explicit: explicit_items(alloc, layer, offset, &op.explicit)?,
-        deleted: items(alloc, layer, offset, &op.deleted)?,
-        added: items(alloc, layer, offset, &op.added)?,
-        prepended: items(alloc, layer, offset, &op.prepended)?,
-        appended: items(alloc, layer, offset, &op.appended)?,
-        ordered: items(alloc, layer, offset, &op.ordered)?,
-    })
+    let mut edit = ListOp::new(alloc);
+    match put_all(alloc, layer, offset, op, &mut edit) {
+        Ok(()) => Ok(edit),
+        Err(error) => {
+            drop(edit);
+            Err(error)
+        }
+    }
 }

@@ -38,13 +38,19 @@ fn with_head_entry(head: Head, key: Text, value: Option<Value>) -> Result<Head, 
         root_names,
         root_order,
     } = head;
-    Ok(Head {
-        sublayers,
-        default_prim,
-        meta: with_entry(meta, key, value)?,
-        root_names,
-        root_order,
-    })
+    match with_entry(meta, key, value) {
+        Ok(meta) => Ok(Head {
+            sublayers,
+            default_prim,
+            meta,
+            root_names,
+            root_order,
+        }),
+        Err(error) => {
+            drop((sublayers, default_prim, root_names, root_order));
+            Err(error)
+        }
+    }
 }
 
 fn change_head(

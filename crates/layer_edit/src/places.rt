@@ -92,7 +92,7 @@ fn take_spec(alloc: Global, layer: &mut Layer, path: &Path) -> Result<Option<Spe
 fn put_spec(layer: &mut Layer, path: &Path, spec: Spec) -> Result<(), AllocError>
     ensures { OnOk result (layer.new ≡ record layer.old { specs = with_spec_for path.now spec layer.old.specs }) }
 {
-    layer.replace(path, spec)?;
+    drop(layer.replace(path, spec)?);
     Ok(())
 }
 

@@ -23,8 +23,16 @@ fn renamed_roots(alloc: Global, head: Head, change: NameChange) -> Result<Head, 
 {
     let mut head = head;
     let before = mem::replace(&mut head.root_names, Items::new(alloc));
-    head.root_names = change_names(alloc, before, change)?;
-    Ok(head)
+    match change_names(alloc, before, change) {
+        Ok(names) => {
+            head.root_names = names;
+            Ok(head)
+        }
+        Err(error) => {
+            drop(head);
+            Err(error)
+        }
+    }
 }
 
 fn rename_roots(alloc: Global, layer: &mut Layer, change: NameChange) -> Result<(), AllocError>
@@ -107,14 +115,21 @@ fn put_new_spec(alloc: Global, layer: &mut Layer, path: &Path, spec: Spec) -> Re
     requires owned { has_parent path.now layer.old.specs ≡ true }
     ensures { Does result layer.old layer.new (Ok (with_new_spec path.now spec layer.old)) }
 {
-    let owner = above(alloc, path)?;
-    match layer.put(path, spec) {
-        Ok(()) => (),
-        Err(PutRefused::NoParent) => unreachable!(),
-        Err(PutRefused::NoMemory) => return Err(OpRefused::NoMemory),
+    match above(alloc, path) {
+        Ok(owner) => {
+            match layer.put(path, spec) {
+                Ok(()) => (),
+                Err(PutRefused::NoParent) => unreachable!(),
+                Err(PutRefused::NoMemory) => return Err(OpRefused::NoMemory),
+            }
+            enlist(alloc, layer, &owner, path)?;
+            Ok(())
+        }
+        Err(_) => {
+            drop(spec);
+            Err(OpRefused::NoMemory)
+        }
     }
-    enlist(alloc, layer, &owner, path)?;
-    Ok(())
 }
 
 fn prim_spec(alloc: Global, specifier: Specifier, type_name: Option<Text>) -> Spec

@@ -59,14 +59,22 @@ pub fn with_entry(meta: Meta, key: Text, value: Option<Value>) -> Result<Meta, A
 {
     let mut meta = meta;
     match value {
-        Some(value) => {
-            meta.insert(key, value)?;
-        }
+        Some(value) => match meta.insert(key, value) {
+            Ok(before) => {
+                drop(before);
+                Ok(meta)
+            }
+            Err(error) => {
+                drop(meta);
+                Err(error)
+            }
+        },
         None => {
-            meta.remove(&key);
+            drop(meta.remove(&key));
+            drop(key);
+            Ok(meta)
         }
     }
-    Ok(meta)
 }
 
 fn with_targets(alloc: Global, property: Property, edit: ListEdit, items: Items<Path>) -> Property
@@ -148,19 +156,30 @@ fn with_sample(property: Property, time: TimeCode, value: Value) -> Result<Prope
             meta,
         } => {
             let mut samples = samples;
-            samples.insert(time, value)?;
-            Ok(Property::Attr {
-                name,
-                ty,
-                custom,
-                uniform,
-                default,
-                samples,
-                connections,
-                meta,
-            })
+            match samples.insert(time, value) {
+                Ok(before) => {
+                    drop(before);
+                    Ok(Property::Attr {
+                        name,
+                        ty,
+                        custom,
+                        uniform,
+                        default,
+                        samples,
+                        connections,
+                        meta,
+                    })
+                }
+                Err(error) => {
+                    drop((name, default, samples, connections, meta));
+                    Err(error)
+                }
+            }
         }
-        relationship => Ok(relationship),
+        relationship => {
+            drop(value);
+            Ok(relationship)
+        }
     }
 }
 
@@ -179,7 +198,7 @@ fn without_sample(property: Property, time: TimeCode) -> Property
             meta,
         } => {
             let mut samples = samples;
-            samples.remove(&time);
+            drop(samples.remove(&time));
             Property::Attr {
                 name,
                 ty,
@@ -212,27 +231,39 @@ fn with_property_entry(
             samples,
             connections,
             meta,
-        } => Ok(Property::Attr {
-            name,
-            ty,
-            custom,
-            uniform,
-            default,
-            samples,
-            connections,
-            meta: with_entry(meta, key, value)?,
-        }),
+        } => match with_entry(meta, key, value) {
+            Ok(meta) => Ok(Property::Attr {
+                name,
+                ty,
+                custom,
+                uniform,
+                default,
+                samples,
+                connections,
+                meta,
+            }),
+            Err(error) => {
+                drop((name, default, samples, connections));
+                Err(error)
+            }
+        },
         Property::Rel {
             name,
             custom,
             targets,
             meta,
-        } => Ok(Property::Rel {
-            name,
-            custom,
-            targets,
-            meta: with_entry(meta, key, value)?,
-        }),
+        } => match with_entry(meta, key, value) {
+            Ok(meta) => Ok(Property::Rel {
+                name,
+                custom,
+                targets,
+                meta,
+            }),
+            Err(error) => {
+                drop((name, targets));
+                Err(error)
+            }
+        },
     }
 }
 

@@ -67,10 +67,10 @@ fn select(spec: &mut Spec, set: Text, variant: Option<Text>) -> Result<(), Alloc
 {
     match variant {
         Some(variant) => {
-            spec.arcs.selections.insert(set, variant)?;
+            drop(spec.arcs.selections.insert(set, variant)?);
         }
         None => {
-            spec.arcs.selections.remove(&set);
+            drop(spec.arcs.selections.remove(&set));
         }
     }
     Ok(())
@@ -117,14 +117,14 @@ fn rename_variants(alloc: Global, spec: &mut Spec, change: VariantChange) -> Res
 fn put_property(spec: &mut Spec, property: Property) -> Result<(), AllocError>
     ensures { OnOk result (spec.new ≡ with_properties (with_property property spec.old.body.properties) spec.old) }
 {
-    spec.body.properties.insert(property)?;
+    drop(spec.body.properties.insert(property)?);
     Ok(())
 }
 
 fn drop_property(spec: &mut Spec, name: &Text)
     ensures { spec.new ≡ with_properties (without_property name.now spec.old.body.properties) spec.old }
 {
-    spec.body.properties.remove(name);
+    drop(spec.body.properties.remove(name));
 }
 
 fn change_property(
@@ -138,10 +138,13 @@ fn change_property(
     match spec.body.properties.take(name)? {
         Some(property) => {
             let property = changed_property(alloc, property, change)?;
-            spec.body.properties.insert(property)?;
+            drop(spec.body.properties.insert(property)?);
             Ok(())
         }
-        None => Ok(()),
+        None => {
+            drop(change);
+            Ok(())
+        }
     }
 }
 

@@ -1,10 +1,14 @@
 // The composed prim: copies that are the value itself, and equality that tells every two apart.
-ghost use Rattle.std.specs.Prelude.{◌≡◌, ◌↔◌, IsTrue};
+ghost use Rattle.std.specs.Prelude.{◌≡◌, ◌↔◌, IsTrue, IfOk, OnOk};
 
 use crate::site::Site;
 use crate::view::{PrimView, PropertyView};
-use plain_data::{ExactClone, ExactEq, Text, copy, same};
-use std::alloc::AllocError;
+use plain_data::{ExactClone, ExactEq, Items, Text, copy, same};
+use sdf_paths::Path;
+use sdf_values::Value;
+use spec_parts::Specifier;
+use spec_properties::{Meta, Samples};
+use std::alloc::{AllocError, Global};
 
 impl Clone for Site {
     ghost use Rattle.std.specs.Prelude.{◌≡◌};
@@ -67,6 +71,59 @@ fn same_site(a: &Site, b: &Site) -> bool
         && a.has_spec == b.has_spec
 }
 
+/// A copy of the values of an attribute.
+fn copied_values(
+    default: &Option<Value>,
+    samples: &Samples,
+) -> Result<(Option<Value>, Samples), AllocError>
+    ensures { IfOk result (λ both. both ≡ (default.now, samples.now)) }
+{
+    let default = copy(default)?;
+    match copy(samples) {
+        Ok(samples) => Ok((default, samples)),
+        Err(error) => {
+            drop(default);
+            Err(error)
+        }
+    }
+}
+
+/// A copy of the paths and the metadata of a property.
+fn copied_paths(
+    paths: &Option<Items<Path>>,
+    meta: &Meta,
+) -> Result<(Option<Items<Path>>, Meta), AllocError>
+    ensures { IfOk result (λ both. both ≡ (paths.now, meta.now)) }
+{
+    let paths = copy(paths)?;
+    match copy(meta) {
+        Ok(meta) => Ok((paths, meta)),
+        Err(error) => {
+            drop(paths);
+            Err(error)
+        }
+    }
+}
+
+/// A copy of what an attribute has beside its name and its flags.
+fn copied_content(
+    default: &Option<Value>,
+    samples: &Samples,
+    connections: &Option<Items<Path>>,
+    meta: &Meta,
+) -> Result<((Option<Value>, Samples), (Option<Items<Path>>, Meta)), AllocError>
+    ensures { IfOk result (λ all. all ≡ ((default.now, samples.now), (connections.now, meta.now))) }
+{
+    let values = copied_values(default, samples)?;
+    match copied_paths(connections, meta) {
+        Ok(paths) => Ok((values, paths)),
+        Err(error) => {
+            drop(values);
+            Err(error)
+        }
+    }
+}
+
 impl Clone for PropertyView {
     ghost use Rattle.std.specs.Prelude.{◌≡◌};
 
@@ -83,27 +140,45 @@ impl Clone for PropertyView {
                 samples,
                 connections,
                 meta,
-            } => Ok(PropertyView::Attr {
-                name: copy(name)?,
-                ty: *ty,
-                custom: *custom,
-                uniform: *uniform,
-                default: copy(default)?,
-                samples: copy(samples)?,
-                connections: copy(connections)?,
-                meta: copy(meta)?,
-            }),
+            } => {
+                let name = copy(name)?;
+                match copied_content(default, samples, connections, meta) {
+                    Ok(((default, samples), (connections, meta))) => Ok(PropertyView::Attr {
+                        name,
+                        ty: *ty,
+                        custom: *custom,
+                        uniform: *uniform,
+                        default,
+                        samples,
+                        connections,
+                        meta,
+                    }),
+                    Err(error) => {
+                        drop(name);
+                        Err(error)
+                    }
+                }
+            }
             PropertyView::Rel {
                 name,
                 custom,
                 targets,
                 meta,
-            } => Ok(PropertyView::Rel {
-                name: copy(name)?,
-                custom: *custom,
-                targets: copy(targets)?,
-                meta: copy(meta)?,
-            }),
+            } => {
+                let name = copy(name)?;
+                match copied_paths(targets, meta) {
+                    Ok((targets, meta)) => Ok(PropertyView::Rel {
+                        name,
+                        custom: *custom,
+                        targets,
+                        meta,
+                    }),
+                    Err(error) => {
+                        drop(name);
+                        Err(error)
+                    }
+                }
+            }
         }
     }
 }
@@ -198,25 +273,90 @@ fn same_property(a: &PropertyView, b: &PropertyView) -> bool
     }
 }
 
+/// A view that says nothing but its specifier and its version. Takes no memory.
+fn blank_view(alloc: Global, specifier: Specifier, since: u64) -> PrimView
+    ensures specifier { result.specifier ≡ specifier }
+    ensures since { result.since ≡ since }
+{
+    PrimView {
+        specifier,
+        type_name: None,
+        meta: Meta::new(alloc),
+        api_schemas: None,
+        clip_sets: None,
+        properties: Items::new(alloc),
+        children: Items::new(alloc),
+        choices: Items::new(alloc),
+        sites: Items::new(alloc),
+        faults: Items::new(alloc),
+        since,
+    }
+}
+
+/// Copies the type and the metadata into the place of others.
+fn copy_fields(from: &PrimView, into: &mut PrimView) -> Result<(), AllocError>
+    ensures { OnOk result (into.new ≡ record into.old { type_name = from.now.type_name; meta = from.now.meta }) }
+{
+    into.type_name = copy(&from.type_name)?;
+    into.meta = copy(&from.meta)?;
+    Ok(())
+}
+
+/// Copies the lists of schemas and of clip sets into the place of others.
+fn copy_lists(from: &PrimView, into: &mut PrimView) -> Result<(), AllocError>
+    ensures { OnOk result (into.new ≡ record into.old { api_schemas = from.now.api_schemas; clip_sets = from.now.clip_sets }) }
+{
+    into.api_schemas = copy(&from.api_schemas)?;
+    into.clip_sets = copy(&from.clip_sets)?;
+    Ok(())
+}
+
+/// Copies the properties and the names of the children into the place of others.
+fn copy_content(from: &PrimView, into: &mut PrimView) -> Result<(), AllocError>
+    ensures { OnOk result (into.new ≡ record into.old { properties = from.now.properties; children = from.now.children }) }
+{
+    into.properties = copy(&from.properties)?;
+    into.children = copy(&from.children)?;
+    Ok(())
+}
+
+/// Copies the choices and the sites into the place of others.
+fn copy_sites(from: &PrimView, into: &mut PrimView) -> Result<(), AllocError>
+    ensures { OnOk result (into.new ≡ record into.old { choices = from.now.choices; sites = from.now.sites }) }
+{
+    into.choices = copy(&from.choices)?;
+    into.sites = copy(&from.sites)?;
+    Ok(())
+}
+
+/// Copies a view into the place of another of its specifier and its version.
+fn copy_view(from: &PrimView, into: &mut PrimView) -> Result<(), AllocError>
+    requires specifier { into.old.specifier ≡ from.now.specifier }
+    requires since { into.old.since ≡ from.now.since }
+    ensures { OnOk result (into.new ≡ from.now) }
+{
+    copy_fields(from, into)?;
+    copy_lists(from, into)?;
+    copy_content(from, into)?;
+    copy_sites(from, into)?;
+    into.faults = copy(&from.faults)?;
+    Ok(())
+}
+
 impl Clone for PrimView {
     ghost use Rattle.std.specs.Prelude.{◌≡◌};
 
     ghost is_clone = { λ x y. y ≡ x };
 
     fn clone(&self) -> Result<PrimView, AllocError> {
-        Ok(PrimView {
-            specifier: self.specifier,
-            type_name: copy(&self.type_name)?,
-            meta: copy(&self.meta)?,
-            api_schemas: copy(&self.api_schemas)?,
-            clip_sets: copy(&self.clip_sets)?,
-            properties: copy(&self.properties)?,
-            children: copy(&self.children)?,
-            choices: copy(&self.choices)?,
-            sites: copy(&self.sites)?,
-            faults: copy(&self.faults)?,
-            since: self.since,
-        })
+        let mut copied = blank_view(self.sites.allocator(), self.specifier, self.since);
+        match copy_view(self, &mut copied) {
+            Ok(()) => Ok(copied),
+            Err(error) => {
+                drop(copied);
+                Err(error)
+            }
+        }
     }
 }
 

@@ -1,5 +1,5 @@
 // Copies of heads and specs that are the original itself, and equality that tells every two apart.
-ghost use Rattle.std.specs.Prelude.{◌≡◌, ◌↔◌, IsTrue};
+ghost use Rattle.std.specs.Prelude.{◌≡◌, ◌↔◌, IsTrue, OnOk};
 
 use crate::spec::{ArcPart, BodyPart, Head, Spec};
 use plain_data::{ExactClone, ExactEq, copy, same};
@@ -23,18 +23,54 @@ impl ExactClone for Head {
     ghost copy_is_same = { λ x y h. h };
 }
 
+// Copies the lists of classes into the place of others.
+fn copy_classes(from: &ArcPart, into: &mut ArcPart) -> Result<(), AllocError>
+    ensures { OnOk result (into.new ≡ record into.old { inherits = from.now.inherits; specializes = from.now.specializes }) }
+{
+    into.inherits = copy(&from.inherits)?;
+    into.specializes = copy(&from.specializes)?;
+    Ok(())
+}
+
+// Copies the lists of references and payloads into the place of others.
+fn copy_targets(from: &ArcPart, into: &mut ArcPart) -> Result<(), AllocError>
+    ensures { OnOk result (into.new ≡ record into.old { references = from.now.references; payloads = from.now.payloads }) }
+{
+    into.references = copy(&from.references)?;
+    into.payloads = copy(&from.payloads)?;
+    Ok(())
+}
+
+// Copies the variant sets and the selections into the place of others.
+fn copy_variants(from: &ArcPart, into: &mut ArcPart) -> Result<(), AllocError>
+    ensures { OnOk result (into.new ≡ record into.old { variant_sets = from.now.variant_sets; selections = from.now.selections }) }
+{
+    into.variant_sets = copy(&from.variant_sets)?;
+    into.selections = copy(&from.selections)?;
+    Ok(())
+}
+
+// Copies all arcs into the place of others.
+fn copy_arcs(from: &ArcPart, into: &mut ArcPart) -> Result<(), AllocError>
+    ensures { OnOk result (into.new ≡ from.now) }
+{
+    copy_classes(from, into)?;
+    copy_targets(from, into)?;
+    copy_variants(from, into)
+}
+
 impl Clone for ArcPart {
     ghost is_clone = { λ x y. y ≡ x };
 
     fn clone(&self) -> Result<ArcPart, AllocError> {
-        Ok(ArcPart {
-            inherits: copy(&self.inherits)?,
-            specializes: copy(&self.specializes)?,
-            references: copy(&self.references)?,
-            payloads: copy(&self.payloads)?,
-            variant_sets: copy(&self.variant_sets)?,
-            selections: copy(&self.selections)?,
-        })
+        let mut copied = ArcPart::blank(self.inherits.deleted.allocator());
+        match copy_arcs(self, &mut copied) {
+            Ok(()) => Ok(copied),
+            Err(error) => {
+                drop(copied);
+                Err(error)
+            }
+        }
     }
 }
 
@@ -42,22 +78,67 @@ impl ExactClone for ArcPart {
     ghost copy_is_same = { λ x y h. h };
 }
 
+// Copies the type and the metadata into the place of others.
+fn copy_fields(from: &BodyPart, into: &mut BodyPart) -> Result<(), AllocError>
+    ensures { OnOk result (into.new ≡ record into.old { type_name = from.now.type_name; meta = from.now.meta }) }
+{
+    into.type_name = copy(&from.type_name)?;
+    into.meta = copy(&from.meta)?;
+    Ok(())
+}
+
+// Copies the lists of schemas and of clip sets into the place of others.
+fn copy_lists(from: &BodyPart, into: &mut BodyPart) -> Result<(), AllocError>
+    ensures { OnOk result (into.new ≡ record into.old { api_schemas = from.now.api_schemas; clip_sets = from.now.clip_sets }) }
+{
+    into.api_schemas = copy(&from.api_schemas)?;
+    into.clip_sets = copy(&from.clip_sets)?;
+    Ok(())
+}
+
+// Copies the names of what stands below and their order into the place of others.
+fn copy_names(from: &BodyPart, into: &mut BodyPart) -> Result<(), AllocError>
+    ensures { OnOk result (into.new ≡ record into.old { children = from.now.children; child_order = from.now.child_order }) }
+{
+    into.children = from.children.copy()?;
+    into.child_order = from.child_order.copy()?;
+    Ok(())
+}
+
+// Copies the properties and their order into the place of others.
+fn copy_properties(from: &BodyPart, into: &mut BodyPart) -> Result<(), AllocError>
+    ensures { OnOk result (into.new ≡ record into.old { properties = from.now.properties; property_order = from.now.property_order }) }
+{
+    into.properties = copy(&from.properties)?;
+    into.property_order = from.property_order.copy()?;
+    Ok(())
+}
+
+// Copies a body into the place of another with its specifier.
+fn copy_body(from: &BodyPart, into: &mut BodyPart) -> Result<(), AllocError>
+    requires { into.old.specifier ≡ from.now.specifier }
+    ensures { OnOk result (into.new ≡ from.now) }
+{
+    copy_fields(from, into)?;
+    copy_lists(from, into)?;
+    copy_names(from, into)?;
+    copy_properties(from, into)?;
+    into.variant_names = from.variant_names.copy()?;
+    Ok(())
+}
+
 impl Clone for BodyPart {
     ghost is_clone = { λ x y. y ≡ x };
 
     fn clone(&self) -> Result<BodyPart, AllocError> {
-        Ok(BodyPart {
-            specifier: self.specifier,
-            type_name: copy(&self.type_name)?,
-            meta: copy(&self.meta)?,
-            api_schemas: copy(&self.api_schemas)?,
-            clip_sets: copy(&self.clip_sets)?,
-            children: self.children.copy()?,
-            child_order: self.child_order.copy()?,
-            properties: copy(&self.properties)?,
-            property_order: self.property_order.copy()?,
-            variant_names: self.variant_names.copy()?,
-        })
+        let mut copied = BodyPart::blank(self.children.allocator(), self.specifier);
+        match copy_body(self, &mut copied) {
+            Ok(()) => Ok(copied),
+            Err(error) => {
+                drop(copied);
+                Err(error)
+            }
+        }
     }
 }
 
@@ -69,10 +150,14 @@ impl Clone for Spec {
     ghost is_clone = { λ x y. y ≡ x };
 
     fn clone(&self) -> Result<Spec, AllocError> {
-        Ok(Spec {
-            arcs: copy(&self.arcs)?,
-            body: copy(&self.body)?,
-        })
+        let arcs = copy(&self.arcs)?;
+        match copy(&self.body) {
+            Ok(body) => Ok(Spec { arcs, body }),
+            Err(error) => {
+                drop(arcs);
+                Err(error)
+            }
+        }
     }
 }
 

@@ -8,6 +8,7 @@ use crate::draft::{Draft, OpenList};
 use crate::fault::{ActFault, placed, refuse};
 use plain_data::Text;
 use sdf_values::RefusalKind;
+use std::mem;
 use usda_grammar::{Keyword, TokenKind};
 use usda_lists::ListEdit;
 use usda_statements::Heading;
@@ -127,7 +128,7 @@ impl Draft {
         let name = Text::of(alloc, word.text)?;
         match self.owner.take_property(alloc, self.heading, name) {
             Ok(property) => {
-                self.property = property;
+                drop(mem::replace(&mut self.property, property));
                 self.name_at = word.start;
                 Ok(())
             }

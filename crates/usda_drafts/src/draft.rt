@@ -82,9 +82,10 @@ impl Draft {
     pub fn blank(alloc: Global) -> Result<Draft, AllocError>
         ensures { IfOk result (λ draft. draft ≡ blank) }
     {
+        let owner = Owner::new(alloc, Path::root(alloc), Specifier::Over, None)?;
         Ok(Draft {
             specs: SharedTable::new(alloc),
-            owner: Owner::new(alloc, Path::root(alloc), Specifier::Over, None)?,
+            owner,
             outer: Items::new(alloc),
             sublayers: Items::new(alloc),
             has_sublayers: false,

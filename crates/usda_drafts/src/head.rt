@@ -14,7 +14,10 @@ fn text_of(value: Option<Value>) -> Option<Text>
 {
     match value {
         Some(Value::Text(text)) => Some(text),
-        _ => None,
+        other => {
+            drop(other);
+            None
+        }
     }
 }
 
@@ -22,7 +25,8 @@ fn text_of(value: Option<Value>) -> Option<Text>
 fn body_of(spec: Spec) -> BodyPart
     ensures { result ≡ spec.body }
 {
-    let Spec { body, .. } = spec;
+    let Spec { arcs, body } = spec;
+    drop(arcs);
     body
 }
 
@@ -32,11 +36,19 @@ fn head_with(key: &Text, body: BodyPart, sublayers: Items<SubLayer>) -> Head
     ensures { result ≡ head_with key.now body sublayers }
 {
     let BodyPart {
+        specifier: _,
+        type_name,
         mut meta,
+        api_schemas,
+        clip_sets,
         children,
         child_order,
-        ..
+        properties,
+        property_order,
+        variant_names,
     } = body;
+    drop((type_name, api_schemas, clip_sets));
+    drop((properties, property_order, variant_names));
     let default_prim = text_of(meta.remove(key));
     Head {
         sublayers,

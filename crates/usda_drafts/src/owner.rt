@@ -1,5 +1,7 @@
 //! The owners of statements.
 ghost use Rattle.std.specs.Prelude.{◌≡◌, IfOk, OnOk};
+ghost use Rattle.sdf_paths.specs.Order.{text_cmp};
+ghost use Rattle.spec_tables.specs.Tables.{with_key};
 ghost use Rattle.usda_lists.specs.Acts.{Gives};
 ghost use Rattle.usda_drafts.specs.Owners.{owner_of, spec_of, with_child, has_set, with_set, with_variant, marks_at, property_for, with_place, with_returned, settled};
 
@@ -9,6 +11,7 @@ use spec_parts::{Spec, Specifier, VariantSet};
 use spec_properties::{Properties, Property};
 use spec_tables::OrderedTable;
 use std::alloc::{AllocError, Global};
+use std::mem;
 use usda_fields::OwnerDraft;
 use usda_statements::{Heading, PropertyDraft, PropertyMarks};
 use usda_values::ActFault as PartFault;
@@ -68,14 +71,22 @@ impl Owner {
             type_name,
             children,
             properties,
+            marks,
             sets,
-            ..
+            set_names,
+            set,
         } = self;
-        let OwnerDraft { mut spec, .. } = said;
-        spec.body.type_name = type_name;
-        spec.body.children = children;
-        spec.body.properties = properties;
-        spec.body.variant_names = sets;
+        let OwnerDraft {
+            path,
+            base,
+            mut spec,
+            ..
+        } = said;
+        drop((path, base, marks, set_names, set));
+        drop(mem::replace(&mut spec.body.type_name, type_name));
+        drop(mem::replace(&mut spec.body.children, children));
+        drop(mem::replace(&mut spec.body.properties, properties));
+        drop(mem::replace(&mut spec.body.variant_names, sets));
         spec
     }
 
@@ -161,17 +172,33 @@ impl Owner {
         if property.is_in_hand() {
             self.put_back(property)
         } else {
+            drop(property);
             Ok(())
         }
+    }
+
+    // Notes what was said once of the property that was in hand.
+    fn put_marks(&mut self, property: &PropertyDraft) -> Result<(), AllocError>
+        ensures { OnOk result (self.new ≡ record self.old { marks = with_key text_cmp property.now.name property.now.marks self.old.marks }) }
+    {
+        let name = copy(&property.name)?;
+        let _before = self.marks.insert(name, property.marks)?;
+        Ok(())
     }
 
     #[tactic(auto, unfolding(crate::specs::Owners::with_returned))]
     fn put_back(&mut self, property: PropertyDraft) -> Result<(), AllocError>
         ensures { OnOk result (self.new ≡ with_returned property self.old) }
     {
-        let name = copy(&property.name)?;
-        let _marks = self.marks.insert(name, property.marks)?;
-        let _before = self.properties.insert(property.into_property())?;
-        Ok(())
+        match self.put_marks(&property) {
+            Ok(()) => {
+                drop(self.properties.insert(property.into_property())?);
+                Ok(())
+            }
+            Err(error) => {
+                drop(property);
+                Err(error)
+            }
+        }
     }
 }

@@ -11,6 +11,7 @@ use crate::draft::Draft;
 use crate::fault::{ActFault, placed, refuse};
 use plain_data::{Text, copy};
 use sdf_values::{Num, RefusalKind, TimeCode, TypeName, Value};
+use std::mem;
 use usda_fields::{KeyRule, rule_shape};
 use usda_lexer::number_of;
 use usda_statements::OpenValue;
@@ -104,10 +105,15 @@ impl Draft {
         ensures { Does result self.new (completed Goal.OwnerKey value at self.old) }
     {
         let alloc = self.outer.allocator();
-        let key = copy(&self.aim.key)?;
-        match self.owner.said.put_value(alloc, key, value) {
-            Ok(()) => Ok(()),
-            Err(fault) => Err(placed(fault, at)),
+        match copy(&self.aim.key) {
+            Ok(key) => match self.owner.said.put_value(alloc, key, value) {
+                Ok(()) => Ok(()),
+                Err(fault) => Err(placed(fault, at)),
+            },
+            Err(_) => {
+                drop(value);
+                Err(ActFault::NoMemory)
+            }
         }
     }
 
@@ -117,10 +123,15 @@ impl Draft {
         ensures { Does result self.new (completed Goal.PropertyKey value at self.old) }
     {
         let alloc = self.outer.allocator();
-        let key = copy(&self.aim.key)?;
-        match self.property.put_value(alloc, key, value) {
-            Ok(()) => Ok(()),
-            Err(fault) => Err(placed(fault, at)),
+        match copy(&self.aim.key) {
+            Ok(key) => match self.property.put_value(alloc, key, value) {
+                Ok(()) => Ok(()),
+                Err(fault) => Err(placed(fault, at)),
+            },
+            Err(_) => {
+                drop(value);
+                Err(ActFault::NoMemory)
+            }
         }
     }
 
@@ -130,7 +141,10 @@ impl Draft {
         ensures { Does result self.new (completed self.old.aim.goal value at self.old) }
     {
         match self.aim.goal {
-            Goal::Nothing => Ok(()),
+            Goal::Nothing => {
+                drop(value);
+                Ok(())
+            }
             Goal::OwnerKey => self.complete_owner_key(value, at),
             Goal::Variants => {
                 self.owner
@@ -175,7 +189,8 @@ impl Draft {
         ensures { Does result self.new (first_act (word_of word.now) self.old) }
     {
         let alloc = self.outer.allocator();
-        self.value = OpenValue::new(alloc, self.aim.shape, is_selections(self.aim.goal));
+        let opened = OpenValue::new(alloc, self.aim.shape, is_selections(self.aim.goal));
+        drop(mem::replace(&mut self.value, opened));
         self.take_token(word)
     }
 }
