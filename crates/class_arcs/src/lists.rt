@@ -13,6 +13,7 @@ use plain_data::{Items, copy};
 use prim_nodes::Node;
 use prim_trees::{Child, Tree};
 use std::alloc::{AllocError, Global};
+use std::mem;
 
 /// The classes of a node, of one kind: those of its own arcs, each followed by the classes of what it leads to, and then those that
 /// its other arcs hand up. Each class stands once.
@@ -112,8 +113,16 @@ fn first_of_each(all: Items<Class>) -> Result<Items<Class>, AllocError>
     }
     let alloc = all.allocator();
     let mut list = ListOp::new(alloc);
-    list.explicit = Some(all);
+    drop(mem::replace(&mut list.explicit, Some(all)));
     let mut kept = Vec::new(alloc);
-    list.apply_ordered(&mut kept)?;
-    Ok(Items::from_vec(kept))
+    match list.apply_ordered(&mut kept) {
+        Ok(()) => {
+            drop(list);
+            Ok(Items::from_vec(kept))
+        }
+        Err(error) => {
+            drop((list, kept));
+            Err(error)
+        }
+    }
 }

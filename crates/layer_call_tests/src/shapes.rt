@@ -71,7 +71,7 @@ fn is_number(value: &Value, digits: i128, exp: i16) -> bool {
 }
 
 // Values of which nothing is known. Two to 127 is about 1.7 times ten to 38.
-const UNTYPED: [(&str, Told); 10] = [
+static UNTYPED: [(&str, Told); 10] = [
     ("1", Told::Whole(1)),
     ("-0", Told::Whole(0)),
     ("1.0", Told::Number { digits: 1, exp: 0 }),
@@ -90,11 +90,15 @@ const UNTYPED: [(&str, Told); 10] = [
     ("None", Told::Block),
 ];
 
+fn is_read_as(alloc: Global, text: &str, told: &Told) -> Result<bool, Fail> {
+    let value = untyped(alloc, text)?;
+    Ok(is_told(&value, told))
+}
+
 #[test]
 fn values_of_no_type(rt: HostRuntime) -> Result<(), Fail> {
-    for (text, told) in UNTYPED {
-        let value = untyped(rt.alloc(), text)?;
-        assert!(rt; is_told(&value, &told));
+    for (text, told) in &UNTYPED {
+        assert!(rt; is_read_as(rt.alloc(), text, told)?);
     }
     Ok(())
 }
@@ -224,7 +228,7 @@ fn shaped(alloc: Global, element: ElementType, text: &str) -> Result<Value, Fail
 }
 
 // Values of no type, each taken as one of a type.
-const TAKEN: [(ElementType, &str, Told); 3] = [
+static TAKEN: [(ElementType, &str, Told); 3] = [
     (ElementType::Bool, "true", Told::Truth),
     (
         ElementType::Real(Precision::Double),
@@ -238,11 +242,15 @@ const TAKEN: [(ElementType, &str, Told); 3] = [
     ),
 ];
 
+fn is_taken_as(alloc: Global, element: ElementType, text: &str, told: &Told) -> Result<bool, Fail> {
+    let value = shaped(alloc, element, text)?;
+    Ok(is_told(&value, told))
+}
+
 #[test]
 fn values_are_taken_as_a_type(rt: HostRuntime) -> Result<(), Fail> {
-    for (element, text, told) in TAKEN {
-        let value = shaped(rt.alloc(), element, text)?;
-        assert!(rt; is_told(&value, &told));
+    for (element, text, told) in &TAKEN {
+        assert!(rt; is_taken_as(rt.alloc(), *element, text, told)?);
     }
     Ok(())
 }

@@ -1,5 +1,6 @@
 //! Texts and their words.
 use std::alloc::Global;
+use std::fmt::Write;
 use std::test::Fail;
 use usda_grammar::{Keyword, TokenKind};
 use usda_lexer::LexFault;
@@ -19,17 +20,9 @@ fn letter(kind: TokenKind) -> char {
     }
 }
 
-fn push_number(out: &mut String, n: usize) -> Result<(), Fail> {
-    if n >= 10 {
-        out.push(char::from(b'0' + (n / 10 % 10) as u8))?;
-    }
-    out.push(char::from(b'0' + (n % 10) as u8))?;
-    Ok(())
-}
-
 // A word in print: its first byte, the letter of its kind, a second one where it is too long, and its text.
 fn push_word(out: &mut String, word: &Word<'_>) -> Result<(), Fail> {
-    push_number(out, word.start)?;
+    write!(out, "{}", word.start)?;
     out.push(letter(word.kind))?;
     if word.too_long {
         out.push('L')?;
@@ -44,7 +37,7 @@ fn printed(alloc: Global, source: &[u8]) -> Result<String, Fail> {
     let mut words = match Words::new(source) {
         Ok(words) => words,
         Err(LexFault::NotUtf8 { at }) => {
-            push_number(&mut out, at)?;
+            write!(out, "{at}")?;
             return Ok(out);
         }
         Err(_) => return Err(Fail::from("another fault")),
@@ -58,7 +51,7 @@ fn printed(alloc: Global, source: &[u8]) -> Result<String, Fail> {
     Ok(out)
 }
 
-const WORDS: [(&str, &str); 27] = [
+static WORDS: [(&str, &str); 27] = [
     ("", ""),
     ("#usda 1.0\ndef", "10kdef|"),
     ("#usda 1.0 \t\r\n\n(x", "14m(|15nx|"),
@@ -88,14 +81,22 @@ const WORDS: [(&str, &str); 27] = [
     ("a::b é", "0na|1m:|2m:|3nb|5né|"),
 ];
 
+fn are_words(alloc: Global, source: &[u8], words: &str) -> Result<bool, Fail> {
+    let got = printed(alloc, source)?;
+    Ok(got.as_str() == words)
+}
+
 #[test]
 fn texts_have_these_words(rt: HostRuntime) -> Result<(), Fail> {
-    for (text, words) in WORDS {
-        let got = printed(rt.alloc(), text.as_bytes())?;
-        assert!(rt; got.as_str() == words);
+    for (text, words) in &WORDS {
+        assert!(rt; are_words(rt.alloc(), text.as_bytes(), words)?);
     }
-    let bad = printed(rt.alloc(), b"a b \xe9 c".as_slice())?;
-    assert!(rt; bad.as_str() == "4");
+    Ok(())
+}
+
+#[test]
+fn a_byte_that_is_no_text_is_told(rt: HostRuntime) -> Result<(), Fail> {
+    assert!(rt; are_words(rt.alloc(), b"a b \xe9 c".as_slice(), "4")?);
     Ok(())
 }
 

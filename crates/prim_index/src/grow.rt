@@ -150,8 +150,13 @@ fn joined_tree(node: Node, here: Here, own: Grown, lifted: Grown) -> Tree
 fn led_child(branch: &Branch, tree: Tree) -> Result<Child, AllocError>
     ensures { IfOk result (λ child. led child ≡ (branch.now, meant tree)) }
 {
-    let branch = copy(branch)?;
-    Ok(Child { branch, tree })
+    match copy(branch) {
+        Ok(branch) => Ok(Child { branch, tree }),
+        Err(error) => {
+            drop(tree);
+            Err(error)
+        }
+    }
 }
 
 /// The children of arcs of a node, as far as there is room.

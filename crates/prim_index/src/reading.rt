@@ -3,11 +3,11 @@ ghost use Rattle.std.specs.Prelude.{◌≡◌, ◌++◌, ◌∷◌, [], IfOk, On
 ghost use Rattle.std.specs.Option.{option_copied};
 ghost use Rattle.composition.specs.Texts.{same_text, find_at};
 ghost use Rattle.composition.specs.Paths.{limits};
-ghost use Rattle.composition.specs.Arcs.{is_empty};
+ghost use Rattle.composition.specs.Arcs.{is_empty, selections_of};
 ghost use Rattle.composition.specs.Nodes.{fault_of, frame_at};
 ghost use Rattle.layer_set.specs.LookUps.{look_ups};
-ghost use Rattle.arc_expand.specs.Authoring.{IsStackOf, opinions as opinions_there};
-ghost use Rattle.prim_index.specs.Reading.{said, said_levels, sublayers_said, sublayer_faults, looked_at, tried_of, tried_level, tried_kind, tried_all, chosen_if_fits, variant_at, chosen_of, chosen_level, chosen_all};
+ghost use Rattle.arc_expand.specs.Authoring.{IsStackOf, opinions as opinions_there, sets_in};
+ghost use Rattle.prim_index.specs.Reading.{said, said_levels, sublayers_said, sublayer_faults, looked_at, tried_of, tried_level, tried_kind, tried_all, chosen_if_fits, variant_at, chosen_of, chosen_level, chosen_all, parts};
 
 use crate::follow::{child_path, refusal};
 use crate::levels::levels;
@@ -74,13 +74,21 @@ fn tried_item(
 ) -> Result<Tried, AllocError>
     ensures { IfOk result (λ tried. tried ≡ tried_of (look_ups world.now) node.now kind level item.now) }
 {
-    Ok(Tried {
-        kind,
-        level,
-        authored: copy(item)?,
-        fault: fault(node, level, &item.outcome)?,
-        sublayers: sublayers(alloc, world, &item.outcome)?,
-    })
+    let fault = fault(node, level, &item.outcome)?;
+    let sublayers = sublayers(alloc, world, &item.outcome)?;
+    match copy(item) {
+        Ok(authored) => Ok(Tried {
+            kind,
+            level,
+            authored,
+            fault,
+            sublayers,
+        }),
+        Err(error) => {
+            drop(sublayers);
+            Err(error)
+        }
+    }
 }
 
 /// Whether payloads are followed at a level; also where the node has no frame for it.
@@ -297,18 +305,17 @@ fn stack_of(alloc: Global, world: &World, node: &Node) -> Result<LayerStack, All
     ensures stack { IfOk result (λ s. IsStackOf (look_ups world.now) s) }
     ensures name { IfOk result (λ s. s.name ≡ node.now.stack) }
 {
-    let LayerStack {
-        name: _,
-        layers,
-        faults,
-        asked,
-    } = stack(alloc, world, &node.stack)?;
-    Ok(LayerStack {
-        name: copy(&node.stack)?,
-        layers,
-        faults,
-        asked,
-    })
+    let mut found = stack(alloc, world, &node.stack)?;
+    match copy(&node.stack) {
+        Ok(name) => {
+            found.name = name;
+            Ok(found)
+        }
+        Err(error) => {
+            drop(found);
+            Err(error)
+        }
+    }
 }
 
 /// What the layers of a stack say at a path, the strongest first.
@@ -370,19 +377,109 @@ fn is_said(opinions: &Items<LayerOpinion<'_>>) -> bool
     !opinions.is_empty()
 }
 
-/// What the layers of a node's stack say at it.
+/// What becomes of the items of all kinds, and the variants that the levels decide.
+fn said_arcs(
+    alloc: Global,
+    world: &World,
+    stack: &LayerStack,
+    node: &Node,
+    levels: &[(usize, Items<LayerOpinion<'_>>)],
+) -> Result<(Items<Tried>, Items<Chosen>), AllocError>
+    requires stack { IsStackOf (look_ups world.now) stack.now }
+    requires name { stack.now.name ≡ node.now.stack }
+    ensures { IfOk result (λ both. both ≡ (tried_all (look_ups world.now) node.now levels.now, chosen_all node.now levels.now)) }
+{
+    let arcs = arcs(alloc, world, stack, node, levels)?;
+    match variants(alloc, node, levels) {
+        Ok(variants) => Ok((arcs, variants)),
+        Err(error) => {
+            drop(arcs);
+            Err(error)
+        }
+    }
+}
+
+/// The variant sets and the selections that opinions make.
+fn said_choices(
+    alloc: Global,
+    own: &[LayerOpinion<'_>],
+) -> Result<(Items<Text>, Items<(Text, Text)>), AllocError>
+    ensures { IfOk result (λ both. both ≡ (sets_in own.now, selections_of own.now)) }
+{
+    let sets = variant_sets_in(alloc, own)?;
+    match selections_in(alloc, own) {
+        Ok(selections) => Ok((sets, selections)),
+        Err(error) => {
+            drop(sets);
+            Err(error)
+        }
+    }
+}
+
+/// What is said at a node where these opinions stand at its levels and at its own path.
+fn here_of(
+    alloc: Global,
+    world: &World,
+    stack: &LayerStack,
+    node: &Node,
+    levels: &[(usize, Items<LayerOpinion<'_>>)],
+    own: &Items<LayerOpinion<'_>>,
+) -> Result<Here, AllocError>
+    requires stack { IsStackOf (look_ups world.now) stack.now }
+    requires name { stack.now.name ≡ node.now.stack }
+    ensures { IfOk result (λ here. here ≡ parts (look_ups world.now) node.now levels.now own.now) }
+{
+    let choices = said_choices(alloc, own.as_slice())?;
+    match said_arcs(alloc, world, stack, node, levels) {
+        Ok((arcs, variants)) => {
+            let (sets, selections) = choices;
+            Ok(Here {
+                arcs,
+                variants,
+                sets,
+                selections,
+                has_spec: is_said(own),
+            })
+        }
+        Err(error) => {
+            drop(choices);
+            Err(error)
+        }
+    }
+}
+
+/// What the layers of a stack say at a node of it.
 #[tactic(auto, using(crate::proofs::Saying::said_is))]
+fn here_in(
+    alloc: Global,
+    world: &World,
+    stack: &LayerStack,
+    node: &Node,
+) -> Result<Here, AllocError>
+    requires stack { IsStackOf (look_ups world.now) stack.now }
+    requires name { stack.now.name ≡ node.now.stack }
+    ensures { IfOk result (λ here. here ≡ said limits (look_ups world.now) node.now) }
+{
+    let levels = said_at_levels(alloc, world, stack, &node.path)?;
+    match said_at(alloc, world, stack, &node.path) {
+        Ok(own) => {
+            let here = here_of(alloc, world, stack, node, levels.as_slice(), &own);
+            drop((levels, own));
+            here
+        }
+        Err(error) => {
+            drop(levels);
+            Err(error)
+        }
+    }
+}
+
+/// What the layers of a node's stack say at it.
 pub fn here_at(alloc: Global, world: &World, node: &Node) -> Result<Here, AllocError>
     ensures { IfOk result (λ here. here ≡ said limits (look_ups world.now) node.now) }
 {
     let stack = stack_of(alloc, world, node)?;
-    let levels = said_at_levels(alloc, world, &stack, &node.path)?;
-    let own = said_at(alloc, world, &stack, &node.path)?;
-    Ok(Here {
-        arcs: arcs(alloc, world, &stack, node, levels.as_slice())?,
-        variants: variants(alloc, node, levels.as_slice())?,
-        sets: variant_sets_in(alloc, own.as_slice())?,
-        selections: selections_in(alloc, own.as_slice())?,
-        has_spec: is_said(&own),
-    })
+    let here = here_in(alloc, world, &stack, node);
+    drop(stack);
+    here
 }

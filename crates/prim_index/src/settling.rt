@@ -58,8 +58,16 @@ fn with_frames(node: Node, frame: Frame, above: &Items<Frame>) -> Result<Node, A
     ensures { IfOk result (λ n. n ≡ framed node frame above.now) }
 {
     let mut node = node;
-    node.frames = with_first(frame, above)?;
-    Ok(node)
+    match with_first(frame, above) {
+        Ok(frames) => {
+            node.frames = frames;
+            Ok(node)
+        }
+        Err(error) => {
+            drop(node);
+            Err(error)
+        }
+    }
 }
 
 /// The tree of a round of choices.

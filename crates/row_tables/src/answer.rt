@@ -6,7 +6,7 @@ use crate::fields::push_fields_call;
 use crate::indexes::{push_index_call, push_site_call, push_sites_call};
 use crate::layers::{push_layer_call, push_loaded_call, push_names_call, push_rule_call};
 use crate::opening::{Opened, Trial, make_bare, open_once, push_one_call, push_open_call};
-use crate::stacks::{push_arcs_call, push_sets_call, push_stack_call};
+use crate::stacks::{push_arcs_call, push_reads_call, push_sets_call, push_stack_call};
 use crate::stages::{push_ask_call, push_flatten_call};
 use crate::table::Row;
 use crate::values::{push_targets_call, push_value_call};
@@ -15,31 +15,73 @@ use crate::words::first_word;
 use layer_set::World;
 use std::alloc::{AllocError, Global};
 
-// Calls on a world as it stands.
+/// A look at a world: the first word of the call, and those behind it.
+#[derive(Clone, Copy)]
+struct Look<'r> {
+    word: &'r str,
+    words: &'r str,
+}
+
+// Looks at what a prim is composed of.
+fn push_composed(
+    alloc: Global,
+    out: &mut String,
+    world: &World,
+    look: Look<'_>,
+) -> Result<(), CallFault> {
+    match look.word {
+        "value" => push_value_call(alloc, out, world, look.words),
+        "targets" => push_targets_call(alloc, out, world, look.words),
+        "fields" => push_fields_call(alloc, out, world, look.words),
+        "view" => push_view_call(alloc, out, world, look.words),
+        _ => Err(CallFault::Bad),
+    }
+}
+
+// Looks at the index of a prim, and those above.
+fn push_indexes(
+    alloc: Global,
+    out: &mut String,
+    world: &World,
+    look: Look<'_>,
+) -> Result<(), CallFault> {
+    match look.word {
+        "index" => push_index_call(alloc, out, world, look.words),
+        "sites" => push_sites_call(alloc, out, world, look.words),
+        "site" => push_site_call(alloc, out, world, look.words),
+        _ => push_composed(alloc, out, world, look),
+    }
+}
+
+// Looks at layer stacks, and those above.
+fn push_stacks(
+    alloc: Global,
+    out: &mut String,
+    world: &World,
+    look: Look<'_>,
+) -> Result<(), CallFault> {
+    match look.word {
+        "stack" => push_stack_call(alloc, out, world, look.words),
+        "arcs" => push_arcs_call(alloc, out, world, look.words),
+        "reads" => push_reads_call(alloc, out, world, look.words),
+        "sets" => push_sets_call(alloc, out, world, look.words),
+        _ => push_indexes(alloc, out, world, look),
+    }
+}
+
+// Looks at what stands in a world, and those above.
 fn push_looks(
     alloc: Global,
     out: &mut String,
     world: &World,
-    word: &str,
-    words: &str,
+    look: Look<'_>,
 ) -> Result<(), CallFault> {
-    match word {
-        "layer" => push_layer_call(alloc, out, world, words),
+    match look.word {
+        "layer" => push_layer_call(alloc, out, world, look.words),
         "names" => Ok(push_names_call(out, world)?),
-        "rule" => push_rule_call(alloc, out, world, words),
-        "loaded" => push_loaded_call(alloc, out, world, words),
-        "stack" => push_stack_call(alloc, out, world, words),
-        "arcs" => push_arcs_call(alloc, out, world, words, false),
-        "reads" => push_arcs_call(alloc, out, world, words, true),
-        "sets" => push_sets_call(alloc, out, world, words),
-        "index" => push_index_call(alloc, out, world, words),
-        "sites" => push_sites_call(alloc, out, world, words),
-        "site" => push_site_call(alloc, out, world, words),
-        "value" => push_value_call(alloc, out, world, words),
-        "targets" => push_targets_call(alloc, out, world, words),
-        "fields" => push_fields_call(alloc, out, world, words),
-        "view" => push_view_call(alloc, out, world, words),
-        _ => Err(CallFault::Bad),
+        "rule" => push_rule_call(alloc, out, world, look.words),
+        "loaded" => push_loaded_call(alloc, out, world, look.words),
+        _ => push_stacks(alloc, out, world, look),
     }
 }
 
@@ -56,7 +98,7 @@ fn push_call(
         "batch" => push_batch_call(alloc, out, opened, row.given.as_str()),
         "ask" => push_ask_call(alloc, out, opened, words),
         "flatten" => push_flatten_call(alloc, out, opened),
-        _ => push_looks(alloc, out, &opened.world, word, words),
+        _ => push_looks(alloc, out, &opened.world, Look { word, words }),
     }
 }
 

@@ -3,18 +3,19 @@
 use crate::fault::CallFault;
 use crate::opening::Opened;
 use crate::stacks::push_keys;
-use crate::stages::push_bytes;
 use crate::table::{Case, read_table};
+use asset_names::AssetId;
 use change_core::EditReply;
 use io_edges::SureFiles;
 use layer_changes::{Applied, apply};
 use layer_edit::{Batch, EditFault, EditRefused, Op};
 use layer_load::load_one;
-use layer_set::Key;
+use layer_set::{Key, World};
 use plain_data::Items;
 use script_lines::{Line, read_line};
 use stage_questions::push_edit_reply;
 use std::alloc::{AllocError, Global};
+use std::mem;
 
 /// How the reply to a batch begins that is refused.
 const REFUSED: &str = "batch refused: op ";
@@ -34,27 +35,75 @@ fn files_of(alloc: Global, lines: &str) -> Result<SureFiles, AllocError> {
     Ok(SureFiles::new(all))
 }
 
+// The operation that puts a layer from its file.
+fn opening(alloc: Global, files: &mut SureFiles, id: AssetId) -> Result<Op, CallFault> {
+    match load_one(alloc, files, &id, 0) {
+        Ok((held, _bytes)) => Ok(Op::PutLayer { id, held }),
+        Err(_) => Err(CallFault::Bad),
+    }
+}
+
+// Takes a line of a script.
+fn take_line(
+    alloc: Global,
+    files: &mut SureFiles,
+    ops: &mut Items<Op>,
+    line: &str,
+) -> Result<(), CallFault> {
+    match read_line(alloc, line.as_bytes())? {
+        Some(Line::Change(op)) => Ok(ops.push(op)?),
+        Some(Line::Open(id)) => Ok(ops.push(opening(alloc, files, id)?)?),
+        Some(Line::Blank) => Ok(()),
+        other => {
+            drop(other);
+            Err(CallFault::Bad)
+        }
+    }
+}
+
+// Whether a line is one of a file.
+fn is_of_file(line: &str) -> bool {
+    line.starts_with("|") || line.starts_with("layer ")
+}
+
+// Takes the lines of a script.
+fn take_lines(
+    alloc: Global,
+    files: &mut SureFiles,
+    ops: &mut Items<Op>,
+    lines: &str,
+) -> Result<(), CallFault> {
+    for line in lines.split('\n') {
+        if !is_of_file(line) {
+            take_line(alloc, files, ops, line)?;
+        }
+    }
+    Ok(())
+}
+
+// The operations of lines, with their files.
+fn ops_from(alloc: Global, files: &mut SureFiles, lines: &str) -> Result<Items<Op>, CallFault> {
+    let mut ops = Items::new(alloc);
+    match take_lines(alloc, files, &mut ops, lines) {
+        Ok(()) => Ok(ops),
+        Err(fault) => {
+            drop(ops);
+            Err(fault)
+        }
+    }
+}
+
 // The operations of lines.
 fn ops_of(alloc: Global, lines: &str) -> Result<Items<Op>, CallFault> {
     let mut files = files_of(alloc, lines)?;
-    let mut ops = Items::new(alloc);
-    for line in lines.split('\n') {
-        if line.starts_with("|") || line.starts_with("layer ") {
-            continue;
-        }
-        match read_line(alloc, line.as_bytes())? {
-            Some(Line::Change(op)) => ops.push(op)?,
-            Some(Line::Open(id)) => {
-                let Ok((held, _bytes)) = load_one(alloc, &mut files, &id, 0) else {
-                    return Err(CallFault::Bad);
-                };
-                ops.push(Op::PutLayer { id, held })?;
-            }
-            Some(Line::Blank) => {}
-            _ => return Err(CallFault::Bad),
-        }
-    }
-    Ok(ops)
+    ops_from(alloc, &mut files, lines)
+}
+
+// The reply to a batch of which an operation is refused.
+fn reply_of(alloc: Global, op: u32, fault: EditFault) -> Result<String, AllocError> {
+    let mut reply = Vec::new(alloc);
+    push_edit_reply(alloc, &mut reply, &EditReply::Refused { op, fault })?;
+    String::from_utf8_lossy(alloc, reply.as_slice())
 }
 
 // Appends which operation is refused, and why.
@@ -64,14 +113,27 @@ fn push_refused(
     op: u32,
     fault: EditFault,
 ) -> Result<(), AllocError> {
-    let mut reply = Vec::new(alloc);
-    push_edit_reply(alloc, &mut reply, &EditReply::Refused { op, fault })?;
-    let mut text = String::new(alloc);
-    push_bytes(alloc, &mut text, reply.as_slice())?;
+    let text = reply_of(alloc, op, fault)?;
     out.push_str("refused ")?;
     match text.as_str().strip_prefix(REFUSED) {
         Some(rest) => out.push_str(rest),
         None => out.push_str(text.as_str()),
+    }
+}
+
+// What a batch makes of a world.
+fn applied(
+    alloc: Global,
+    world: &World,
+    lines: &str,
+) -> Result<Result<Applied, EditRefused>, CallFault> {
+    match Batch::of(ops_of(alloc, lines)?) {
+        Some(batch) => {
+            let answer = apply(alloc, world, &batch);
+            drop(batch);
+            Ok(answer)
+        }
+        None => Err(CallFault::Bad),
     }
 }
 
@@ -82,13 +144,9 @@ fn try_batch(
     opened: &mut Opened,
     lines: &str,
 ) -> Result<Option<Items<Key>>, CallFault> {
-    let Some(batch) = Batch::of(ops_of(alloc, lines)?) else {
-        return Err(CallFault::Bad);
-    };
-    match apply(alloc, &opened.world, &batch) {
+    match applied(alloc, &opened.world, lines)? {
         Ok(Applied { world, changed }) => {
-            opened.world = world;
-            opened.stage = None;
+            drop(mem::replace(opened, Opened { world, stage: None }));
             Ok(Some(changed))
         }
         Err(EditRefused::Op { op, fault }) => {
@@ -99,6 +157,14 @@ fn try_batch(
     }
 }
 
+// Appends the keys that change.
+fn push_changed(out: &mut String, keys: &[Key]) -> Result<(), CallFault> {
+    if keys.is_empty() {
+        out.push_str("nothing changed\n")?;
+    }
+    push_keys(out, "changed ", keys)
+}
+
 /// `apply`: the keys that change, or why the batch is refused.
 pub(crate) fn push_apply_call(
     alloc: Global,
@@ -106,13 +172,10 @@ pub(crate) fn push_apply_call(
     opened: &mut Opened,
     lines: &str,
 ) -> Result<(), CallFault> {
-    if let Some(keys) = try_batch(alloc, out, opened, lines)? {
-        if keys.is_empty() {
-            out.push_str("nothing changed\n")?;
-        }
-        push_keys(out, "changed ", keys.as_slice())?;
+    match try_batch(alloc, out, opened, lines)? {
+        Some(keys) => push_changed(out, keys.as_slice()),
+        None => Ok(()),
     }
-    Ok(())
 }
 
 /// `batch`: whether the batch is accepted, or why it is refused.

@@ -1,12 +1,12 @@
 //! Calls on the fields of a prim.
 
 use crate::fault::CallFault;
+use crate::indexes::index_of;
 use crate::printing::{push_meta, push_texts, push_texts_or_none, specifier_word};
-use crate::words::path_of;
-use field_resolve::{child_names, prim_fields, property_names};
+use field_resolve::{PrimFields, child_names, prim_fields, property_names};
 use layer_set::World;
 use plain_data::{Items, Text};
-use prim_index::index;
+use prim_view::Site;
 use spec_parts::Specifier;
 use spec_properties::Meta;
 use std::alloc::{AllocError, Global};
@@ -30,22 +30,71 @@ fn push_type(out: &mut String, type_name: &Option<Text>) -> Result<(), AllocErro
     }
 }
 
-/// Appends the lines of fields.
-pub(crate) fn push_fields(out: &mut String, fields: &Fields<'_>) -> Result<(), AllocError> {
+// Appends the lines of the specifier and the type.
+fn push_kind(out: &mut String, fields: &Fields<'_>) -> Result<(), AllocError> {
     out.push_str("specifier ")?;
     out.push_str(specifier_word(fields.specifier))?;
     out.push_str("\ntype ")?;
     push_type(out, fields.type_name)?;
-    out.push_str("\napi ")?;
-    push_texts_or_none(out, fields.api_schemas)?;
-    out.push_str("\nclips ")?;
-    push_texts_or_none(out, fields.clip_sets)?;
-    out.push_str("\nchildren ")?;
-    push_texts(out, fields.children)?;
-    out.push_str("\nproperties ")?;
-    push_texts(out, fields.properties)?;
-    out.push_str("\n")?;
+    out.push_str("\n")
+}
+
+// Appends a line of texts, or `none`, behind a word.
+fn push_list(out: &mut String, word: &str, texts: &Option<Items<Text>>) -> Result<(), AllocError> {
+    out.push_str(word)?;
+    push_texts_or_none(out, texts)?;
+    out.push_str("\n")
+}
+
+// Appends a line of names behind a word.
+fn push_names(out: &mut String, word: &str, names: &[Text]) -> Result<(), AllocError> {
+    out.push_str(word)?;
+    push_texts(out, names)?;
+    out.push_str("\n")
+}
+
+/// Appends the lines of fields.
+pub(crate) fn push_fields(out: &mut String, fields: &Fields<'_>) -> Result<(), AllocError> {
+    push_kind(out, fields)?;
+    push_list(out, "api ", fields.api_schemas)?;
+    push_list(out, "clips ", fields.clip_sets)?;
+    push_names(out, "children ", fields.children)?;
+    push_names(out, "properties ", fields.properties)?;
     push_meta(out, "", fields.meta)
+}
+
+// Appends the lines of fields and of names.
+fn push_all(
+    out: &mut String,
+    fields: &PrimFields,
+    children: &[Text],
+    properties: &[Text],
+) -> Result<(), CallFault> {
+    let printed = Fields {
+        specifier: fields.specifier,
+        type_name: &fields.type_name,
+        api_schemas: &fields.api_schemas,
+        clip_sets: &fields.clip_sets,
+        children,
+        properties,
+        meta: &fields.meta,
+    };
+    Ok(push_fields(out, &printed)?)
+}
+
+// Appends the lines of the fields at sites.
+fn push_fields_at(
+    alloc: Global,
+    out: &mut String,
+    world: &World,
+    sites: &[Site],
+) -> Result<(), CallFault> {
+    let children = child_names(alloc, world, sites)?;
+    let properties = property_names(alloc, world, sites)?;
+    let fields = prim_fields(alloc, world, sites)?;
+    let told = push_all(out, &fields, children.as_slice(), properties.as_slice());
+    drop(fields);
+    told
 }
 
 /// `fields PATH`: the fields of the prim.
@@ -55,22 +104,8 @@ pub(crate) fn push_fields_call(
     world: &World,
     words: &str,
 ) -> Result<(), CallFault> {
-    let path = path_of(alloc, words)?;
-    let found = index(alloc, world, &path)?;
-    let fields = prim_fields(alloc, world, found.sites())?;
-    let children = child_names(alloc, world, found.sites())?;
-    let properties = property_names(alloc, world, found.sites())?;
-    push_fields(
-        out,
-        &Fields {
-            specifier: fields.specifier,
-            type_name: &fields.type_name,
-            api_schemas: &fields.api_schemas,
-            clip_sets: &fields.clip_sets,
-            children: children.as_slice(),
-            properties: properties.as_slice(),
-            meta: &fields.meta,
-        },
-    )?;
-    Ok(())
+    let found = index_of(alloc, world, words)?;
+    let told = push_fields_at(alloc, out, world, found.sites());
+    drop(found);
+    told
 }

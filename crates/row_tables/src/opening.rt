@@ -5,13 +5,15 @@ use crate::files::AskedFiles;
 use crate::printing::{push_held, push_refusal};
 use crate::words::{first_word, layer_name};
 use asset_names::AssetId;
-use layer_load::{LoadFault, load_one, load_world};
-use layer_set::World;
+use layer_load::{LoadFault, Loaded, load_one, load_world};
+use layer_set::{Held, World};
 use prim_view::PrimView;
 use sdf_paths::Path;
+use spec_parts::Refusal;
 use stage_publish::Edition;
 use std::alloc::{AllocError, Global};
 use std::fmt::Write;
+use std::mem;
 
 /// The name of each world's root layer, where the call does not tell it.
 const ROOT: &str = "root.usda";
@@ -34,18 +36,25 @@ pub(crate) struct Trial {
     pub opened: Option<Opened>,
 }
 
+// Appends that the root layer is refused, or absent.
+fn push_root_refused(
+    out: &mut String,
+    name: &AssetId,
+    refusal: &Option<Refusal>,
+) -> Result<(), AllocError> {
+    let name = name.text();
+    write!(out, "refused @{name}@ ")?;
+    match refusal {
+        Some(refusal) => push_refusal(out, *refusal)?,
+        None => out.push_str("absent")?,
+    }
+    out.push_str("\n")
+}
+
 // Appends why a world or a layer was not opened.
 fn push_unopened(out: &mut String, fault: &LoadFault) -> Result<(), AllocError> {
     match fault {
-        LoadFault::RootRefused { name, refusal } => {
-            let name = name.text();
-            write!(out, "refused @{name}@ ")?;
-            match refusal {
-                Some(refusal) => push_refusal(out, *refusal)?,
-                None => out.push_str("absent")?,
-            }
-            out.push_str("\n")
-        }
+        LoadFault::RootRefused { name, refusal } => push_root_refused(out, name, refusal),
         LoadFault::WorldTooLarge => out.push_str("world too large\n"),
         LoadFault::ReadFault => out.push_str("not read\n"),
         LoadFault::NoMemory => out.push_str("no memory\n"),
@@ -60,6 +69,24 @@ fn session_of(alloc: Global, word: &str) -> Result<Option<AssetId>, CallFault> {
     Ok(Some(layer_name(alloc, word)?))
 }
 
+// Opens the world of files, whose session layer has the name that a word is. Where it is refused, why is appended.
+fn opened(
+    alloc: Global,
+    out: &mut String,
+    files: &mut AskedFiles,
+    session: &str,
+) -> Result<Option<Opened>, CallFault> {
+    let root = layer_name(alloc, ROOT)?;
+    let session = session_of(alloc, session)?;
+    match load_world(alloc, files, root, session) {
+        Ok(Loaded { world, bytes: _ }) => Ok(Some(Opened { world, stage: None })),
+        Err(fault) => {
+            push_unopened(out, &fault)?;
+            Ok(None)
+        }
+    }
+}
+
 /// Opens the world of the files, where no call did before. Where it is refused, why is appended.
 pub(crate) fn open_once(
     alloc: Global,
@@ -67,17 +94,8 @@ pub(crate) fn open_once(
     trial: &mut Trial,
 ) -> Result<(), CallFault> {
     if trial.opened.is_none() {
-        let root = layer_name(alloc, ROOT)?;
-        let session = session_of(alloc, trial.session.as_str())?;
-        match load_world(alloc, &mut trial.files, root, session) {
-            Ok(loaded) => {
-                trial.opened = Some(Opened {
-                    world: loaded.world,
-                    stage: None,
-                });
-            }
-            Err(fault) => push_unopened(out, &fault)?,
-        }
+        let opened = opened(alloc, out, &mut trial.files, trial.session.as_str())?;
+        drop(mem::replace(&mut trial.opened, opened));
     }
     Ok(())
 }
@@ -94,6 +112,49 @@ fn push_world(out: &mut String, world: &World) -> Result<(), AllocError> {
     Ok(())
 }
 
+// Appends how many bytes were fetched.
+fn push_bytes(out: &mut String, bytes: u64) -> Result<(), AllocError> {
+    writeln!(out, "{bytes} bytes")
+}
+
+// Appends what was opened: the names of a world, and the bytes.
+fn push_loaded(out: &mut String, loaded: &Loaded) -> Result<(), AllocError> {
+    push_world(out, &loaded.world)?;
+    push_bytes(out, loaded.bytes)
+}
+
+// Appends what stands at the name of a layer, and the bytes.
+fn push_one(out: &mut String, held: &Held, bytes: u64) -> Result<(), AllocError> {
+    push_held(out, held)?;
+    push_bytes(out, bytes)
+}
+
+// Appends the names that were asked, and the world that was opened or why none was.
+fn push_answer(
+    out: &mut String,
+    asked: &str,
+    answer: &Result<Loaded, LoadFault>,
+) -> Result<(), CallFault> {
+    out.push_str(asked)?;
+    match answer {
+        Ok(loaded) => Ok(push_loaded(out, loaded)?),
+        Err(fault) => Ok(push_unopened(out, fault)?),
+    }
+}
+
+// The same of a layer by itself.
+fn push_one_answer(
+    out: &mut String,
+    asked: &str,
+    answer: &Result<(Held, u64), LoadFault>,
+) -> Result<(), CallFault> {
+    out.push_str(asked)?;
+    match answer {
+        Ok((held, bytes)) => Ok(push_one(out, held, *bytes)?),
+        Err(fault) => Ok(push_unopened(out, fault)?),
+    }
+}
+
 /// `open ROOT SESSION`: the names that are asked, what stands at each name, and the bytes.
 pub(crate) fn push_open_call(
     alloc: Global,
@@ -106,16 +167,9 @@ pub(crate) fn push_open_call(
     let session = session_of(alloc, session)?;
     files.asked = String::new(alloc);
     let answer = load_world(alloc, files, root, session);
-    out.push_str(files.asked.as_str())?;
-    match &answer {
-        Ok(loaded) => {
-            push_world(out, &loaded.world)?;
-            let bytes = loaded.bytes;
-            writeln!(out, "{bytes} bytes")?;
-        }
-        Err(fault) => push_unopened(out, fault)?,
-    }
-    Ok(())
+    let told = push_answer(out, files.asked.as_str(), &answer);
+    drop(answer);
+    told
 }
 
 /// `one LAYER BYTES`: the same of the layer by itself, where so many bytes were fetched before.
@@ -132,28 +186,57 @@ pub(crate) fn push_one_call(
     };
     files.asked = String::new(alloc);
     let answer = load_one(alloc, files, &name, before);
-    out.push_str(files.asked.as_str())?;
-    match &answer {
-        Ok((held, bytes)) => {
-            push_held(out, held)?;
-            writeln!(out, "{bytes} bytes")?;
-        }
-        Err(fault) => push_unopened(out, fault)?,
+    let told = push_one_answer(out, files.asked.as_str(), &answer);
+    drop(answer);
+    told
+}
+
+// Puts the layer of a name into a world.
+fn put_layer(
+    alloc: Global,
+    files: &mut AskedFiles,
+    world: &mut World,
+    word: &str,
+) -> Result<(), CallFault> {
+    let name = layer_name(alloc, word)?;
+    match load_one(alloc, files, &name, 0) {
+        Ok((held, _bytes)) => Ok(world.put(name, held)?),
+        Err(_) => Err(CallFault::Bad),
+    }
+}
+
+// Puts the layers of names into a world.
+fn put_layers(
+    alloc: Global,
+    files: &mut AskedFiles,
+    world: &mut World,
+    words: &str,
+) -> Result<(), CallFault> {
+    for word in words.split_whitespace() {
+        put_layer(alloc, files, world, word)?;
     }
     Ok(())
 }
 
+// An empty world, whose session layer has the name that a word is.
+fn empty_world(alloc: Global, session: &str) -> Result<World, CallFault> {
+    let root = layer_name(alloc, ROOT)?;
+    let session = session_of(alloc, session)?;
+    Ok(World::new(alloc, root, session)?)
+}
+
 /// `bare LAYERS`: makes the world one of what stands at these names alone, the root layer among them or not.
 pub(crate) fn make_bare(alloc: Global, trial: &mut Trial, words: &str) -> Result<(), CallFault> {
-    let session = session_of(alloc, trial.session.as_str())?;
-    let mut world = World::new(alloc, layer_name(alloc, ROOT)?, session)?;
-    for word in words.split_whitespace() {
-        let name = layer_name(alloc, word)?;
-        let Ok((held, _bytes)) = load_one(alloc, &mut trial.files, &name, 0) else {
-            return Err(CallFault::Bad);
-        };
-        world.put(name, held)?;
+    let mut world = empty_world(alloc, trial.session.as_str())?;
+    match put_layers(alloc, &mut trial.files, &mut world, words) {
+        Ok(()) => {
+            let opened = Some(Opened { world, stage: None });
+            drop(mem::replace(&mut trial.opened, opened));
+            Ok(())
+        }
+        Err(fault) => {
+            drop(world);
+            Err(fault)
+        }
     }
-    trial.opened = Some(Opened { world, stage: None });
-    Ok(())
 }

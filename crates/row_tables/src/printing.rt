@@ -5,7 +5,7 @@ use path_maps::ArcKind;
 use plain_data::{Items, Text};
 use prim_view::{PrimFault, Site, StackName, print_fault, refusal_name};
 use sdf_paths::Path;
-use sdf_values::{LayerOffset, push_asset, push_string, push_time, push_value};
+use sdf_values::{LayerOffset, Value, push_asset, push_string, push_time, push_value};
 use spec_parts::{Refusal, Specifier};
 use spec_properties::{Meta, Samples};
 use std::alloc::AllocError;
@@ -168,6 +168,13 @@ pub(crate) fn push_faults(out: &mut String, faults: &[PrimFault]) -> Result<(), 
     Ok(())
 }
 
+// Appends a value at the end of a line.
+fn push_last_value(out: &mut String, value: &Value) -> Result<(), AllocError> {
+    out.push_str(" ")?;
+    push_value(out, value, 0)?;
+    out.push_str("\n")
+}
+
 /// Appends a line for each sample.
 pub(crate) fn push_samples(
     out: &mut String,
@@ -178,9 +185,7 @@ pub(crate) fn push_samples(
         out.push_str(indent)?;
         out.push_str("sample ")?;
         push_time(out, *time)?;
-        out.push_str(" ")?;
-        push_value(out, value, 0)?;
-        out.push_str("\n")?;
+        push_last_value(out, value)?;
     }
     Ok(())
 }
@@ -191,9 +196,7 @@ pub(crate) fn push_meta(out: &mut String, indent: &str, meta: &Meta) -> Result<(
         out.push_str(indent)?;
         out.push_str("meta ")?;
         out.push_str(key.as_str())?;
-        out.push_str(" ")?;
-        push_value(out, value, 0)?;
-        out.push_str("\n")?;
+        push_last_value(out, value)?;
     }
     Ok(())
 }

@@ -67,9 +67,23 @@ fn run_row(
     Ok(Count::one(differs))
 }
 
+// Makes the calls of rows.
+fn run_rows(
+    alloc: Global,
+    name: &str,
+    trial: &mut Trial,
+    rows: &[Row],
+    out: &mut String,
+) -> Result<Count, AllocError> {
+    let mut all = Count { rows: 0, differ: 0 };
+    for row in rows {
+        all = all.and(run_row(alloc, name, trial, row, out)?);
+    }
+    Ok(all)
+}
+
 // Makes the calls on a world.
 fn run_case(alloc: Global, name: &str, case: Case, out: &mut String) -> Result<Count, AllocError> {
-    let mut all = Count { rows: 0, differ: 0 };
     let Case {
         session,
         fails,
@@ -81,8 +95,17 @@ fn run_case(alloc: Global, name: &str, case: Case, out: &mut String) -> Result<C
         session,
         opened: None,
     };
-    for row in rows.as_slice() {
-        all = all.and(run_row(alloc, name, &mut trial, row, out)?);
+    let count = run_rows(alloc, name, &mut trial, rows.as_slice(), out);
+    drop(trial);
+    count
+}
+
+// Appends the lines that no table has at their place; each counts as a row that differs.
+fn run_strange(name: &str, strange: &[usize], out: &mut String) -> Result<Count, AllocError> {
+    let mut all = Count { rows: 0, differ: 0 };
+    for line in strange {
+        writeln!(out, "{name} {line}: no line of a table")?;
+        all = all.and(Count::one(true));
     }
     Ok(all)
 }
@@ -95,11 +118,7 @@ pub(crate) fn run_table(
     out: &mut String,
 ) -> Result<Count, AllocError> {
     let Table { cases, strange } = table;
-    let mut all = Count { rows: 0, differ: 0 };
-    for line in strange.as_slice() {
-        writeln!(out, "{name} {line}: no line of a table")?;
-        all = all.and(Count::one(true));
-    }
+    let mut all = run_strange(name, strange.as_slice(), out)?;
     for case in cases {
         all = all.and(run_case(alloc, name, case, out)?);
     }

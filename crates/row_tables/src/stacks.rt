@@ -3,11 +3,16 @@
 use crate::fault::CallFault;
 use crate::printing::{push_choices, push_faults, push_offset, push_stack, push_target};
 use crate::words::{first_word, kind_of, path_of, stack_name};
-use arc_expand::{ArcItem, arcs_at, has_spec_at, selections_at, stack_of, variant_sets_at};
+use arc_expand::{
+    ArcItem, ArcsHere, arcs_at, has_spec_at, selections_at, stack_of, variant_sets_at,
+};
 use asset_names::AssetId;
 use layer_set::{Key, World};
-use layer_stack::stack;
+use layer_stack::{LayerStack, stack};
+use plain_data::{Items, Text};
+use prim_view::StackName;
 use sdf_paths::Path;
+use sdf_values::LayerOffset;
 use std::alloc::{AllocError, Global};
 
 // Appends a layer's name and a path.
@@ -40,13 +45,50 @@ fn push_key(out: &mut String, key: &Key) -> Result<(), AllocError> {
 }
 
 /// Appends a line for each key.
-pub(crate) fn push_keys(out: &mut String, word: &str, keys: &[Key]) -> Result<(), AllocError> {
+pub(crate) fn push_keys(out: &mut String, word: &str, keys: &[Key]) -> Result<(), CallFault> {
     for key in keys {
         out.push_str(word)?;
         push_key(out, key)?;
         out.push_str("\n")?;
     }
     Ok(())
+}
+
+// Appends a line for the name of a stack.
+fn push_name(out: &mut String, name: &StackName) -> Result<(), AllocError> {
+    out.push_str("stack ")?;
+    push_stack(out, name)?;
+    out.push_str("\n")
+}
+
+// Appends a line for each layer of a stack.
+fn push_layers(out: &mut String, layers: &[(AssetId, LayerOffset)]) -> Result<(), AllocError> {
+    for (name, offset) in layers {
+        out.push_str("layer ")?;
+        out.push_str(name.text())?;
+        out.push_str(" ")?;
+        push_offset(out, *offset)?;
+        out.push_str("\n")?;
+    }
+    Ok(())
+}
+
+// Appends a line for each name that was asked.
+fn push_asked(out: &mut String, asked: &[AssetId]) -> Result<(), AllocError> {
+    for name in asked {
+        out.push_str("asked ")?;
+        out.push_str(name.text())?;
+        out.push_str("\n")?;
+    }
+    Ok(())
+}
+
+// Appends all that a layer stack has.
+fn push_found(out: &mut String, found: &LayerStack) -> Result<(), CallFault> {
+    push_name(out, &found.name)?;
+    push_layers(out, found.layers.as_slice())?;
+    push_faults(out, found.faults.as_slice())?;
+    Ok(push_asked(out, found.asked.as_slice())?)
 }
 
 /// `stack STACK`: the name that it means, its layers, its faults, and the names that it asks.
@@ -58,60 +100,120 @@ pub(crate) fn push_stack_call(
 ) -> Result<(), CallFault> {
     let name = stack_name(alloc, words)?;
     let found = stack(alloc, world, &name)?;
-    out.push_str("stack ")?;
-    push_stack(out, &found.name)?;
-    out.push_str("\n")?;
-    for (name, offset) in found.layers.as_slice() {
-        out.push_str("layer ")?;
-        out.push_str(name.text())?;
-        out.push_str(" ")?;
-        push_offset(out, *offset)?;
-        out.push_str("\n")?;
-    }
-    push_faults(out, found.faults.as_slice())?;
-    for name in found.asked.as_slice() {
-        out.push_str("asked ")?;
-        out.push_str(name.text())?;
-        out.push_str("\n")?;
-    }
-    Ok(())
+    let told = push_found(out, &found);
+    drop(found);
+    told
 }
 
-fn push_arc(out: &mut String, arc: &ArcItem) -> Result<(), AllocError> {
+// Appends the first words of the line of an arc.
+fn push_target_of(out: &mut String, arc: &ArcItem) -> Result<(), AllocError> {
     out.push_str("arc ")?;
     push_stack(out, &arc.stack)?;
     out.push_str(" ")?;
     push_target(out, &arc.target)?;
-    out.push_str(" ")?;
+    out.push_str(" ")
+}
+
+fn push_arc(out: &mut String, arc: &ArcItem) -> Result<(), AllocError> {
+    push_target_of(out, arc)?;
     push_offset(out, arc.offset)?;
     out.push_str(" by ")?;
     out.push_str(arc.author.text())?;
     out.push_str("\n")
 }
 
-/// `arcs KIND STACK PATH`: the arcs, and the faults of items that are none; `reads KIND STACK PATH`: the keys that they are made of.
+// The name of a stack and the path that words tell.
+fn place_of(alloc: Global, words: &str) -> Result<(StackName, Path), CallFault> {
+    let (name, path) = first_word(words);
+    let name = stack_name(alloc, name)?;
+    Ok((name, path_of(alloc, path)?))
+}
+
+// The arcs of a kind, of a stack and a path, that words tell.
+fn arcs_of(alloc: Global, world: &World, words: &str) -> Result<ArcsHere, CallFault> {
+    let (kind, words) = first_word(words);
+    let kind = kind_of(kind)?;
+    let (name, path) = place_of(alloc, words)?;
+    let stack = stack_of(alloc, world, &name)?;
+    Ok(arcs_at(alloc, world, &stack, &path, kind)?)
+}
+
+// Appends arcs, and the faults of items that are none.
+fn push_arcs(out: &mut String, here: &ArcsHere) -> Result<(), CallFault> {
+    for arc in here.items.as_slice() {
+        push_arc(out, arc)?;
+    }
+    Ok(push_faults(out, here.faults.as_slice())?)
+}
+
+/// `arcs KIND STACK PATH`: the arcs, and the faults of items that are none.
 pub(crate) fn push_arcs_call(
     alloc: Global,
     out: &mut String,
     world: &World,
     words: &str,
-    reads: bool,
 ) -> Result<(), CallFault> {
-    let (kind, words) = first_word(words);
-    let (name, path) = first_word(words);
-    let kind = kind_of(kind)?;
-    let name = stack_name(alloc, name)?;
-    let path = path_of(alloc, path)?;
+    let here = arcs_of(alloc, world, words)?;
+    let told = push_arcs(out, &here);
+    drop(here);
+    told
+}
+
+/// `reads KIND STACK PATH`: the keys that those are made of.
+pub(crate) fn push_reads_call(
+    alloc: Global,
+    out: &mut String,
+    world: &World,
+    words: &str,
+) -> Result<(), CallFault> {
+    let here = arcs_of(alloc, world, words)?;
+    let told = push_keys(out, "", here.reads.as_slice());
+    drop(here);
+    told
+}
+
+/// What the layers of a stack author at a path.
+#[derive(Drop)]
+struct Authored {
+    sets: Items<Text>,
+    selections: Items<(Text, Text)>,
+    has_spec: bool,
+}
+
+// What the layers author of the stack and at the path that words tell.
+fn authored(alloc: Global, world: &World, words: &str) -> Result<Authored, CallFault> {
+    let (name, path) = place_of(alloc, words)?;
     let stack = stack_of(alloc, world, &name)?;
-    let here = arcs_at(alloc, world, &stack, &path, kind)?;
-    if reads {
-        return Ok(push_keys(out, "", here.reads.as_slice())?);
+    let has_spec = has_spec_at(alloc, world, &stack, &path)?;
+    let sets = variant_sets_at(alloc, world, &stack, &path)?;
+    let selections = selections_at(alloc, world, &stack, &path)?;
+    Ok(Authored {
+        sets,
+        selections,
+        has_spec,
+    })
+}
+
+// Appends a line for each variant set.
+fn push_sets(out: &mut String, sets: &[Text]) -> Result<(), AllocError> {
+    for set in sets {
+        out.push_str("set ")?;
+        out.push_str(set.as_str())?;
+        out.push_str("\n")?;
     }
-    for arc in here.items.as_slice() {
-        push_arc(out, arc)?;
-    }
-    push_faults(out, here.faults.as_slice())?;
     Ok(())
+}
+
+// Appends what is authored.
+fn push_authored(out: &mut String, found: &Authored) -> Result<(), CallFault> {
+    push_sets(out, found.sets.as_slice())?;
+    push_choices(out, "selection", found.selections.as_slice())?;
+    let word = if found.has_spec {
+        "has spec\n"
+    } else {
+        "no spec\n"
+    };
+    Ok(out.push_str(word)?)
 }
 
 /// `sets STACK PATH`: variant sets, selections, and whether there is a spec.
@@ -121,19 +223,8 @@ pub(crate) fn push_sets_call(
     world: &World,
     words: &str,
 ) -> Result<(), CallFault> {
-    let (name, path) = first_word(words);
-    let name = stack_name(alloc, name)?;
-    let path = path_of(alloc, path)?;
-    let stack = stack_of(alloc, world, &name)?;
-    let sets = variant_sets_at(alloc, world, &stack, &path)?;
-    for set in sets.as_slice() {
-        out.push_str("set ")?;
-        out.push_str(set.as_str())?;
-        out.push_str("\n")?;
-    }
-    let selections = selections_at(alloc, world, &stack, &path)?;
-    push_choices(out, "selection", selections.as_slice())?;
-    let has_spec = has_spec_at(alloc, world, &stack, &path)?;
-    out.push_str(if has_spec { "has spec\n" } else { "no spec\n" })?;
-    Ok(())
+    let found = authored(alloc, world, words)?;
+    let told = push_authored(out, &found);
+    drop(found);
+    told
 }

@@ -10,6 +10,7 @@ use stage_composer::UsdComposer;
 use stage_publish::Edition;
 use stage_questions::{Question, push_answer};
 use std::alloc::{AllocError, Global};
+use std::mem;
 
 /// As many paths as a stage has at most.
 const MOST_PATHS: usize = 262_144;
@@ -26,7 +27,8 @@ fn composed(alloc: Global, world: &World) -> Result<Stage, CallFault> {
 // Composes the stage of the world that was opened, where it was not asked before.
 fn compose_once(alloc: Global, opened: &mut Opened) -> Result<(), CallFault> {
     if opened.stage.is_none() {
-        opened.stage = Some(composed(alloc, &opened.world)?);
+        let stage = composed(alloc, &opened.world)?;
+        drop(mem::replace(&mut opened.stage, Some(stage)));
     }
     Ok(())
 }
@@ -35,7 +37,10 @@ fn compose_once(alloc: Global, opened: &mut Opened) -> Result<(), CallFault> {
 fn question_of(alloc: Global, line: &str) -> Result<Question, CallFault> {
     match read_line(alloc, line.as_bytes())? {
         Some(Line::Ask(question)) => Ok(question),
-        _ => Err(CallFault::Bad),
+        other => {
+            drop(other);
+            Err(CallFault::Bad)
+        }
     }
 }
 
@@ -45,6 +50,24 @@ pub(crate) fn push_bytes(alloc: Global, out: &mut String, bytes: &[u8]) -> Resul
     out.push_str(text.as_str())
 }
 
+// Appends the answer to a question on the stage that was composed.
+fn push_reply(
+    alloc: Global,
+    out: &mut String,
+    opened: &Opened,
+    question: &Question,
+) -> Result<(), CallFault> {
+    match &opened.stage {
+        Some(stage) => {
+            let mut answer = Vec::new(alloc);
+            let root = opened.world.root();
+            push_answer(alloc, &mut answer, root, &stage.view(), question)?;
+            Ok(push_bytes(alloc, out, answer.as_slice())?)
+        }
+        None => Err(CallFault::Bad),
+    }
+}
+
 /// `ask QUESTION`: the answer, as a session writes it.
 pub(crate) fn push_ask_call(
     alloc: Global,
@@ -52,17 +75,11 @@ pub(crate) fn push_ask_call(
     opened: &mut Opened,
     words: &str,
 ) -> Result<(), CallFault> {
-    let question = question_of(alloc, words)?;
     compose_once(alloc, opened)?;
-    match &opened.stage {
-        Some(stage) => {
-            let mut answer = Vec::new(alloc);
-            let root = opened.world.root();
-            push_answer(alloc, &mut answer, root, &stage.view(), &question)?;
-            Ok(push_bytes(alloc, out, answer.as_slice())?)
-        }
-        None => Err(CallFault::Bad),
-    }
+    let question = question_of(alloc, words)?;
+    let told = push_reply(alloc, out, opened, &question);
+    drop(question);
+    told
 }
 
 /// `flatten`: the text of the flattened layer.

@@ -72,6 +72,16 @@ fn push_line(text: &mut String, line: &str) -> Result<(), AllocError> {
     text.push_str("\n")
 }
 
+// Makes bytes so many by further `-`, or leaves out the last ones.
+fn fill(alloc: Global, bytes: &mut Vec<u8>, size: usize) -> Result<(), AllocError> {
+    let mut piece = Vec::new(alloc);
+    piece.resize(PIECE, b'-')?;
+    for _piece in 0..size.saturating_sub(bytes.len()) / PIECE {
+        bytes.extend_from_slice(piece.as_slice())?;
+    }
+    bytes.resize(size, b'-')
+}
+
 /// A table that is being read, with what its last lines began.
 #[derive(Drop)]
 struct Draft {
@@ -115,11 +125,10 @@ impl Draft {
 
     // A line of a file with its end; false where none was begun.
     fn push_text(&mut self, text: &str, end: &str) -> Result<bool, AllocError> {
-        match self.file.take() {
-            Some((name, mut bytes)) => {
+        match &mut self.file {
+            Some((_name, bytes)) => {
                 bytes.extend_from_slice(text.as_bytes())?;
                 bytes.extend_from_slice(end.as_bytes())?;
-                self.file = Some((name, bytes));
                 Ok(true)
             }
             None => Ok(false),
@@ -130,12 +139,7 @@ impl Draft {
     fn set_size(&mut self, size: &str) -> Result<bool, AllocError> {
         match (self.file.take(), size.parse::<usize>()) {
             (Some((name, mut bytes)), Ok(size)) => {
-                let mut piece = Vec::new(self.alloc);
-                piece.resize(PIECE, b'-')?;
-                for _ in 0..size.saturating_sub(bytes.len()) / PIECE {
-                    bytes.extend_from_slice(piece.as_slice())?;
-                }
-                bytes.resize(size, b'-')?;
+                fill(self.alloc, &mut bytes, size)?;
                 self.file = Some((name, bytes));
                 Ok(true)
             }
@@ -145,14 +149,47 @@ impl Draft {
 
     // A line that belongs to a call, or is wanted of it; false where no call was begun.
     fn push_row_line(&mut self, text: &str, is_wanted: bool) -> Result<bool, AllocError> {
-        match self.row.take() {
-            Some(mut row) => {
+        match &mut self.row {
+            Some(row) => {
                 if is_wanted {
                     push_line(&mut row.wanted, text)?;
                 } else {
                     push_line(&mut row.given, text)?;
                 }
-                self.row = Some(row);
+                Ok(true)
+            }
+            None => Ok(false),
+        }
+    }
+
+    // Takes all lines of a text.
+    fn take_all(&mut self, text: &str) -> Result<(), AllocError> {
+        let mut number: usize = 0;
+        for line in text.split('\n') {
+            number = number.saturating_add(1);
+            if !self.take(number, line)? {
+                self.table.strange.push(number)?;
+            }
+        }
+        self.end_case()
+    }
+
+    // Begins a file without bytes.
+    fn begin_file(&mut self, name: &str) -> Result<(), AllocError> {
+        let name = String::from_str(self.alloc, name)?;
+        self.file = Some((name, Vec::new(self.alloc)));
+        Ok(())
+    }
+
+    // Takes a line that tells of the session layer or of fetches that fail; false where it does not.
+    fn take_told(&mut self, line: &str) -> Result<bool, AllocError> {
+        if let Some(name) = line.strip_prefix("session ") {
+            self.case.session = String::from_str(self.alloc, name)?;
+            return Ok(true);
+        }
+        match line.strip_prefix("fails ") {
+            Some(words) => {
+                self.case.fails = String::from_str(self.alloc, words)?;
                 Ok(true)
             }
             None => Ok(false),
@@ -167,30 +204,19 @@ impl Draft {
         self.end()?;
         if line == "world" {
             self.end_case()?;
-        } else if let Some(name) = line.strip_prefix("layer ") {
-            let name = String::from_str(self.alloc, name)?;
-            self.file = Some((name, Vec::new(self.alloc)));
-        } else if let Some(name) = line.strip_prefix("session ") {
-            self.case.session = String::from_str(self.alloc, name)?;
-        } else if let Some(words) = line.strip_prefix("fails ") {
-            self.case.fails = String::from_str(self.alloc, words)?;
-        } else {
-            return Ok(false);
-        }
-        Ok(true)
-    }
-
-    // Takes a line; false where no table has it there.
-    fn take(&mut self, number: usize, line: &str) -> Result<bool, AllocError> {
-        if line.is_empty() || line.starts_with("#") {
             return Ok(true);
         }
-        if let Some(text) = line.strip_prefix("|") {
-            return self.push_text(text, "\n");
+        match line.strip_prefix("layer ") {
+            Some(name) => {
+                self.begin_file(name)?;
+                Ok(true)
+            }
+            None => self.take_told(line),
         }
-        if let Some(text) = line.strip_prefix("!") {
-            return self.push_text(text, "");
-        }
+    }
+
+    // Takes a line of a row; false where no table has it there.
+    fn take_row(&mut self, number: usize, line: &str) -> Result<bool, AllocError> {
         if let Some(call) = line.strip_prefix("? ") {
             self.begin_row(number, call)?;
             return Ok(true);
@@ -201,6 +227,20 @@ impl Draft {
         match line.strip_prefix("=") {
             Some(text) => self.push_row_line(text, true),
             None => self.take_word(line),
+        }
+    }
+
+    // Takes a line; false where no table has it there.
+    fn take(&mut self, number: usize, line: &str) -> Result<bool, AllocError> {
+        if line.is_empty() || line.starts_with("#") {
+            return Ok(true);
+        }
+        if let Some(text) = line.strip_prefix("|") {
+            return self.push_text(text, "\n");
+        }
+        match line.strip_prefix("!") {
+            Some(text) => self.push_text(text, ""),
+            None => self.take_row(number, line),
         }
     }
 }
@@ -217,14 +257,7 @@ pub(crate) fn read_table(alloc: Global, text: &str) -> Result<Table, AllocError>
         file: None,
         row: None,
     };
-    let mut number: usize = 0;
-    for line in text.split('\n') {
-        number = number.saturating_add(1);
-        if !draft.take(number, line)? {
-            draft.table.strange.push(number)?;
-        }
-    }
-    draft.end_case()?;
+    draft.take_all(text)?;
     let Draft {
         alloc: _,
         table,

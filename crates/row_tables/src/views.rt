@@ -48,6 +48,14 @@ fn push_paths(out: &mut String, word: &str, paths: &Option<Items<Path>>) -> Resu
     }
 }
 
+// Appends the name and the type of an attribute.
+fn push_typed_name(out: &mut String, name: &Text, ty: TypeName) -> Result<(), AllocError> {
+    out.push_str("attr ")?;
+    out.push_str(name.as_str())?;
+    out.push_str(" ")?;
+    push_type(out, ty)
+}
+
 // Appends the first line of an attribute.
 fn push_attribute(
     out: &mut String,
@@ -56,10 +64,7 @@ fn push_attribute(
     custom: bool,
     uniform: bool,
 ) -> Result<(), AllocError> {
-    out.push_str("attr ")?;
-    out.push_str(name.as_str())?;
-    out.push_str(" ")?;
-    push_type(out, ty)?;
+    push_typed_name(out, name, ty)?;
     push_flag(out, custom, " custom")?;
     push_flag(out, uniform, " uniform")?;
     out.push_str("\n")
@@ -114,13 +119,8 @@ fn names_of(alloc: Global, properties: &[PropertyView]) -> Result<Items<Text>, A
     Ok(names)
 }
 
-// Appends the lines of a view.
-fn push_view(
-    alloc: Global,
-    out: &mut String,
-    world: &World,
-    view: &PrimView,
-) -> Result<(), AllocError> {
+// Appends the lines of the fields of a view.
+fn push_view_fields(alloc: Global, out: &mut String, view: &PrimView) -> Result<(), AllocError> {
     let names = names_of(alloc, view.properties.as_slice())?;
     push_fields(
         out,
@@ -133,13 +133,23 @@ fn push_view(
             properties: names.as_slice(),
             meta: &view.meta,
         },
-    )?;
+    )
+}
+
+// Appends the lines of a view.
+fn push_view(
+    alloc: Global,
+    out: &mut String,
+    world: &World,
+    view: &PrimView,
+) -> Result<(), CallFault> {
+    push_view_fields(alloc, out, view)?;
     for property in view.properties.as_slice() {
         push_property(out, property)?;
     }
     push_choices(out, "choice", view.choices.as_slice())?;
     push_sites(out, world, view.sites.as_slice())?;
-    push_faults(out, view.faults.as_slice())
+    Ok(push_faults(out, view.faults.as_slice())?)
 }
 
 /// `view PATH`: all that the view has.
@@ -151,6 +161,7 @@ pub(crate) fn push_view_call(
 ) -> Result<(), CallFault> {
     let path = path_of(alloc, words)?;
     let view = compose_prim(alloc, world, &path)?;
-    push_view(alloc, out, world, &view)?;
-    Ok(())
+    let told = push_view(alloc, out, world, &view);
+    drop(view);
+    told
 }

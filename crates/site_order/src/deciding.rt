@@ -18,6 +18,7 @@ use plain_data::{Items, Text, copy, same};
 use prim_trees::Tree;
 use prim_view::Choices;
 use std::alloc::{AllocError, Global};
+use std::mem;
 
 /// What a round decides beside the choices so far: for each variant set that is met in the tree and has no choice yet, in the order
 /// in which they are met, the first opinion of its sites.
@@ -86,10 +87,18 @@ fn first_of_each(all: Items<Text>) -> Result<Items<Text>, AllocError>
 {
     let alloc = all.allocator();
     let mut list = ListOp::new(alloc);
-    list.explicit = Some(all);
+    drop(mem::replace(&mut list.explicit, Some(all)));
     let mut kept = Vec::new(alloc);
-    list.apply_ordered(&mut kept)?;
-    Ok(Items::from_vec(kept))
+    match list.apply_ordered(&mut kept) {
+        Ok(()) => {
+            drop(list);
+            Ok(Items::from_vec(kept))
+        }
+        Err(error) => {
+            drop((list, kept));
+            Err(error)
+        }
+    }
 }
 
 /// The sets that have no choice.

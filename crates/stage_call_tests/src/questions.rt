@@ -12,7 +12,8 @@ use spec_parts::{Refusal, Specifier};
 use spec_properties::{Meta, Samples};
 use stage_publish::Edition;
 use stage_questions::{Question, push_answer, push_edit_reply, push_publish_reply};
-use std::alloc::{AllocError, Global};
+use std::alloc::Global;
+use std::mem;
 use std::test::Fail;
 
 const INT: TypeName = TypeName {
@@ -28,22 +29,14 @@ struct Said {
     paths: Option<Items<Path>>,
 }
 
-fn nothing(alloc: Global) -> Said {
-    Said {
-        default: None,
-        samples: Samples::new(alloc),
-        paths: None,
-    }
-}
-
-fn attribute(alloc: Global, name: &str, said: Said) -> Result<PropertyView, Fail> {
+fn attribute(alloc: Global, name: Text, said: Said) -> PropertyView {
     let Said {
         default,
         samples,
         paths,
     } = said;
-    Ok(PropertyView::Attr {
-        name: Text::of(alloc, name)?,
+    PropertyView::Attr {
+        name,
         ty: INT,
         custom: false,
         uniform: false,
@@ -51,20 +44,16 @@ fn attribute(alloc: Global, name: &str, said: Said) -> Result<PropertyView, Fail
         samples,
         connections: paths,
         meta: Meta::new(alloc),
-    })
+    }
 }
 
-fn relationship(
-    alloc: Global,
-    name: &str,
-    targets: Option<Items<Path>>,
-) -> Result<PropertyView, Fail> {
-    Ok(PropertyView::Rel {
-        name: Text::of(alloc, name)?,
+fn relationship(alloc: Global, name: Text, targets: Option<Items<Path>>) -> PropertyView {
+    PropertyView::Rel {
+        name,
         custom: false,
         targets,
         meta: Meta::new(alloc),
-    })
+    }
 }
 
 fn at(text: &str) -> Result<TimeCode, Fail> {
@@ -88,26 +77,27 @@ fn names(alloc: Global, texts: &[&str]) -> Result<Items<Text>, Fail> {
 }
 
 /// A prim with these children of which no more is said.
-fn prim(alloc: Global, children: &[&str]) -> Result<PrimView, Fail> {
-    Ok(PrimView {
+fn prim(alloc: Global, children: Items<Text>) -> PrimView {
+    PrimView {
         specifier: Specifier::Def,
         type_name: None,
         meta: Meta::new(alloc),
         api_schemas: None,
         clip_sets: None,
         properties: Items::new(alloc),
-        children: names(alloc, children)?,
+        children,
         choices: Items::new(alloc),
         sites: Items::new(alloc),
         faults: Items::new(alloc),
         since: 0,
-    })
+    }
 }
 
 fn site(alloc: Global, stack: StackName, path: &str, has_spec: bool) -> Result<Site, Fail> {
+    let path = Path::parse(alloc, path)?;
     Ok(Site {
         stack,
-        path: Path::parse(alloc, path)?,
+        path,
         maps: Items::new(alloc),
         offset: LayerOffset {
             offset: 0,
@@ -122,73 +112,143 @@ fn layer(alloc: Global, name: &str) -> Result<StackName, Fail> {
     Ok(StackName::Asset(AssetId::of_word(alloc, name)?))
 }
 
+fn put_sample(samples: &mut Samples, time: TimeCode, value: Value) -> Result<(), Fail> {
+    let _before = samples.insert(time, value)?;
+    Ok(())
+}
+
+fn put_samples(samples: &mut Samples) -> Result<(), Fail> {
+    put_sample(samples, at("2.5")?, Value::Block)?;
+    put_sample(samples, at("-1")?, Value::Whole(2))
+}
+
 /// Two samples, of which the later one is a block.
 fn two_samples(alloc: Global) -> Result<Samples, Fail> {
     let mut samples = Samples::new(alloc);
-    let _before = samples.insert(at("2.5")?, Value::Block)?;
-    let _before = samples.insert(at("-1")?, Value::Whole(2))?;
+    put_samples(&mut samples)?;
     Ok(samples)
+}
+
+/// A dictionary of one entry.
+fn dictionary(alloc: Global, key: &str, ty: DictType, value: Value) -> Result<Value, Fail> {
+    let key = Text::of(alloc, key)?;
+    let mut items = Items::new(alloc);
+    items.push(DictItem { key, ty, value })?;
+    Ok(Value::Dict(items))
 }
 
 /// A dictionary in a dictionary.
 fn nested(alloc: Global) -> Result<Value, Fail> {
-    let mut inner = Items::new(alloc);
-    inner.push(DictItem {
-        key: Text::of(alloc, "k")?,
-        ty: DictType::Plain(INT),
-        value: Value::Whole(1),
-    })?;
-    let mut outer = Items::new(alloc);
-    outer.push(DictItem {
-        key: Text::of(alloc, "d")?,
-        ty: DictType::Dictionary,
-        value: Value::Dict(inner),
-    })?;
-    Ok(Value::Dict(outer))
+    let inner = dictionary(alloc, "k", DictType::Plain(INT), Value::Whole(1))?;
+    dictionary(alloc, "d", DictType::Dictionary, inner)
+}
+
+/// An attribute of which no more than a default is said.
+fn with_default(alloc: Global, name: &str, default: Option<Value>) -> Result<PropertyView, Fail> {
+    let name = Text::of(alloc, name)?;
+    let said = Said {
+        default,
+        samples: Samples::new(alloc),
+        paths: None,
+    };
+    Ok(attribute(alloc, name, said))
+}
+
+/// An attribute with a default, samples and a connection.
+fn full_attribute(alloc: Global) -> Result<PropertyView, Fail> {
+    let name = Text::of(alloc, "x")?;
+    let connections = paths(alloc, &["/B.y"])?;
+    let samples = two_samples(alloc)?;
+    let said = Said {
+        default: Some(Value::Whole(5)),
+        samples,
+        paths: Some(connections),
+    };
+    Ok(attribute(alloc, name, said))
+}
+
+/// A relationship with these targets.
+fn targeting(alloc: Global, name: &str, targets: &[&str]) -> Result<PropertyView, Fail> {
+    let name = Text::of(alloc, name)?;
+    let targets = paths(alloc, targets)?;
+    Ok(relationship(alloc, name, Some(targets)))
+}
+
+fn push_attributes(alloc: Global, properties: &mut Items<PropertyView>) -> Result<(), Fail> {
+    properties.push(full_attribute(alloc)?)?;
+    properties.push(with_default(alloc, "b:c", Some(Value::Block))?)?;
+    let dictionary = Some(nested(alloc)?);
+    properties.push(with_default(alloc, "d", dictionary)?)?;
+    properties.push(with_default(alloc, "n", None)?)?;
+    Ok(())
+}
+
+fn push_relationships(alloc: Global, properties: &mut Items<PropertyView>) -> Result<(), Fail> {
+    properties.push(targeting(alloc, "r", &["/B", "/C/D.p"])?)?;
+    properties.push(targeting(alloc, "e", &[])?)?;
+    properties.push(relationship(alloc, Text::of(alloc, "q")?, None))?;
+    Ok(())
+}
+
+fn push_sites(alloc: Global, sites: &mut Items<Site>) -> Result<(), Fail> {
+    sites.push(site(alloc, StackName::Root, "/A", true)?)?;
+    let named = layer(alloc, "m.usda")?;
+    sites.push(site(alloc, named, "/M", false)?)?;
+    let named = layer(alloc, "n@.usda")?;
+    sites.push(site(alloc, named, "/N{s=v}O", true)?)?;
+    Ok(())
+}
+
+fn push_faults(alloc: Global, faults: &mut Items<PrimFault>) -> Result<(), Fail> {
+    faults.push(PrimFault::ChildTooLong(Text::of(alloc, "k\"")?))?;
+    faults.push(PrimFault::Overgrown)?;
+    Ok(())
+}
+
+fn push_all(alloc: Global, prim: &mut PrimView) -> Result<(), Fail> {
+    push_attributes(alloc, &mut prim.properties)?;
+    push_relationships(alloc, &mut prim.properties)?;
+    push_sites(alloc, &mut prim.sites)?;
+    push_faults(alloc, &mut prim.faults)
 }
 
 /// The prim `/A`.
 fn busy_prim(alloc: Global) -> Result<PrimView, Fail> {
-    let mut all = prim(alloc, &[])?;
-    let mut x = nothing(alloc);
-    x.default = Some(Value::Whole(5));
-    x.samples = two_samples(alloc)?;
-    x.paths = Some(paths(alloc, &["/B.y"])?);
-    all.properties.push(attribute(alloc, "x", x)?)?;
-    let mut blocked = nothing(alloc);
-    blocked.default = Some(Value::Block);
-    all.properties.push(attribute(alloc, "b:c", blocked)?)?;
-    let mut dictionary = nothing(alloc);
-    dictionary.default = Some(nested(alloc)?);
-    all.properties.push(attribute(alloc, "d", dictionary)?)?;
-    let unsaid = nothing(alloc);
-    all.properties.push(attribute(alloc, "n", unsaid)?)?;
-    let targets = paths(alloc, &["/B", "/C/D.p"])?;
-    all.properties
-        .push(relationship(alloc, "r", Some(targets))?)?;
-    let none = Some(paths(alloc, &[])?);
-    all.properties.push(relationship(alloc, "e", none)?)?;
-    all.properties.push(relationship(alloc, "q", None)?)?;
-    all.sites.push(site(alloc, StackName::Root, "/A", true)?)?;
-    all.sites
-        .push(site(alloc, layer(alloc, "m.usda")?, "/M", false)?)?;
-    all.sites
-        .push(site(alloc, layer(alloc, "n@.usda")?, "/N{s=v}O", true)?)?;
-    let long = Text::of(alloc, "k\"")?;
-    all.faults.push(PrimFault::ChildTooLong(long))?;
-    all.faults.push(PrimFault::Overgrown)?;
-    Ok(all)
+    let mut all = prim(alloc, Items::new(alloc));
+    match push_all(alloc, &mut all) {
+        Ok(()) => Ok(all),
+        Err(fault) => {
+            drop(all);
+            Err(fault)
+        }
+    }
+}
+
+/// The prims of a stage, with their paths.
+type Placed = Items<(Path, PrimView)>;
+
+/// Appends the prim `/` with these children.
+fn push_root(alloc: Global, items: &mut Placed, children: &[&str]) -> Result<(), Fail> {
+    let children = names(alloc, children)?;
+    items.push((Path::root(alloc), prim(alloc, children)))?;
+    Ok(())
+}
+
+fn push_busy(alloc: Global, items: &mut Placed) -> Result<(), Fail> {
+    push_root(alloc, items, &["A", "_b"])?;
+    let path = Path::parse(alloc, "/A")?;
+    items.push((path, busy_prim(alloc)?))?;
+    Ok(())
 }
 
 fn stage(alloc: Global) -> Result<Edition<Path, PrimView>, Fail> {
-    let mut items: Items<(Path, PrimView)> = Items::new(alloc);
-    items.push((Path::root(alloc), prim(alloc, &["A", "_b"])?))?;
-    items.push((Path::parse(alloc, "/A")?, busy_prim(alloc)?))?;
+    let mut items = Items::new(alloc);
+    push_busy(alloc, &mut items)?;
     Ok(Edition::build(alloc, 0, 0, items, None)?)
 }
 
 // Words of questions, paths, and what is answered on `stage`.
-const ANSWERS: [(&str, &str, &str); 28] = [
+static ANSWERS: [(&str, &str, &str); 28] = [
     ("default", "/A.x", "5"),
     ("default", "/A.b:c", "Blocked"),
     (
@@ -239,27 +299,45 @@ fn question(alloc: Global, word: &str, path: &str) -> Result<Question, Fail> {
     })
 }
 
-/// Whether the answer to a question on the stage is this one.
-fn tells(alloc: Global, question: Question, text: &str) -> Result<bool, Fail> {
-    let edition = stage(alloc)?;
+/// Whether this stands there once a question on a stage is answered behind what was written before.
+fn is_written(
+    alloc: Global,
+    edition: &Edition<Path, PrimView>,
+    before: &str,
+    question: &Question,
+    text: &str,
+) -> Result<bool, Fail> {
     let root = AssetId::of_word(alloc, "dir/root.usda")?;
-    let mut out = Vec::new(alloc);
-    push_answer(alloc, &mut out, &root, &edition.view(), &question)?;
+    let mut out = Vec::from_slice(alloc, before.as_bytes())?;
+    push_answer(alloc, &mut out, &root, &edition.view(), question)?;
     Ok(out.as_slice() == text.as_bytes())
+}
+
+/// Whether the answer to a question on the stage is this one.
+fn tells(alloc: Global, question: &Question, text: &str) -> Result<bool, Fail> {
+    let edition = stage(alloc)?;
+    let answer = is_written(alloc, &edition, "", question, text);
+    drop(edition);
+    answer
+}
+
+/// Whether this is answered to a question by a path.
+fn is_answered(alloc: Global, word: &str, path: &str, answer: &str) -> Result<bool, Fail> {
+    let text = format!(in alloc; "{word} {path}: {answer}\n")?;
+    let asked = question(alloc, word, path)?;
+    tells(alloc, &asked, text.as_str())
 }
 
 #[test]
 fn questions_by_path(rt: HostRuntime) -> Result<(), Fail> {
-    let alloc = rt.alloc();
-    for (word, path, answer) in ANSWERS {
-        let text = format!(in alloc; "{word} {path}: {answer}\n")?;
-        assert!(rt; tells(alloc, question(alloc, word, path)?, text.as_str())?);
+    for (word, path, answer) in &ANSWERS {
+        assert!(rt; is_answered(rt.alloc(), word, path, answer)?);
     }
     Ok(())
 }
 
 // Paths, times, times as they are printed, and what is answered on `stage`.
-const VALUES: [(&str, &str, &str, &str); 8] = [
+static VALUES: [(&str, &str, &str, &str); 8] = [
     ("/A.x", "2.4999", "2.4999", "2"),
     ("/A.x", "-3", "-3", "2"),
     ("/A.x", "2.50", "2.5", "Blocked"),
@@ -270,58 +348,87 @@ const VALUES: [(&str, &str, &str, &str); 8] = [
     ("/Z.x", "0", "0", "NoPrim"),
 ];
 
+/// A question for the value of an attribute at a time.
+fn value_question(alloc: Global, path: &str, time: &str) -> Result<Question, Fail> {
+    let time = at(time)?;
+    let path = Path::parse(alloc, path)?;
+    Ok(Question::Value { path, time })
+}
+
+/// Whether the value of a row is answered.
+fn is_valued(alloc: Global, row: &(&str, &str, &str, &str)) -> Result<bool, Fail> {
+    let (path, written, printed, answer) = *row;
+    let text = format!(in alloc; "value {path} {printed}: {answer}\n")?;
+    let asked = value_question(alloc, path, written)?;
+    tells(alloc, &asked, text.as_str())
+}
+
 #[test]
 fn values_at_a_time(rt: HostRuntime) -> Result<(), Fail> {
-    let alloc = rt.alloc();
-    for (path, written, printed, answer) in VALUES {
-        let question = Question::Value {
-            path: Path::parse(alloc, path)?,
-            time: at(written)?,
-        };
-        let text = format!(in alloc; "value {path} {printed}: {answer}\n")?;
-        assert!(rt; tells(alloc, question, text.as_str())?);
+    for row in &VALUES {
+        assert!(rt; is_valued(rt.alloc(), row)?);
     }
     Ok(())
 }
 
+fn is_kept(alloc: Global, question: &Question) -> Result<bool, Fail> {
+    let edition = stage(alloc)?;
+    let text = "before\nchildren /A: []\n";
+    let answer = is_written(alloc, &edition, "before\n", question, text);
+    drop(edition);
+    answer
+}
+
+fn children_are_told_behind(alloc: Global) -> Result<bool, Fail> {
+    let asked = question(alloc, "children", "/A")?;
+    is_kept(alloc, &asked)
+}
+
 #[test]
 fn an_answer_stands_behind_what_was_written(rt: HostRuntime) -> Result<(), Fail> {
-    let alloc = rt.alloc();
-    let edition = stage(alloc)?;
-    let root = AssetId::of_word(alloc, "root.usda")?;
-    let mut out = Vec::new(alloc);
-    out.extend_from_slice(b"before\n")?;
-    let asked = question(alloc, "children", "/A")?;
-    push_answer(alloc, &mut out, &root, &edition.view(), &asked)?;
-    assert!(rt; out.as_slice() == "before\nchildren /A: []\n".as_bytes());
+    assert!(rt; children_are_told_behind(rt.alloc())?);
     Ok(())
 }
 
-/// The answer to `flatten` on a stage of one prim with one attribute.
-fn flattened(alloc: Global) -> Result<Vec<u8>, Fail> {
-    let mut one = prim(alloc, &[])?;
-    let mut x = nothing(alloc);
-    x.default = Some(Value::Whole(5));
-    one.properties.push(attribute(alloc, "x", x)?)?;
-    let mut items: Items<(Path, PrimView)> = Items::new(alloc);
-    items.push((Path::root(alloc), prim(alloc, &["A"])?))?;
-    items.push((Path::parse(alloc, "/A")?, one))?;
-    let edition = Edition::build(alloc, 0, 0, items, None)?;
-    let root = AssetId::of_word(alloc, "root.usda")?;
-    let mut out = Vec::new(alloc);
-    push_answer(alloc, &mut out, &root, &edition.view(), &Question::Flatten)?;
-    Ok(out)
+/// A prim with one attribute.
+fn small_prim(alloc: Global) -> Result<PrimView, Fail> {
+    let x = with_default(alloc, "x", Some(Value::Whole(5)))?;
+    let mut properties = Items::new(alloc);
+    properties.push(x)?;
+    let mut one = prim(alloc, Items::new(alloc));
+    drop(mem::replace(&mut one.properties, properties));
+    Ok(one)
+}
+
+fn push_small(alloc: Global, items: &mut Placed) -> Result<(), Fail> {
+    push_root(alloc, items, &["A"])?;
+    let path = Path::parse(alloc, "/A")?;
+    items.push((path, small_prim(alloc)?))?;
+    Ok(())
+}
+
+/// A stage of one prim with one attribute.
+fn small_stage(alloc: Global) -> Result<Edition<Path, PrimView>, Fail> {
+    let mut items = Items::new(alloc);
+    push_small(alloc, &mut items)?;
+    Ok(Edition::build(alloc, 0, 0, items, None)?)
+}
+
+fn small_stage_is_flattened(alloc: Global) -> Result<bool, Fail> {
+    let edition = small_stage(alloc)?;
+    let text = "flatten: 37 bytes\n#usda 1.0\n\ndef \"A\"\n{\n    int x = 5\n}\n";
+    let answer = is_written(alloc, &edition, "", &Question::Flatten, text);
+    drop(edition);
+    answer
 }
 
 #[test]
 fn a_stage_as_one_layer(rt: HostRuntime) -> Result<(), Fail> {
-    let out = flattened(rt.alloc())?;
-    let text = "flatten: 37 bytes\n#usda 1.0\n\ndef \"A\"\n{\n    int x = 5\n}\n";
-    assert!(rt; out.as_slice() == text.as_bytes());
+    assert!(rt; small_stage_is_flattened(rt.alloc())?);
     Ok(())
 }
 
-const FAULTS: [(EditFault, &str); 13] = [
+static FAULTS: [(EditFault, &str); 13] = [
     (EditFault::NoLayer, "NoLayer"),
     (EditFault::LayerThere, "LayerThere"),
     (EditFault::LayerLimit, "LayerLimit"),
@@ -337,33 +444,51 @@ const FAULTS: [(EditFault, &str); 13] = [
     (EditFault::BadArc, "BadArc"),
 ];
 
-fn replied(alloc: Global, reply: EditReply<EditFault>) -> Result<Vec<u8>, AllocError> {
+/// Whether this is the reply to a batch.
+fn is_reply(alloc: Global, reply: &EditReply<EditFault>, text: &str) -> Result<bool, Fail> {
     let mut out = Vec::new(alloc);
-    push_edit_reply(alloc, &mut out, &reply)?;
-    Ok(out)
+    push_edit_reply(alloc, &mut out, reply)?;
+    Ok(out.as_slice() == text.as_bytes())
+}
+
+/// Whether a batch that is refused for a fault has the reply with this word.
+fn is_refusal(alloc: Global, fault: EditFault, word: &str) -> Result<bool, Fail> {
+    let text = format!(in alloc; "batch refused: op 4 {word}\n")?;
+    is_reply(alloc, &EditReply::Refused { op: 4, fault }, text.as_str())
 }
 
 #[test]
-fn replies_to_batches(rt: HostRuntime) -> Result<(), Fail> {
-    let alloc = rt.alloc();
-    for (fault, word) in FAULTS {
-        let out = replied(alloc, EditReply::Refused { op: 4, fault })?;
-        let text = format!(in alloc; "batch refused: op 4 {word}\n")?;
-        assert!(rt; out.as_slice() == text.as_bytes());
+fn refused_batches(rt: HostRuntime) -> Result<(), Fail> {
+    for (fault, word) in &FAULTS {
+        assert!(rt; is_refusal(rt.alloc(), *fault, word)?);
     }
-    let refusal = Refusal {
+    Ok(())
+}
+
+#[test]
+fn a_batch_with_a_refused_text(rt: HostRuntime) -> Result<(), Fail> {
+    let fault = EditFault::LayerText(Refusal {
         kind: RefusalKind::BadHeader,
         line: 3,
         column: 17,
-    };
-    let fault = EditFault::LayerText(refusal);
-    let out = replied(alloc, EditReply::Refused { op: 10, fault })?;
+    });
+    let reply = EditReply::Refused { op: 10, fault };
     let text = "batch refused: op 10 LayerText BadHeader 3:17\n";
-    assert!(rt; out.as_slice() == text.as_bytes());
-    let out = replied(alloc, EditReply::Accepted { number: 65_536 })?;
-    assert!(rt; out.as_slice() == "batch 65536 accepted\n".as_bytes());
-    let out = replied(alloc, EditReply::JournalFull)?;
-    assert!(rt; out.as_slice() == "batch refused: journal full\n".as_bytes());
+    assert!(rt; is_reply(rt.alloc(), &reply, text)?);
+    Ok(())
+}
+
+#[test]
+fn other_replies_to_batches(rt: HostRuntime) -> Result<(), Fail> {
+    let accepted = EditReply::Accepted { number: 65_536 };
+    assert!(rt;
+        is_reply(rt.alloc(), &accepted, "batch 65536 accepted\n")?
+            && is_reply(
+                rt.alloc(),
+                &EditReply::JournalFull,
+                "batch refused: journal full\n"
+            )?
+    );
     Ok(())
 }
 

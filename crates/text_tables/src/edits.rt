@@ -30,47 +30,108 @@ fn push_list(out: &mut String, list: &[u64]) -> Result<(), CallFault> {
     Ok(push_word(out, "")?)
 }
 
+// A line of a text, by its number from 0; empty where there is none.
+fn line_at(text: &str, number: usize) -> &str {
+    let mut lines = text.lines();
+    for _line in 0..number {
+        let _skipped = lines.next();
+    }
+    lines.next().unwrap_or("")
+}
+
+// What an opinion deletes, adds, prepends, appends and orders, a line each.
+fn five_edits(alloc: Global, text: &str) -> Result<ListOp<u64>, AllocError> {
+    Ok(ListOp {
+        explicit: None,
+        deleted: items_of(alloc, line_at(text, 0))?,
+        added: items_of(alloc, line_at(text, 1))?,
+        prepended: items_of(alloc, line_at(text, 2))?,
+        appended: items_of(alloc, line_at(text, 3))?,
+        ordered: items_of(alloc, line_at(text, 4))?,
+    })
+}
+
+// What an opinion makes of a list, by scans.
+fn scanned(alloc: Global, op: &ListOp<u64>, text: &str) -> Result<Vec<u64>, AllocError> {
+    let mut list = list_of(alloc, text)?;
+    op.apply(&mut list)?;
+    Ok(list)
+}
+
+// The same by sets.
+fn sorted(alloc: Global, op: &ListOp<u64>, text: &str) -> Result<Vec<u64>, AllocError> {
+    let mut list = list_of(alloc, text)?;
+    op.apply_ordered(&mut list)?;
+    Ok(list)
+}
+
+// Appends what an opinion makes of a list, by scans and by sets.
+fn push_applied(
+    alloc: Global,
+    out: &mut String,
+    op: &ListOp<u64>,
+    list: &str,
+) -> Result<(), CallFault> {
+    push_list(out, scanned(alloc, op, list)?.as_slice())?;
+    push_list(out, sorted(alloc, op, list)?.as_slice())
+}
+
 /// `opinion`: of six lines what an opinion deletes, adds, prepends, appends and orders, and a list; what it makes of the list, by scans and by sets.
 pub(crate) fn push_opinion_call(
     alloc: Global,
     out: &mut String,
     text: &str,
 ) -> Result<(), CallFault> {
-    let mut lines = text.lines();
-    let op = ListOp {
-        explicit: None,
-        deleted: items_of(alloc, lines.next().unwrap_or(""))?,
-        added: items_of(alloc, lines.next().unwrap_or(""))?,
-        prepended: items_of(alloc, lines.next().unwrap_or(""))?,
-        appended: items_of(alloc, lines.next().unwrap_or(""))?,
-        ordered: items_of(alloc, lines.next().unwrap_or(""))?,
-    };
-    let text = lines.next().unwrap_or("");
-    let mut scanned = list_of(alloc, text)?;
-    op.apply(&mut scanned)?;
-    push_list(out, scanned.as_slice())?;
-    let mut sorted = list_of(alloc, text)?;
-    op.apply_ordered(&mut sorted)?;
-    push_list(out, sorted.as_slice())
+    let op = five_edits(alloc, text)?;
+    push_applied(alloc, out, &op, line_at(text, 5))
 }
 
-// The opinion that a line stands for: its first character says what the others are.
-fn opinion_of(alloc: Global, line: &str) -> Result<ListOp<u64>, AllocError> {
-    let mut op = ListOp::new(alloc);
-    if let Some(text) = line.strip_prefix("=") {
-        op.explicit = Some(items_of(alloc, text)?);
-    } else if let Some(text) = line.strip_prefix("-") {
-        op.deleted = items_of(alloc, text)?;
-    } else if let Some(text) = line.strip_prefix("+") {
-        op.added = items_of(alloc, text)?;
-    } else if let Some(text) = line.strip_prefix("<") {
+// Sets what a line prepends, appends or orders.
+fn set_placed(alloc: Global, op: &mut ListOp<u64>, line: &str) -> Result<(), AllocError> {
+    if let Some(text) = line.strip_prefix("<") {
         op.prepended = items_of(alloc, text)?;
     } else if let Some(text) = line.strip_prefix(">") {
         op.appended = items_of(alloc, text)?;
     } else if let Some(text) = line.strip_prefix("%") {
         op.ordered = items_of(alloc, text)?;
     }
+    Ok(())
+}
+
+// Sets what a line says: its first character tells what the others are.
+fn set_edit(alloc: Global, op: &mut ListOp<u64>, line: &str) -> Result<(), AllocError> {
+    if let Some(text) = line.strip_prefix("=") {
+        op.explicit = Some(items_of(alloc, text)?);
+    } else if let Some(text) = line.strip_prefix("-") {
+        op.deleted = items_of(alloc, text)?;
+    } else if let Some(text) = line.strip_prefix("+") {
+        op.added = items_of(alloc, text)?;
+    } else {
+        set_placed(alloc, op, line)?;
+    }
+    Ok(())
+}
+
+// The opinion that a line stands for.
+fn opinion_of(alloc: Global, line: &str) -> Result<ListOp<u64>, AllocError> {
+    let mut op = ListOp::new(alloc);
+    set_edit(alloc, &mut op, line)?;
     Ok(op)
+}
+
+// The opinions of a text, a line each.
+fn opinions_of(alloc: Global, text: &str) -> Result<Vec<ListOp<u64>>, AllocError> {
+    let mut ops = Vec::new(alloc);
+    for line in text.lines() {
+        ops.push(opinion_of(alloc, line)?)?;
+    }
+    Ok(ops)
+}
+
+// Appends what opinions make of the empty list, by scans and by sets.
+fn push_folded(alloc: Global, out: &mut String, ops: &[ListOp<u64>]) -> Result<(), CallFault> {
+    push_list(out, fold(alloc, ops)?.as_slice())?;
+    push_list(out, fold_ordered(alloc, ops)?.as_slice())
 }
 
 /// `opinions`: what opinions, a line each and the weakest first, make of the empty list, by scans and by sets.
@@ -79,12 +140,8 @@ pub(crate) fn push_opinions_call(
     out: &mut String,
     text: &str,
 ) -> Result<(), CallFault> {
-    let mut ops = Vec::new(alloc);
-    for line in text.lines() {
-        ops.push(opinion_of(alloc, line)?)?;
-    }
-    push_list(out, fold(alloc, ops.as_slice())?.as_slice())?;
-    push_list(out, fold_ordered(alloc, ops.as_slice())?.as_slice())
+    let ops = opinions_of(alloc, text)?;
+    push_folded(alloc, out, ops.as_slice())
 }
 
 /// `reordered ORDER`: the list of the text in an order, by scans and by sets.

@@ -3,6 +3,7 @@
 use crate::fault::CallFault;
 use crate::printing::push_word;
 use plain_data::same;
+use sdf_specs::Layer;
 use std::alloc::{AllocError, Global};
 use std::fmt::Write;
 use usda_reader::{LayerFault, read_layer};
@@ -24,15 +25,26 @@ fn push_fault(out: &mut String, fault: LayerFault) -> Result<(), CallFault> {
     }
 }
 
+// Why a text is no layer, if it is none.
+fn fault_of(alloc: Global, bytes: &[u8]) -> Option<LayerFault> {
+    match read_layer(alloc, bytes) {
+        Ok(layer) => {
+            drop(layer);
+            None
+        }
+        Err(fault) => Some(fault),
+    }
+}
+
 /// `whole`: `Ok` where the text is one of a layer, or the refusal.
 pub(crate) fn push_whole_call(
     alloc: Global,
     out: &mut String,
     bytes: &[u8],
 ) -> Result<(), CallFault> {
-    match read_layer(alloc, bytes) {
-        Ok(_layer) => Ok(push_word(out, "Ok")?),
-        Err(fault) => push_fault(out, fault),
+    match fault_of(alloc, bytes) {
+        Some(fault) => push_fault(out, fault),
+        None => Ok(push_word(out, "Ok")?),
     }
 }
 
@@ -53,20 +65,33 @@ pub(crate) fn push_below_call(
     push_whole_call(alloc, out, whole.as_slice())
 }
 
+// The canonical text of a layer, below its first line.
+fn written_below(alloc: Global, layer: &Layer) -> Result<String, CallFault> {
+    let written = write_layer(alloc, layer)?;
+    let written = String::from_utf8_lossy(alloc, written.as_slice())?;
+    let written = written.as_str();
+    let below = written.strip_prefix(FIRST_LINE).unwrap_or(written);
+    Ok(String::from_str(alloc, below)?)
+}
+
+// A refusal, as it is told.
+fn refused(alloc: Global, fault: LayerFault) -> Result<String, CallFault> {
+    let mut told = String::new(alloc);
+    push_fault(&mut told, fault)?;
+    Ok(told)
+}
+
 // The canonical text, below its first line, of a text behind the first line; or the refusal.
 fn rewritten(alloc: Global, text: &[u8]) -> Result<String, CallFault> {
     let whole = below(alloc, text)?;
-    let mut told = String::new(alloc);
     match read_layer(alloc, whole.as_slice()) {
         Ok(layer) => {
-            let written = write_layer(alloc, &layer)?;
-            let written = String::from_utf8_lossy(alloc, written.as_slice())?;
-            let written = written.as_str();
-            told.push_str(written.strip_prefix(FIRST_LINE).unwrap_or(written))?;
+            let written = written_below(alloc, &layer);
+            drop(layer);
+            written
         }
-        Err(fault) => push_fault(&mut told, fault)?,
+        Err(fault) => refused(alloc, fault),
     }
-    Ok(told)
 }
 
 /// `canonical`: the canonical text, both it and the text that is given below the first line.
@@ -93,20 +118,36 @@ pub(crate) fn push_again_call(
     Ok(out.push_str(twice.as_str())?)
 }
 
+// Whether bytes are the text of a layer, or why they are none.
+fn is_text_of(alloc: Global, layer: &Layer, bytes: &[u8]) -> Result<bool, LayerFault> {
+    let back = read_layer(alloc, bytes)?;
+    let is_same = same(layer, &back);
+    drop(back);
+    Ok(is_same)
+}
+
+// Appends whether a layer is what its canonical text says.
+fn push_back(alloc: Global, out: &mut String, layer: &Layer) -> Result<(), CallFault> {
+    let written = write_layer(alloc, layer)?;
+    match is_text_of(alloc, layer, written.as_slice()) {
+        Ok(true) => Ok(push_word(out, "the same layer")?),
+        Ok(false) => Ok(push_word(out, "another layer")?),
+        Err(fault) => push_fault(out, fault),
+    }
+}
+
 /// `round`: whether the layer of a text is what its canonical text says.
 pub(crate) fn push_round_call(
     alloc: Global,
     out: &mut String,
     bytes: &[u8],
 ) -> Result<(), CallFault> {
-    let layer = match read_layer(alloc, bytes) {
-        Ok(layer) => layer,
-        Err(fault) => return push_fault(out, fault),
-    };
-    let written = write_layer(alloc, &layer)?;
-    match read_layer(alloc, written.as_slice()) {
-        Ok(back) if same(&layer, &back) => Ok(push_word(out, "the same layer")?),
-        Ok(_other) => Ok(push_word(out, "another layer")?),
+    match read_layer(alloc, bytes) {
+        Ok(layer) => {
+            let told = push_back(alloc, out, &layer);
+            drop(layer);
+            told
+        }
         Err(fault) => push_fault(out, fault),
     }
 }
@@ -129,12 +170,12 @@ fn end_of(bytes: &[u8]) -> (u64, u64) {
 // Whether bytes are read, or refused at one of them or behind the last one.
 fn is_told_inside(alloc: Global, bytes: &[u8]) -> Result<bool, CallFault> {
     let (line, column) = end_of(bytes);
-    match read_layer(alloc, bytes) {
-        Ok(_layer) => Ok(true),
-        Err(LayerFault::Refused(at)) => {
+    match fault_of(alloc, bytes) {
+        None => Ok(true),
+        Some(LayerFault::Refused(at)) => {
             Ok(at.line < line || at.line == line && at.column <= column)
         }
-        Err(LayerFault::NoMemory) => Err(CallFault::NoMemory),
+        Some(LayerFault::NoMemory) => Err(CallFault::NoMemory),
     }
 }
 

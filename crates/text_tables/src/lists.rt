@@ -132,6 +132,25 @@ fn push_ref(out: &mut String, item: &RefItem) -> Result<(), AllocError> {
     push_word(out, if is_mapped { " mapped" } else { "" })
 }
 
+// Takes the lines of a list of references, and appends its items, each once, behind why lines are refused.
+fn push_items(
+    alloc: Global,
+    out: &mut String,
+    op: &mut ListOp<RefItem>,
+    base: &Path,
+    text: &str,
+) -> Result<(), CallFault> {
+    for line in text.lines() {
+        let taken = take_item(alloc, op, base, line);
+        push_refused(out, taken)?;
+    }
+    close_items(alloc, op, ListEdit::Add)?;
+    for item in op.added.as_slice() {
+        push_ref(out, item)?;
+    }
+    Ok(())
+}
+
 /// `references BASE`: the items of a list that is read line by line, each once, behind why lines are refused.
 pub(crate) fn push_references_call(
     alloc: Global,
@@ -142,13 +161,24 @@ pub(crate) fn push_references_call(
     let base = path_of(alloc, words)?;
     let mut op = ListOp::new(alloc);
     open_list(&mut op, ListEdit::Add);
+    push_items(alloc, out, &mut op, &base, text)
+}
+
+// Takes lines as an explicit list.
+fn take_texts(alloc: Global, op: &mut ListOp<Text>, text: &str) -> Result<(), CallFault> {
     for line in text.lines() {
-        let taken = take_item(alloc, &mut op, &base, line);
-        push_refused(out, taken)?;
+        push_item(op, ListEdit::Explicit, Text::of(alloc, line)?)?;
     }
-    close_items(alloc, &mut op, ListEdit::Add)?;
-    for item in op.added.as_slice() {
-        push_ref(out, item)?;
+    Ok(close_texts(alloc, op, ListEdit::Explicit)?)
+}
+
+// Appends the texts of an explicit list.
+fn push_kept(out: &mut String, op: &ListOp<Text>) -> Result<(), CallFault> {
+    let Some(kept) = &op.explicit else {
+        return Ok(push_word(out, "no list")?);
+    };
+    for text in kept.as_slice() {
+        push_word(out, text.as_str())?;
     }
     Ok(())
 }
@@ -160,15 +190,22 @@ pub(crate) fn push_texts_call(
     text: &str,
 ) -> Result<(), CallFault> {
     let mut op = ListOp::new(alloc);
+    take_texts(alloc, &mut op, text)?;
+    push_kept(out, &op)
+}
+
+// Takes lines as a list of paths.
+fn take_paths(alloc: Global, op: &mut ListOp<Path>, text: &str) -> Result<(), CallFault> {
     for line in text.lines() {
-        push_item(&mut op, ListEdit::Explicit, Text::of(alloc, line)?)?;
+        push_item(op, ListEdit::Add, path_of(alloc, line)?)?;
     }
-    close_texts(alloc, &mut op, ListEdit::Explicit)?;
-    let Some(kept) = &op.explicit else {
-        return Ok(push_word(out, "no list")?);
-    };
-    for text in kept.as_slice() {
-        push_word(out, text.as_str())?;
+    Ok(close_paths(alloc, op, ListEdit::Add)?)
+}
+
+// Appends paths, a line each.
+fn push_added(out: &mut String, paths: &[Path]) -> Result<(), CallFault> {
+    for path in paths {
+        push_word(out, path.print()?.as_str())?;
     }
     Ok(())
 }
@@ -180,14 +217,8 @@ pub(crate) fn push_paths_call(
     text: &str,
 ) -> Result<(), CallFault> {
     let mut op = ListOp::new(alloc);
-    for line in text.lines() {
-        push_item(&mut op, ListEdit::Add, path_of(alloc, line)?)?;
-    }
-    close_paths(alloc, &mut op, ListEdit::Add)?;
-    for path in op.added.as_slice() {
-        push_word(out, path.print()?.as_str())?;
-    }
-    Ok(())
+    take_paths(alloc, &mut op, text)?;
+    push_added(out, op.added.as_slice())
 }
 
 // Takes a line of a list of sublayers: one by its token, or an offset or a scale of the last one.

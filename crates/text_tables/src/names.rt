@@ -46,6 +46,14 @@ pub(crate) fn push_kind_call(alloc: Global, out: &mut String, text: &str) -> Res
     Ok(writeln!(out, "{kind:?}")?)
 }
 
+fn sameness(is_same: bool) -> &'static str {
+    if is_same {
+        "the same name"
+    } else {
+        "another name"
+    }
+}
+
 /// `compared NAME`: how the name that the text is stands to another one, and whether its copy is the name.
 pub(crate) fn push_compared_call(
     alloc: Global,
@@ -57,15 +65,7 @@ pub(crate) fn push_compared_call(
     let other = name_of(alloc, words)?;
     let copied = name.clone()?;
     let order = name.cmp(&other);
-    let one = if name == other {
-        "the same name"
-    } else {
-        "another name"
-    };
-    let two = if copied == name {
-        "the same name"
-    } else {
-        "another name"
-    };
+    let one = sameness(name == other);
+    let two = sameness(copied == name);
     Ok(writeln!(out, "{order:?}, {one}; its copy is {two}")?)
 }

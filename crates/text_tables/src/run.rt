@@ -118,6 +118,20 @@ impl<'n> Run<'n> {
             },
         }
     }
+
+    // Takes the lines of a table.
+    fn take_all(&mut self, text: &str, out: &mut String) -> Result<(), AllocError> {
+        let mut number: usize = 0;
+        for line in text.split('\n') {
+            number = number.saturating_add(1);
+            if self.take(number, line, out)?.is_none() {
+                writeln!(out, "{} {number}: no line of a table", self.name)?;
+                self.count = self.count.and(Count { rows: 1, differ: 1 });
+            }
+        }
+        self.end(out)?;
+        Ok(())
+    }
 }
 
 /// Makes the calls of a table, and appends the rows that differ. A line that no table has at its place counts as a row that differs.
@@ -133,14 +147,6 @@ pub(crate) fn run_table(
         count: Count { rows: 0, differ: 0 },
         last: None,
     };
-    let mut number: usize = 0;
-    for line in text.split('\n') {
-        number = number.saturating_add(1);
-        if run.take(number, line, out)?.is_none() {
-            writeln!(out, "{name} {number}: no line of a table")?;
-            run.count = run.count.and(Count { rows: 1, differ: 1 });
-        }
-    }
-    run.end(out)?;
+    run.take_all(text, out)?;
     Ok(run.count)
 }

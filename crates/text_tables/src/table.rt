@@ -130,6 +130,34 @@ fn push_piece(out: &mut Vec<u8>, piece: &str) -> Result<Option<()>, AllocError> 
     }
 }
 
+// Doubles bytes.
+fn double(bytes: &mut Vec<u8>, alloc: Global) -> Result<(), AllocError> {
+    let half = Vec::from_slice(alloc, bytes.as_slice())?;
+    bytes.extend_from_slice(half.as_slice())
+}
+
+// Appends bytes so many times. Twice the bytes are as many again, so that many of them take few steps.
+fn push_copies(
+    out: &mut Vec<u8>,
+    once: Vec<u8>,
+    count: usize,
+    alloc: Global,
+) -> Result<(), AllocError> {
+    let mut once = once;
+    let mut left = count;
+    for _bit in 0..usize::BITS {
+        if left % 2 == 1 {
+            out.extend_from_slice(once.as_slice())?;
+        }
+        left /= 2;
+        if left == 0 {
+            break;
+        }
+        double(&mut once, alloc)?;
+    }
+    Ok(())
+}
+
 // Appends a piece so many times; nothing where the words are not a number and a piece.
 fn push_times(out: &mut Vec<u8>, words: &str, alloc: Global) -> Result<Option<()>, AllocError> {
     let Some((count, piece)) = words.split_once(' ') else {
@@ -142,19 +170,7 @@ fn push_times(out: &mut Vec<u8>, words: &str, alloc: Global) -> Result<Option<()
     if push_piece(&mut once, piece)?.is_none() {
         return Ok(None);
     }
-    // twice the piece is as many bytes again, so that many of them take few steps
-    let mut left = count;
-    for _bit in 0..usize::BITS {
-        if left % 2 == 1 {
-            out.extend_from_slice(once.as_slice())?;
-        }
-        left /= 2;
-        if left == 0 {
-            break;
-        }
-        let half = Vec::from_slice(alloc, once.as_slice())?;
-        once.extend_from_slice(half.as_slice())?;
-    }
+    push_copies(out, once, count, alloc)?;
     Ok(Some(()))
 }
 
@@ -176,17 +192,8 @@ impl Row {
         })
     }
 
-    /// Takes a line of the text or of the answer; nothing where it is neither.
-    pub(crate) fn take(&mut self, alloc: Global, line: &str) -> Result<Option<()>, AllocError> {
-        if let Some(text) = line.strip_prefix(">") {
-            return push_line(&mut self.given, text);
-        }
-        if let Some(piece) = line.strip_prefix("~") {
-            return push_piece(&mut self.given, piece);
-        }
-        if let Some(words) = line.strip_prefix("*") {
-            return push_times(&mut self.given, words, alloc);
-        }
+    // Takes a line of the answer; nothing where it is none.
+    fn take_wanted(&mut self, alloc: Global, line: &str) -> Result<Option<()>, AllocError> {
         if let Some(text) = line.strip_prefix("=") {
             return push_line(&mut self.wanted, text);
         }
@@ -196,6 +203,20 @@ impl Row {
         match line.strip_prefix("%") {
             Some(words) => push_times(&mut self.wanted, words, alloc),
             None => Ok(None),
+        }
+    }
+
+    /// Takes a line of the text or of the answer; nothing where it is neither.
+    pub(crate) fn take(&mut self, alloc: Global, line: &str) -> Result<Option<()>, AllocError> {
+        if let Some(text) = line.strip_prefix(">") {
+            return push_line(&mut self.given, text);
+        }
+        if let Some(piece) = line.strip_prefix("~") {
+            return push_piece(&mut self.given, piece);
+        }
+        match line.strip_prefix("*") {
+            Some(words) => push_times(&mut self.given, words, alloc),
+            None => self.take_wanted(alloc, line),
         }
     }
 }

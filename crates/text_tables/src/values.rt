@@ -100,23 +100,40 @@ fn read_whole(alloc: Global, text: &str) -> Result<Value, CallFault> {
     }
 }
 
+// The whole number that a text is.
+fn whole_value(text: &str) -> Result<Value, CallFault> {
+    match text.parse::<i128>() {
+        Ok(whole) => Ok(Value::Whole(whole)),
+        Err(_) => Err(CallFault::Bad),
+    }
+}
+
+// The time that a text is.
+fn time_value(text: &str) -> Result<Value, CallFault> {
+    match time_of(text)? {
+        Some(time) => Ok(Value::Time(time)),
+        None => Err(CallFault::Bad),
+    }
+}
+
+// A value of a kind that holds a text.
+fn text_value(kind: &str, text: Text) -> Value {
+    match kind {
+        "text" => Value::Text(text),
+        "asset" => Value::Asset(text),
+        "path" => Value::PathText(text),
+        _ => Value::Word(text),
+    }
+}
+
 // The value that a text says by its first word, or else as one of which nothing is known.
 fn one_value(alloc: Global, said: &str) -> Result<Value, CallFault> {
     let (kind, text) = first_word(said);
     match kind {
         "bool" => Ok(Value::Bool(text == "true")),
-        "whole" => match text.parse::<i128>() {
-            Ok(whole) => Ok(Value::Whole(whole)),
-            Err(_) => Err(CallFault::Bad),
-        },
-        "time" => match time_of(text)? {
-            Some(time) => Ok(Value::Time(time)),
-            None => Err(CallFault::Bad),
-        },
-        "text" => Ok(Value::Text(Text::of(alloc, text)?)),
-        "asset" => Ok(Value::Asset(Text::of(alloc, text)?)),
-        "path" => Ok(Value::PathText(Text::of(alloc, text)?)),
-        "word" => Ok(Value::Word(Text::of(alloc, text)?)),
+        "whole" => whole_value(text),
+        "time" => time_value(text),
+        "text" | "asset" | "path" | "word" => Ok(text_value(kind, Text::of(alloc, text)?)),
         "()" => Ok(Value::Tuple(Items::new(alloc))),
         _ => read_whole(alloc, said),
     }
@@ -133,6 +150,40 @@ fn value_of(alloc: Global, said: &str) -> Result<Value, CallFault> {
     Ok(Value::Array(items))
 }
 
+// Appends the canonical text of a value.
+fn push_printed(
+    alloc: Global,
+    out: &mut String,
+    value: &Value,
+    indent: usize,
+) -> Result<(), CallFault> {
+    let text = print_value(alloc, value, indent)?;
+    Ok(push_word(out, text.as_str())?)
+}
+
+// Whether the copy of a value is the value.
+fn is_copied(value: &Value) -> Result<bool, CallFault> {
+    let copied = value.clone()?;
+    Ok(copied == *value)
+}
+
+// Appends the canonical text of a value, whether its copy is another one, and whether it is `None`.
+fn push_looks(
+    alloc: Global,
+    out: &mut String,
+    value: &Value,
+    indent: usize,
+) -> Result<(), CallFault> {
+    push_printed(alloc, out, value, indent)?;
+    if !is_copied(value)? {
+        push_word(out, "its copy is another value")?;
+    }
+    if *value == Value::Block {
+        push_word(out, "it is None")?;
+    }
+    Ok(())
+}
+
 /// `print INDENT`: the canonical text of a value; then whether its copy is another value, and whether it is `None`.
 pub(crate) fn push_print_call(
     alloc: Global,
@@ -144,15 +195,7 @@ pub(crate) fn push_print_call(
         return Err(CallFault::Bad);
     };
     let value = value_of(alloc, said)?;
-    push_word(out, print_value(alloc, &value, indent)?.as_str())?;
-    let copied = value.clone()?;
-    if copied != value {
-        push_word(out, "its copy is another value")?;
-    }
-    if value == Value::Block {
-        push_word(out, "it is None")?;
-    }
-    Ok(())
+    push_looks(alloc, out, &value, indent)
 }
 
 /// `conforms TYPE`: whether the type takes each of the values, a line each.
@@ -188,13 +231,13 @@ fn push_read(
     read: Result<Value, ValueFault>,
 ) -> Result<(), CallFault> {
     match read {
-        Ok(value) => Ok(push_word(out, print_value(alloc, &value, 0)?.as_str())?),
+        Ok(value) => push_printed(alloc, out, &value, 0),
         Err(ValueFault::Refused { kind, at }) => Ok(writeln!(out, "{kind:?} {at}")?),
         Err(ValueFault::NoMemory) => Err(CallFault::NoMemory),
     }
 }
 
-/// `typed TYPE`, `untyped`, `metadata`: the value that the text begins with, or why it is refused.
+/// `untyped` and `metadata`: the value that the text begins with, or why it is refused.
 pub(crate) fn push_value_call(
     alloc: Global,
     out: &mut String,
@@ -204,6 +247,17 @@ pub(crate) fn push_value_call(
     let mut tokens = tokens_of(text)?;
     let read = read_shaped(alloc, shape, &mut tokens);
     push_read(alloc, out, read)
+}
+
+/// `typed TYPE`: the same of the value of a type that the text begins with.
+pub(crate) fn push_typed_call(
+    alloc: Global,
+    out: &mut String,
+    words: &str,
+    text: &str,
+) -> Result<(), CallFault> {
+    let ty = type_of(words)?;
+    push_value_call(alloc, out, Shape::Typed(ty), text)
 }
 
 /// `shaped TYPE`: the value that the text begins with, read without a type and then given one.

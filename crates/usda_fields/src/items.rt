@@ -71,8 +71,8 @@ impl OwnerDraft {
         ensures { self.new ≡ with_paths field op self.old }
     {
         match field {
-            PathField::Inherits => self.spec.arcs.inherits = op,
-            PathField::Specializes => self.spec.arcs.specializes = op,
+            PathField::Inherits => drop(mem::replace(&mut self.spec.arcs.inherits, op)),
+            PathField::Specializes => drop(mem::replace(&mut self.spec.arcs.specializes, op)),
         }
     }
 
@@ -92,8 +92,8 @@ impl OwnerDraft {
         ensures { self.new ≡ with_items field op self.old }
     {
         match field {
-            ReferenceField::References => self.spec.arcs.references = op,
-            ReferenceField::Payload => self.spec.arcs.payloads = op,
+            ReferenceField::References => drop(mem::replace(&mut self.spec.arcs.references, op)),
+            ReferenceField::Payload => drop(mem::replace(&mut self.spec.arcs.payloads, op)),
         }
     }
 
@@ -114,9 +114,9 @@ impl OwnerDraft {
         ensures { self.new ≡ with_texts field op self.old }
     {
         match field {
-            TextField::VariantSets => self.spec.arcs.variant_sets = op,
-            TextField::ApiSchemas => self.spec.body.api_schemas = op,
-            TextField::ClipSets => self.spec.body.clip_sets = op,
+            TextField::VariantSets => drop(mem::replace(&mut self.spec.arcs.variant_sets, op)),
+            TextField::ApiSchemas => drop(mem::replace(&mut self.spec.body.api_schemas, op)),
+            TextField::ClipSets => drop(mem::replace(&mut self.spec.body.clip_sets, op)),
         }
     }
 
@@ -183,9 +183,16 @@ impl OwnerDraft {
         ensures { OnOk result (self.new ≡ with_paths field (push_item edit path (paths_at field self.old)) self.old) }
     {
         let mut op = self.take_paths(alloc, field);
-        push_item(&mut op, edit, path)?;
-        self.put_paths(field, op);
-        Ok(())
+        match push_item(&mut op, edit, path) {
+            Ok(()) => {
+                self.put_paths(field, op);
+                Ok(())
+            }
+            Err(error) => {
+                drop(op);
+                Err(error)
+            }
+        }
     }
 
     /// Adds a path token to the list of a field; its selections are kept. `Syntax` where it is no path.
@@ -217,9 +224,16 @@ impl OwnerDraft {
         ensures { OnOk result (self.new ≡ with_texts field (push_item edit text (texts_at field self.old)) self.old) }
     {
         let mut op = self.take_texts(alloc, field);
-        push_item(&mut op, edit, text)?;
-        self.put_texts(field, op);
-        Ok(())
+        match push_item(&mut op, edit, text) {
+            Ok(()) => {
+                self.put_texts(field, op);
+                Ok(())
+            }
+            Err(error) => {
+                drop(op);
+                Err(error)
+            }
+        }
     }
 
     /// Adds a string token to the list of a field. `NotUtf8` where its escapes make bytes that are not UTF-8.
@@ -251,9 +265,16 @@ impl OwnerDraft {
         ensures { OnOk result (self.new ≡ with_items field (push_item edit item (items_at field self.old)) self.old) }
     {
         let mut op = self.take_items(alloc, field);
-        push_item(&mut op, edit, item)?;
-        self.put_items(field, op);
-        Ok(())
+        match push_item(&mut op, edit, item) {
+            Ok(()) => {
+                self.put_items(field, op);
+                Ok(())
+            }
+            Err(error) => {
+                drop(op);
+                Err(error)
+            }
+        }
     }
 
     /// Adds an asset token to the list of a field; the empty asset is none.
@@ -300,11 +321,16 @@ impl OwnerDraft {
         ensures { Does result self.new (item_path_act field edit token.now self.old) }
     {
         let mut op = self.take_items(alloc, field);
-        if let Err(fault) = set_last_path(alloc, &mut op, edit, &self.base, token) {
-            return Err(fault);
+        match set_last_path(alloc, &mut op, edit, &self.base, token) {
+            Ok(()) => {
+                self.put_items(field, op);
+                Ok(())
+            }
+            Err(fault) => {
+                drop(op);
+                Err(fault)
+            }
         }
-        self.put_items(field, op);
-        Ok(())
     }
 
     /// Gives the last item of a list an offset or a scale, by its number token. `OffsetRange` where it is out of its bounds.
@@ -319,11 +345,16 @@ impl OwnerDraft {
         ensures { Does result self.new (item_number_act field edit key token.now self.old) }
     {
         let mut op = self.take_items(alloc, field);
-        if let Err(fault) = set_last_offset(&mut op, edit, key, token) {
-            return Err(fault);
+        match set_last_offset(&mut op, edit, key, token) {
+            Ok(()) => {
+                self.put_items(field, op);
+                Ok(())
+            }
+            Err(fault) => {
+                drop(op);
+                Err(fault)
+            }
         }
-        self.put_items(field, op);
-        Ok(())
     }
 
     fn close_paths(
@@ -335,9 +366,16 @@ impl OwnerDraft {
         ensures { OnOk result (self.new ≡ close_field (ListField.Paths field) edit self.old) }
     {
         let mut op = self.take_paths(alloc, field);
-        close_paths(alloc, &mut op, edit)?;
-        self.put_paths(field, op);
-        Ok(())
+        match close_paths(alloc, &mut op, edit) {
+            Ok(()) => {
+                self.put_paths(field, op);
+                Ok(())
+            }
+            Err(error) => {
+                drop(op);
+                Err(error)
+            }
+        }
     }
 
     fn close_references(
@@ -349,9 +387,16 @@ impl OwnerDraft {
         ensures { OnOk result (self.new ≡ close_field (ListField.References field) edit self.old) }
     {
         let mut op = self.take_items(alloc, field);
-        close_items(alloc, &mut op, edit)?;
-        self.put_items(field, op);
-        Ok(())
+        match close_items(alloc, &mut op, edit) {
+            Ok(()) => {
+                self.put_items(field, op);
+                Ok(())
+            }
+            Err(error) => {
+                drop(op);
+                Err(error)
+            }
+        }
     }
 
     fn close_texts(
@@ -363,9 +408,16 @@ impl OwnerDraft {
         ensures { OnOk result (self.new ≡ close_field (ListField.Texts field) edit self.old) }
     {
         let mut op = self.take_texts(alloc, field);
-        close_texts(alloc, &mut op, edit)?;
-        self.put_texts(field, op);
-        Ok(())
+        match close_texts(alloc, &mut op, edit) {
+            Ok(()) => {
+                self.put_texts(field, op);
+                Ok(())
+            }
+            Err(error) => {
+                drop(op);
+                Err(error)
+            }
+        }
     }
 
     /// Ends the list of a field: repeats after the first are dropped.

@@ -113,7 +113,10 @@ fn judged(alloc: Global, rule: KeyRule, value: Value) -> Result<Value, ActFault>
         (KeyRule::Boolean, Value::Bool(b)) => Ok(Value::Bool(b)),
         (KeyRule::DefaultPrim, Value::Text(text)) => judged_prim(alloc, text),
         (KeyRule::Free, value) => Ok(value),
-        _ => Err(ActFault::Refused(RefusalKind::ValueShape)),
+        other => {
+            drop(other);
+            Err(ActFault::Refused(RefusalKind::ValueShape))
+        }
     }
 }
 
@@ -145,7 +148,7 @@ pub fn put_value(alloc: Global, meta: &mut Meta, key: Text, value: Value) -> Res
 {
     match judged(alloc, KeyRule::of_key(key.as_str()), value) {
         Ok(value) => {
-            meta.insert(key, value)?;
+            drop(meta.insert(key, value)?);
             Ok(())
         }
         Err(fault) => Err(fault),
@@ -165,6 +168,6 @@ pub fn put_comment(alloc: Global, meta: &mut Meta, token: &str) -> Result<(), Ac
     if meta.has(&key) {
         return Err(ActFault::Refused(RefusalKind::DuplicateSpec));
     }
-    meta.insert(key, Value::Text(text))?;
+    drop(meta.insert(key, Value::Text(text))?);
     Ok(())
 }

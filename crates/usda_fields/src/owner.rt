@@ -12,6 +12,7 @@ use sdf_paths::Path;
 use sdf_values::{RefusalKind, Value};
 use spec_parts::{Spec, Specifier};
 use std::alloc::{AllocError, Global};
+use std::mem;
 use usda_lists::GivenLists;
 use usda_values::ActFault;
 
@@ -194,7 +195,8 @@ impl OwnerDraft {
     pub fn put_selections(&mut self, alloc: Global, value: Value) -> Result<(), AllocError>
         ensures { OnOk result (self.new ≡ selections_act value self.old) }
     {
-        self.spec.arcs.selections = selections_of(alloc, value)?;
+        let selections = selections_of(alloc, value)?;
+        drop(mem::replace(&mut self.spec.arcs.selections, selections));
         Ok(())
     }
 }

@@ -50,10 +50,16 @@ fn put_selection(selections: &mut Selections, item: DictItem) -> Result<(), Allo
     ensures { OnOk result (selections.new ≡ with_selection item.key (said item.value).text selections.old) }
 {
     let DictItem { key, value, .. } = item;
-    if let Value::Text(variant) = value {
-        selections.insert(key, variant)?;
+    match value {
+        Value::Text(variant) => {
+            drop(selections.insert(key, variant)?);
+            Ok(())
+        }
+        other => {
+            drop((key, other));
+            Ok(())
+        }
     }
-    Ok(())
 }
 
 fn put_selections(alloc: Global, items: Items<DictItem>) -> Result<Selections, AllocError>
@@ -72,6 +78,9 @@ pub fn selections_of(alloc: Global, value: Value) -> Result<Selections, AllocErr
 {
     match value {
         Value::Dict(items) => put_selections(alloc, items),
-        _ => Ok(Selections::new(alloc)),
+        other => {
+            drop(other);
+            Ok(Selections::new(alloc))
+        }
     }
 }

@@ -32,12 +32,12 @@ pub fn put_list<T: Drop>(op: &mut ListOp<T>, edit: ListEdit, items: Items<T>)
     ensures { op.new ≡ with_list edit items op.old }
 {
     match edit {
-        ListEdit::Explicit => op.explicit = Some(items),
-        ListEdit::Delete => op.deleted = items,
-        ListEdit::Add => op.added = items,
-        ListEdit::Prepend => op.prepended = items,
-        ListEdit::Append => op.appended = items,
-        ListEdit::Reorder => op.ordered = items,
+        ListEdit::Explicit => drop(mem::replace(&mut op.explicit, Some(items))),
+        ListEdit::Delete => drop(mem::replace(&mut op.deleted, items)),
+        ListEdit::Add => drop(mem::replace(&mut op.added, items)),
+        ListEdit::Prepend => drop(mem::replace(&mut op.prepended, items)),
+        ListEdit::Append => drop(mem::replace(&mut op.appended, items)),
+        ListEdit::Reorder => drop(mem::replace(&mut op.ordered, items)),
     }
 }
 
@@ -54,7 +54,14 @@ pub fn push_item<T: Drop>(op: &mut ListOp<T>, edit: ListEdit, item: T) -> Result
     ensures { OnOk result (op.new ≡ push_item edit item op.old) }
 {
     let mut items = take_list(op, edit);
-    items.push(item)?;
-    put_list(op, edit, items);
-    Ok(())
+    match items.push(item) {
+        Ok(()) => {
+            put_list(op, edit, items);
+            Ok(())
+        }
+        Err(error) => {
+            drop(items);
+            Err(error)
+        }
+    }
 }

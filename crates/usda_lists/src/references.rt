@@ -137,11 +137,16 @@ pub fn set_last_path(
     ensures { Does result op.new (amend_list edit (amend_last (with_path base.now text.now)) op.old) }
 {
     let mut items = take_list(op, edit);
-    if let Err(fault) = amend_path(alloc, base, text, &mut items) {
-        return Err(fault);
+    match amend_path(alloc, base, text, &mut items) {
+        Ok(()) => {
+            put_list(op, edit, items);
+            Ok(())
+        }
+        Err(fault) => {
+            drop(items);
+            Err(fault)
+        }
     }
-    put_list(op, edit, items);
-    Ok(())
 }
 
 /// Gives the last item of a list an offset or a scale, by the number token of the key: `OffsetRange` where it is out of its bounds.
@@ -154,11 +159,16 @@ pub fn set_last_offset(
     ensures { Does result op.new (amend_list edit (amend_last (with_number_of key text.now)) op.old) }
 {
     let mut items = take_list(op, edit);
-    if let Err(fault) = amend_offset(key, text, &mut items) {
-        return Err(fault);
+    match amend_offset(key, text, &mut items) {
+        Ok(()) => {
+            put_list(op, edit, items);
+            Ok(())
+        }
+        Err(fault) => {
+            drop(items);
+            Err(fault)
+        }
     }
-    put_list(op, edit, items);
-    Ok(())
 }
 
 /// Adds a sublayer by its asset token, as written.

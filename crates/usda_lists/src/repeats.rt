@@ -14,6 +14,7 @@ use sdf_values::LayerOffset;
 use spec_parts::RefItem;
 use std::alloc::{AllocError, Global};
 use std::marker::Model;
+use std::mem;
 
 /// The first of each item. With `n` items it makes `n log n` comparisons.
 fn firsts<T: ExactEq + ExactOrd + ExactClone + Drop>(
@@ -24,9 +25,16 @@ fn firsts<T: ExactEq + ExactOrd + ExactClone + Drop>(
 {
     let mut kept = Vec::new(alloc);
     let mut op = ListOp::new(alloc);
-    op.explicit = Some(items);
-    op.apply_ordered(&mut kept)?;
-    Ok(Items::from_vec(kept))
+    drop(mem::replace(&mut op.explicit, Some(items)));
+    let applied = op.apply_ordered(&mut kept);
+    drop(op);
+    match applied {
+        Ok(()) => Ok(Items::from_vec(kept)),
+        Err(error) => {
+            drop(kept);
+            Err(error)
+        }
+    }
 }
 
 /// Ends the list of texts of an edit: repeats after the first are dropped. With `n` items it makes `n log n` comparisons.

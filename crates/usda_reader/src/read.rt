@@ -53,7 +53,9 @@ fn read_passed(alloc: Global, bytes: &[u8]) -> Result<Layer, LayerFault>
     ensures { Gives result (layer_in bytes.now (draft_of bytes.now)) }
 {
     let mut draft = Draft::blank(alloc)?;
-    read_into(alloc, bytes, &mut draft)
+    let found = read_into(alloc, bytes, &mut draft);
+    drop(draft);
+    found
 }
 
 // The layer or the first refusal, as the function of the bytes that they are.

@@ -10,6 +10,7 @@ use sdf_paths::Path;
 use sdf_values::{RefusalKind, TimeCode, TypeName, Value};
 use spec_properties::{Meta, Property, Samples};
 use std::alloc::{AllocError, Global};
+use std::mem;
 use usda_fields::{KeyRule, judge_key, put_comment, put_value};
 use usda_lexer::path_text;
 use usda_lists::{GivenLists, ListEdit, close_paths, open_list, push_item, target_from};
@@ -132,6 +133,7 @@ impl PropertyDraft {
                 meta,
             } => {
                 if !is_attribute_of(ty, heading.ty) {
+                    drop((name, default, samples, connections, meta));
                     return Err(ActFault::Refused(RefusalKind::DuplicateSpec));
                 }
                 Ok(PropertyDraft {
@@ -154,6 +156,7 @@ impl PropertyDraft {
                 meta,
             } => {
                 if heading.ty.is_some() {
+                    drop((name, targets, meta));
                     return Err(ActFault::Refused(RefusalKind::DuplicateSpec));
                 }
                 Ok(PropertyDraft {
@@ -215,12 +218,15 @@ impl PropertyDraft {
                 connections: paths,
                 meta,
             },
-            None => Property::Rel {
-                name,
-                custom,
-                targets: paths,
-                meta,
-            },
+            None => {
+                drop((default, samples));
+                Property::Rel {
+                    name,
+                    custom,
+                    targets: paths,
+                    meta,
+                }
+            }
         }
     }
 
@@ -238,7 +244,7 @@ impl PropertyDraft {
     pub fn give_default(&mut self, value: Value)
         ensures { self.new ≡ with_default value self.old }
     {
-        self.default = Some(value);
+        drop(mem::replace(&mut self.default, Some(value)));
     }
 
     /// Takes the word `timeSamples`, which may stand once.
@@ -256,7 +262,7 @@ impl PropertyDraft {
     pub fn give_sample(&mut self, time: TimeCode, value: Value) -> Result<(), AllocError>
         ensures { OnOk result (self.new ≡ with_sample time value self.old) }
     {
-        let _before = self.samples.insert(time, value)?;
+        drop(self.samples.insert(time, value)?);
         Ok(())
     }
 

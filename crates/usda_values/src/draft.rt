@@ -67,9 +67,16 @@ impl ValueDraft {
     pub fn into_value(self) -> Value
         ensures { result ≡ value_of self }
     {
-        let ValueDraft { level, .. } = self;
-        let Level { mut values, .. } = level;
-        match values.pop() {
+        let ValueDraft { level, outer, .. } = self;
+        let Level {
+            mut values,
+            entries,
+            key,
+            ..
+        } = level;
+        let last = values.pop();
+        drop((outer, values, entries, key));
+        match last {
             Some(value) => value,
             None => Value::Block,
         }

@@ -48,7 +48,7 @@ impl Entries {
     pub fn put(&mut self, key: Text, item: DictItem) -> Result<(), AllocError>
         ensures { OnOk result (self.new ≡ with_entry key item self.old) }
     {
-        self.map.insert(key, item)?;
+        drop(self.map.insert(key, item)?);
         Ok(())
     }
 

@@ -187,16 +187,27 @@ impl Level {
     fn give_entry(&mut self, value: Value) -> Result<(), AllocError>
         ensures { OnOk result (self.new ≡ give_entry value self.old) }
     {
-        let key = copy(&self.key)?;
-        let again = copy(&self.key)?;
-        self.entries.put(
-            key,
-            DictItem {
-                key: again,
-                ty: self.ty,
-                value,
-            },
-        )
+        let key = match copy(&self.key) {
+            Ok(key) => key,
+            Err(error) => {
+                drop(value);
+                return Err(error);
+            }
+        };
+        match copy(&self.key) {
+            Ok(again) => self.entries.put(
+                key,
+                DictItem {
+                    key: again,
+                    ty: self.ty,
+                    value,
+                },
+            ),
+            Err(error) => {
+                drop((key, value));
+                Err(error)
+            }
+        }
     }
 
     /// The value of a level that is closed.
@@ -207,12 +218,23 @@ impl Level {
             bracket,
             values,
             entries,
+            key,
             ..
         } = self;
+        drop(key);
         match bracket {
-            Bracket::Statement | Bracket::Tuple => Ok(Value::Tuple(values)),
-            Bracket::Array => Ok(Value::Array(values)),
-            Bracket::Dict => Ok(Value::Dict(entries.into_items(alloc)?)),
+            Bracket::Statement | Bracket::Tuple => {
+                drop(entries);
+                Ok(Value::Tuple(values))
+            }
+            Bracket::Array => {
+                drop(entries);
+                Ok(Value::Array(values))
+            }
+            Bracket::Dict => {
+                drop(values);
+                Ok(Value::Dict(entries.into_items(alloc)?))
+            }
         }
     }
 }

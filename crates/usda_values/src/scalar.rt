@@ -297,7 +297,10 @@ fn take_text(value: Value) -> Result<Value, ActFault>
 {
     match value {
         Value::Text(text) => Ok(Value::Text(text)),
-        _ => Err(shape_fault()),
+        other => {
+            drop(other);
+            Err(shape_fault())
+        }
     }
 }
 
@@ -306,7 +309,10 @@ fn take_asset(value: Value) -> Result<Value, ActFault>
 {
     match value {
         Value::Asset(text) => Ok(Value::Asset(text)),
-        _ => Err(shape_fault()),
+        other => {
+            drop(other);
+            Err(shape_fault())
+        }
     }
 }
 
@@ -343,12 +349,28 @@ pub fn take_element(element: ElementType, value: Value) -> Result<Value, ActFaul
     ensures { Gives result (take_element element value) }
 {
     match element {
-        ElementType::Bool => take_bool(&value),
-        ElementType::Real(_) => take_real(&value),
-        ElementType::Timecode => take_timecode(&value),
+        ElementType::Bool => {
+            let taken = take_bool(&value);
+            drop(value);
+            taken
+        }
+        ElementType::Real(_) => {
+            let taken = take_real(&value);
+            drop(value);
+            taken
+        }
+        ElementType::Timecode => {
+            let taken = take_timecode(&value);
+            drop(value);
+            taken
+        }
         ElementType::String | ElementType::Token => take_text(value),
         ElementType::Asset => take_asset(value),
-        _ => take_whole(element, &value),
+        _ => {
+            let taken = take_whole(element, &value);
+            drop(value);
+            taken
+        }
     }
 }
 
@@ -356,12 +378,14 @@ fn take_typed(is_statement: bool, ty: TypeName, value: Value) -> Result<Value, A
     ensures { Gives result (take_typed is_statement ty value) }
 {
     if value.is_block() {
+        drop(value);
         if is_statement {
             Ok(Value::Block)
         } else {
             Err(shape_fault())
         }
     } else if ty.array {
+        drop(value);
         Err(shape_fault())
     } else {
         take_element(ty.element, value)
@@ -385,6 +409,9 @@ pub fn take_value(shape: Shape, is_statement: bool, value: Value) -> Result<Valu
         Shape::Untyped => Ok(value),
         Shape::Metadata => Ok(for_metadata(value)),
         Shape::Typed(ty) => take_typed(is_statement, ty, value),
-        Shape::Dictionary => Err(shape_fault()),
+        Shape::Dictionary => {
+            drop(value);
+            Err(shape_fault())
+        }
     }
 }
