@@ -11,15 +11,15 @@ the table, as `set`.
 """
 import measure
 
-USES = ["layer_changes", "layer_apply", "layer_edit", "layer_set", "sdf_specs", "sdf_values", "sdf_paths", "asset_names", "plain_data"]
+USES = ["layer_changes", "layer_apply", "edit_batches", "layer_set", "sdf_specs", "sdf_values", "sdf_paths", "asset_names", "plain_data"]
 
 PROGRAM = """//! Makes one call on so many prims or operations: the name of the call and the number are the words.
 #![tactic(auto)]
 
 use asset_names::AssetId;
+use edit_batches::{Batch, Op};
 use layer_apply::edited_world;
 use layer_changes::apply;
-use layer_edit::{Batch, Op};
 use layer_set::{Held, World};
 use plain_data::{Items, Text, copy};
 use sdf_paths::{Path, PathFault};

@@ -6,7 +6,7 @@ ghost use Rattle.compose_api.specs.Stage.{walked, stage_of};
 ghost use Rattle.compose_api.specs.Pairs.{second};
 
 use crate::{Composer, StageRefused};
-use plain_data::{Items, copy};
+use plain_data::Items;
 use std::alloc::{AllocError, Global};
 
 // The entry of the item of this number, where one is named.
@@ -45,11 +45,11 @@ fn push_walked<C: Composer>(
     let entry = composer.compose(world, entry_at(items, parent), &place)?;
     let count = composer.child_count(&entry);
     let at = items.len();
-    items.push((copy(&place)?, entry))?;
+    items.push((place, entry))?;
     for i in 0..count {
         let child = match items.get(at) {
             None => return Ok(()),
-            Some(item) => composer.child_at(&place, &item.1, i)?,
+            Some(item) => composer.child_at(&item.0, &item.1, i)?,
         };
         push_walked(composer, world, Some(at), child, levels - 1, most, items)?;
     }

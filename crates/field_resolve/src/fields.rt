@@ -108,6 +108,40 @@ pub fn meta_of(alloc: Global, said: &[SaidAt]) -> Result<Meta, AllocError>
     Ok(meta)
 }
 
+/// A copy of the strongest type that is given, and the metadata of all opinions.
+fn typed_meta(alloc: Global, said: &[SaidAt]) -> Result<(Option<Text>, Meta), AllocError>
+    ensures { IfOk result (λ both. both ≡ (type_on said.now, meta_on said.now)) }
+{
+    let type_name = match type_of(said) {
+        Some(name) => Some(copy(name)?),
+        None => None,
+    };
+    match meta_of(alloc, said) {
+        Ok(meta) => Ok((type_name, meta)),
+        Err(error) => {
+            drop(type_name);
+            Err(error)
+        }
+    }
+}
+
+/// The applied schemas, and the sets of value clips.
+fn lists_of(
+    alloc: Global,
+    said: &[SaidAt],
+) -> Result<(Option<Items<Text>>, Option<Items<Text>>), AllocError>
+    ensures { IfOk result (λ both. both ≡ (schemas_on said.now, clips_on said.now)) }
+{
+    let api_schemas = applied_schemas(alloc, said)?;
+    match clip_sets(alloc, said) {
+        Ok(clip_sets) => Ok((api_schemas, clip_sets)),
+        Err(error) => {
+            drop(api_schemas);
+            Err(error)
+        }
+    }
+}
+
 /// What opinions make of the fields of their prim.
 pub fn fields_of(alloc: Global, said: &[SaidAt]) -> Result<PrimFields, AllocError>
     ensures specifier { IfOk result (λ f. f.specifier ≡ specifier_on said.now) }
@@ -116,17 +150,23 @@ pub fn fields_of(alloc: Global, said: &[SaidAt]) -> Result<PrimFields, AllocErro
     ensures api_schemas { IfOk result (λ f. f.api_schemas ≡ schemas_on said.now) }
     ensures clip_sets { IfOk result (λ f. f.clip_sets ≡ clips_on said.now) }
 {
-    let type_name = match type_of(said) {
-        Some(name) => Some(copy(name)?),
-        None => None,
-    };
-    Ok(PrimFields {
-        specifier: specifier_of(said),
-        type_name,
-        meta: meta_of(alloc, said)?,
-        api_schemas: applied_schemas(alloc, said)?,
-        clip_sets: clip_sets(alloc, said)?,
-    })
+    let typed = typed_meta(alloc, said)?;
+    match lists_of(alloc, said) {
+        Ok((api_schemas, clip_sets)) => {
+            let (type_name, meta) = typed;
+            Ok(PrimFields {
+                specifier: specifier_of(said),
+                type_name,
+                meta,
+                api_schemas,
+                clip_sets,
+            })
+        }
+        Err(error) => {
+            drop(typed);
+            Err(error)
+        }
+    }
 }
 
 /// The fields of a prim of these sites, the strongest first.

@@ -21,7 +21,7 @@ fn by_key(alloc: Global, items: &[DictItem]) -> Result<Entries, AllocError>
 {
     let mut table = OrderedTable::new(alloc);
     for item in items {
-        table.insert(copy(&item.key)?, copy(item)?)?;
+        drop(table.insert(copy(&item.key)?, copy(item)?)?);
     }
     Ok(table)
 }
@@ -96,8 +96,9 @@ fn put_over(
 ) -> Result<(), AllocError>
     ensures { OnOk result (table.new ≡ with_stronger (merged_within levels) table.old item.now) }
 {
+    let key = copy(&item.key)?;
     let entry = over_entry(alloc, levels, item, table.get(&item.key))?;
-    table.insert(copy(&item.key)?, entry)?;
+    drop(table.insert(key, entry)?);
     Ok(())
 }
 
@@ -125,11 +126,12 @@ fn over_entry(
 fn put_below(alloc: Global, meta: &mut Meta, key: &Text, value: &Value) -> Result<(), AllocError>
     ensures { OnOk result (meta.new ≡ with_weaker meta.old (key.now, value.now)) }
 {
+    let name = copy(key)?;
     let value = match meta.get(key) {
         None => copy(value)?,
         Some(stronger) => merged_within(alloc, MAX_NESTING, stronger, value)?,
     };
-    meta.insert(copy(key)?, value)?;
+    drop(meta.insert(name, value)?);
     Ok(())
 }
 

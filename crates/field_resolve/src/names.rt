@@ -90,13 +90,14 @@ fn naming_edit(
 ) -> Result<ListOp<Text>, AllocError>
     ensures { IfOk result (λ op. op ≡ naming_edit (record { names = names; order = order.now })) }
 {
+    let ordered = copy(order)?;
     Ok(ListOp {
         explicit: None,
         deleted: Items::new(alloc),
         added: names,
         prepended: Items::new(alloc),
         appended: Items::new(alloc),
-        ordered: copy(order)?,
+        ordered,
     })
 }
 

@@ -9,6 +9,7 @@ use list_ops::{ListOp, fold_ordered};
 use plain_data::{Items, Text, copy};
 use prim_opinions::SaidAt;
 use std::alloc::{AllocError, Global};
+use std::mem;
 
 /// What opinions make of the empty list, the strongest given first.
 fn strongest_folded(alloc: Global, edits: Vec<ListOp<Text>>) -> Result<Items<Text>, AllocError>
@@ -31,10 +32,17 @@ fn firsts(alloc: Global, texts: Items<Text>) -> Result<Items<Text>, AllocError>
     ensures { IfOk result (λ once. once ≡ firsts bytes_eq texts) }
 {
     let mut op = ListOp::new(alloc);
-    op.explicit = Some(texts);
+    drop(mem::replace(&mut op.explicit, Some(texts)));
     let mut once = Vec::new(alloc);
-    op.apply_ordered(&mut once)?;
-    Ok(Items::from_vec(once))
+    let applied = op.apply_ordered(&mut once);
+    drop(op);
+    match applied {
+        Ok(()) => Ok(Items::from_vec(once)),
+        Err(error) => {
+            drop(once);
+            Err(error)
+        }
+    }
 }
 
 /// Each text once.

@@ -101,5 +101,7 @@ pub fn flatten_text(alloc: Global, view: &View<'_, Path, PrimView>) -> Result<Ve
     ensures { IfOk result (λ text. text.items ≡ canonical (flat_layer view.now.items)) }
 {
     let layer = flatten_layer(alloc, view)?;
-    write_layer(alloc, &layer)
+    let text = write_layer(alloc, &layer);
+    drop(layer);
+    text
 }

@@ -49,9 +49,24 @@ fn beside_default(alloc: Global, name: &Option<Text>, meta: &Meta) -> Result<Met
 {
     let mut rest = copy(meta)?;
     if name.is_some() {
-        rest.remove(&default_key(alloc)?);
+        let key = default_key(alloc)?;
+        drop(rest.remove(&key));
     }
     Ok(rest)
+}
+
+/// The default prim that metadata names, and the metadata beside it.
+fn flat_fields(alloc: Global, meta: &Meta) -> Result<(Option<Text>, Meta), AllocError>
+    ensures { IfOk result (λ both. both ≡ (default_in meta.now, beside_default (default_in meta.now) meta.now)) }
+{
+    let default_prim = default_in(alloc, meta)?;
+    match beside_default(alloc, &default_prim, meta) {
+        Ok(rest) => Ok((default_prim, rest)),
+        Err(error) => {
+            drop(default_prim);
+            Err(error)
+        }
+    }
 }
 
 /// The head that says what `/` has.
@@ -59,15 +74,20 @@ fn beside_default(alloc: Global, name: &Option<Text>, meta: &Meta) -> Result<Met
 fn flat_head(alloc: Global, root: &PrimView) -> Result<Head, AllocError>
     ensures { IfOk result (λ head. head ≡ flat_head root.now) }
 {
-    let default_prim = default_in(alloc, &root.meta)?;
-    let meta = beside_default(alloc, &default_prim, &root.meta)?;
-    Ok(Head {
-        sublayers: Items::new(alloc),
-        default_prim,
-        meta,
-        root_names: copy(&root.children)?,
-        root_order: Items::new(alloc),
-    })
+    let (default_prim, meta) = flat_fields(alloc, &root.meta)?;
+    match copy(&root.children) {
+        Ok(root_names) => Ok(Head {
+            sublayers: Items::new(alloc),
+            default_prim,
+            meta,
+            root_names,
+            root_order: Items::new(alloc),
+        }),
+        Err(error) => {
+            drop((default_prim, meta));
+            Err(error)
+        }
+    }
 }
 
 /// The head of a stage's layer.

@@ -3,9 +3,11 @@ ghost use Rattle.std.specs.Prelude.{◌≡◌, IfOk, OnOk, []};
 ghost use Rattle.flatten.specs.Flattened.{explicit_list, flat_property, with_properties, flat_body, flat_spec};
 
 use list_ops::ListOp;
-use plain_data::{ExactClone, Items, copy};
+use plain_data::{ExactClone, Items, Text, copy};
 use prim_view::{PrimView, PropertyView};
-use sdf_specs::{ArcPart, BodyPart, Properties, Property, Spec};
+use sdf_paths::Path;
+use sdf_specs::{ArcPart, BodyPart, Meta, Properties, Property, Samples, Spec};
+use sdf_values::Value;
 use std::alloc::{AllocError, Global};
 
 /// An explicit list, where there is an opinion.
@@ -25,6 +27,61 @@ fn explicit_list<T: ExactClone>(
     })
 }
 
+/// The values of an attribute.
+fn flat_values(
+    default: &Option<Value>,
+    samples: &Samples,
+) -> Result<(Option<Value>, Samples), AllocError>
+    ensures { IfOk result (λ both. both ≡ (default.now, samples.now)) }
+{
+    let default = copy(default)?;
+    match copy(samples) {
+        Ok(samples) => Ok((default, samples)),
+        Err(error) => {
+            drop(default);
+            Err(error)
+        }
+    }
+}
+
+/// The paths of a property as an explicit list, and its metadata.
+fn flat_paths(
+    alloc: Global,
+    paths: &Option<Items<Path>>,
+    meta: &Meta,
+) -> Result<(ListOp<Path>, Meta), AllocError>
+    ensures { IfOk result (λ both. both ≡ (explicit_list paths.now, meta.now)) }
+{
+    let paths = explicit_list(alloc, paths)?;
+    match copy(meta) {
+        Ok(meta) => Ok((paths, meta)),
+        Err(error) => {
+            drop(paths);
+            Err(error)
+        }
+    }
+}
+
+/// What an attribute has beside its name and its flags.
+fn flat_content(
+    alloc: Global,
+    default: &Option<Value>,
+    samples: &Samples,
+    connections: &Option<Items<Path>>,
+    meta: &Meta,
+) -> Result<((Option<Value>, Samples), (ListOp<Path>, Meta)), AllocError>
+    ensures { IfOk result (λ all. all ≡ ((default.now, samples.now), (explicit_list connections.now, meta.now))) }
+{
+    let values = flat_values(default, samples)?;
+    match flat_paths(alloc, connections, meta) {
+        Ok(paths) => Ok((values, paths)),
+        Err(error) => {
+            drop(values);
+            Err(error)
+        }
+    }
+}
+
 /// A property as a layer has it.
 fn flat_property(alloc: Global, property: &PropertyView) -> Result<Property, AllocError>
     ensures { IfOk result (λ flat. flat ≡ flat_property property.now) }
@@ -39,27 +96,45 @@ fn flat_property(alloc: Global, property: &PropertyView) -> Result<Property, All
             samples,
             connections,
             meta,
-        } => Ok(Property::Attr {
-            name: copy(name)?,
-            ty: *ty,
-            custom: *custom,
-            uniform: *uniform,
-            default: copy(default)?,
-            samples: copy(samples)?,
-            connections: explicit_list(alloc, connections)?,
-            meta: copy(meta)?,
-        }),
+        } => {
+            let name = copy(name)?;
+            match flat_content(alloc, default, samples, connections, meta) {
+                Ok(((default, samples), (connections, meta))) => Ok(Property::Attr {
+                    name,
+                    ty: *ty,
+                    custom: *custom,
+                    uniform: *uniform,
+                    default,
+                    samples,
+                    connections,
+                    meta,
+                }),
+                Err(error) => {
+                    drop(name);
+                    Err(error)
+                }
+            }
+        }
         PropertyView::Rel {
             name,
             custom,
             targets,
             meta,
-        } => Ok(Property::Rel {
-            name: copy(name)?,
-            custom: *custom,
-            targets: explicit_list(alloc, targets)?,
-            meta: copy(meta)?,
-        }),
+        } => {
+            let name = copy(name)?;
+            match flat_paths(alloc, targets, meta) {
+                Ok((targets, meta)) => Ok(Property::Rel {
+                    name,
+                    custom: *custom,
+                    targets,
+                    meta,
+                }),
+                Err(error) => {
+                    drop(name);
+                    Err(error)
+                }
+            }
+        }
     }
 }
 
@@ -69,33 +144,86 @@ fn flat_properties(alloc: Global, properties: &[PropertyView]) -> Result<Propert
 {
     let mut flat = Properties::new(alloc);
     for property in properties {
-        flat.insert(flat_property(alloc, property)?)?;
+        drop(flat.insert(flat_property(alloc, property)?)?);
     }
     Ok(flat)
 }
 
+/// The type and the metadata of a prim.
+fn flat_fields(prim: &PrimView) -> Result<(Option<Text>, Meta), AllocError>
+    ensures { IfOk result (λ both. both ≡ (prim.now.type_name, prim.now.meta)) }
+{
+    let type_name = copy(&prim.type_name)?;
+    match copy(&prim.meta) {
+        Ok(meta) => Ok((type_name, meta)),
+        Err(error) => {
+            drop(type_name);
+            Err(error)
+        }
+    }
+}
+
+/// The schemas and the clip sets of a prim, as explicit lists.
+fn flat_lists(alloc: Global, prim: &PrimView) -> Result<(ListOp<Text>, ListOp<Text>), AllocError>
+    ensures { IfOk result (λ both. both ≡ (explicit_list prim.now.api_schemas, explicit_list prim.now.clip_sets)) }
+{
+    let api_schemas = explicit_list(alloc, &prim.api_schemas)?;
+    match explicit_list(alloc, &prim.clip_sets) {
+        Ok(clip_sets) => Ok((api_schemas, clip_sets)),
+        Err(error) => {
+            drop(api_schemas);
+            Err(error)
+        }
+    }
+}
+
+/// The names of a prim's children, and its properties.
+fn flat_parts(alloc: Global, prim: &PrimView) -> Result<(Items<Text>, Properties), AllocError>
+    ensures { IfOk result (λ both. both ≡ (prim.now.children, with_properties prim.now.properties [])) }
+{
+    let children = copy(&prim.children)?;
+    match flat_properties(alloc, prim.properties.as_slice()) {
+        Ok(properties) => Ok((children, properties)),
+        Err(error) => {
+            drop(children);
+            Err(error)
+        }
+    }
+}
+
 /// What a prim gathers, as a layer has it.
+#[tactic(auto, unfolding(crate::specs::Flattened::flat_body))]
 fn flat_body(alloc: Global, prim: &PrimView) -> Result<BodyPart, AllocError>
     ensures { IfOk result (λ body. body ≡ flat_body prim.now) }
 {
-    let type_name = copy(&prim.type_name)?;
-    let meta = copy(&prim.meta)?;
-    let api_schemas = explicit_list(alloc, &prim.api_schemas)?;
-    let clip_sets = explicit_list(alloc, &prim.clip_sets)?;
-    let children = copy(&prim.children)?;
-    let properties = flat_properties(alloc, prim.properties.as_slice())?;
-    Ok(BodyPart {
-        specifier: prim.specifier,
-        type_name,
-        meta,
-        api_schemas,
-        clip_sets,
-        children,
-        child_order: Items::new(alloc),
-        properties,
-        property_order: Items::new(alloc),
-        variant_names: Items::new(alloc),
-    })
+    let fields = flat_fields(prim)?;
+    match flat_lists(alloc, prim) {
+        Ok((api_schemas, clip_sets)) => match flat_parts(alloc, prim) {
+            Ok((children, properties)) => {
+                let (type_name, meta) = fields;
+                Ok(BodyPart {
+                    specifier: prim.specifier,
+                    type_name,
+                    meta,
+                    api_schemas,
+                    clip_sets,
+                    children,
+                    child_order: Items::new(alloc),
+                    properties,
+                    property_order: Items::new(alloc),
+                    variant_names: Items::new(alloc),
+                })
+            }
+            Err(error) => {
+                drop((fields, api_schemas, clip_sets));
+                Err(error)
+            }
+        },
+        Err(error) => {
+            drop(fields);
+            Err(error)
+        }
+    }
 }
 
 /// A prim as a layer has it.

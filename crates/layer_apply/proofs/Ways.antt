@@ -5,9 +5,9 @@ use Rattle.layer_set.specs.Worlds.{WorldData, held_at, present_layer, with_held}
 use Rattle.layer_set.specs.declared.held.Held.{Held}
 use Rattle.layer_set.specs.declared.held.Held.TheVariants.{Present}
 use Rattle.layer_edit.specs.Outcomes.{Made, given, Does}
-use Rattle.layer_edit.specs.declared.fault.EditFault.TheVariants.{NoLayer}
-use Rattle.layer_edit.specs.declared.fault.OpRefused.{OpRefused}
-use Rattle.layer_edit.specs.declared.fault.OpRefused.TheVariants.{Fault, NoMemory}
+use Rattle.edit_batches.specs.declared.fault.EditFault.TheVariants.{NoLayer}
+use Rattle.edit_batches.specs.declared.fault.OpRefused.{OpRefused}
+use Rattle.edit_batches.specs.declared.fault.OpRefused.TheVariants.{Fault, NoMemory}
 use Rattle.layer_apply.specs.Answers.{DoesOne}
 use Rattle.layer_apply.specs.Edits.{put_back, in_layer}
 

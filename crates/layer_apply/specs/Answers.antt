@@ -2,11 +2,11 @@
 use Rattle.std.specs.Prelude.{◌≡◌, ℕ, Result, Ok, Err}
 use Rattle.layer_set.specs.Worlds.{WorldData}
 use Rattle.layer_edit.specs.Outcomes.{Made}
-use Rattle.layer_edit.specs.declared.fault.EditFault.{EditFault}
-use Rattle.layer_edit.specs.declared.fault.EditRefused.{EditRefused}
-use Rattle.layer_edit.specs.declared.fault.EditRefused.TheVariants.{Op, NoMemory}
-use Rattle.layer_edit.specs.declared.fault.OpRefused.{OpRefused}
-use Rattle.layer_edit.specs.declared.fault.OpRefused.TheVariants as refused
+use Rattle.edit_batches.specs.declared.fault.EditFault.{EditFault}
+use Rattle.edit_batches.specs.declared.fault.EditRefused.{EditRefused}
+use Rattle.edit_batches.specs.declared.fault.EditRefused.TheVariants.{Op, NoMemory}
+use Rattle.edit_batches.specs.declared.fault.OpRefused.{OpRefused}
+use Rattle.edit_batches.specs.declared.fault.OpRefused.TheVariants as refused
 use Rattle.layer_apply.specs.Edits.{Edited}
 
 -- the fact, of an operation's number and its fault, where an operation was refused

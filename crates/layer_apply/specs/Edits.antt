@@ -17,10 +17,10 @@ use Rattle.layer_edit.specs.Prims.{prim_added, variant_added, removed}
 use Rattle.layer_edit.specs.Properties.{attribute_added, relationship_added, default_set, default_cleared, sample_set, sample_cleared}
 use Rattle.layer_edit.specs.Metadata.{meta_set, meta_cleared}
 use Rattle.layer_edit.specs.Fields.{list_set, selection_set, order_set, sublayers_set}
-use Rattle.layer_edit.specs.declared.fault.EditFault.{EditFault}
-use Rattle.layer_edit.specs.declared.fault.EditFault.TheVariants.{NoLayer, LayerThere, LayerLimit, RootLayer, LayerText, WrongPath}
-use Rattle.layer_edit.specs.declared.op.Op.{Op}
-use Rattle.layer_edit.specs.declared.op.Op.TheVariants as op
+use Rattle.edit_batches.specs.declared.fault.EditFault.{EditFault}
+use Rattle.edit_batches.specs.declared.fault.EditFault.TheVariants.{NoLayer, LayerThere, LayerLimit, RootLayer, LayerText, WrongPath}
+use Rattle.edit_batches.specs.declared.op.Op.{Op}
+use Rattle.edit_batches.specs.declared.op.Op.TheVariants as op
 
 -- ---- layers that are present
 

@@ -7,8 +7,8 @@ use Rattle.layer_edit.specs.Prims.{prim_added, variant_added, removed}
 use Rattle.layer_edit.specs.Properties.{attribute_added, relationship_added, default_set, default_cleared, sample_set, sample_cleared}
 use Rattle.layer_edit.specs.Metadata.{meta_set, meta_cleared}
 use Rattle.layer_edit.specs.Fields.{list_set, selection_set, order_set, sublayers_set}
-use Rattle.layer_edit.specs.declared.op.Op.{Op}
-use Rattle.layer_edit.specs.declared.op.Op.TheVariants as op
+use Rattle.edit_batches.specs.declared.op.Op.{Op}
+use Rattle.edit_batches.specs.declared.op.Op.TheVariants as op
 use Rattle.layer_apply.specs.Edits.{layer_added, layer_put, rule_set}
 
 -- the layer that has to be present

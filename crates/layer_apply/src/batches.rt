@@ -5,7 +5,7 @@ ghost use Rattle.layer_apply.specs.Answers.{DoesOne, DoesAll, IfOp};
 
 use crate::layers::{edit_in_layer, layer_of};
 use crate::worlds::edit_world;
-use layer_edit::{Batch, EditRefused, Op, OpRefused};
+use edit_batches::{Batch, EditRefused, Op, OpRefused};
 use layer_set::World;
 use std::alloc::Global;
 
@@ -49,6 +49,11 @@ pub fn edited_world(alloc: Global, world: &World, batch: &Batch) -> Result<World
     ensures refused { IfErr result (λ e. IfOp e (λ op fault. edit world.now batch.now ≡ Err (op, fault))) }
 {
     let mut after = world.copy()?;
-    edit_all(alloc, &mut after, batch)?;
-    Ok(after)
+    match edit_all(alloc, &mut after, batch) {
+        Ok(()) => Ok(after),
+        Err(refused) => {
+            drop(after);
+            Err(refused)
+        }
+    }
 }

@@ -6,13 +6,15 @@ ghost use Rattle.layer_apply.specs.Edits.{in_layer};
 ghost use Rattle.layer_apply.specs.Parts.{layer_of, layer_edited};
 ghost use Rattle.layer_apply.specs.Answers.{DoesOne};
 
+use crate::worlds::put_present;
 use asset_names::AssetId;
+use edit_batches::{EditFault, Op, OpRefused};
 use layer_edit::{
-    EditFault, Op, OpRefused, add_attribute, add_prim, add_relationship, add_variant,
-    clear_default, clear_meta, clear_sample, remove, set_default, set_list, set_meta, set_order,
-    set_sample, set_selection, set_sublayers,
+    add_attribute, add_prim, add_relationship, add_variant, clear_default, clear_meta,
+    clear_sample, remove, set_default, set_list, set_meta, set_order, set_sample, set_selection,
+    set_sublayers,
 };
-use layer_set::{Held, World};
+use layer_set::World;
 use plain_data::copy;
 use sdf_specs::Layer;
 use std::alloc::Global;
@@ -125,10 +127,13 @@ pub fn edit_in_layer(
             let mut layer = layer;
             match edit_layer(alloc, &mut layer, op) {
                 Ok(()) => {
-                    world.put(copy(name)?, Held::Present(layer))?;
+                    put_present(world, name, layer)?;
                     Ok(())
                 }
-                Err(refused) => Err(refused),
+                Err(refused) => {
+                    drop(layer);
+                    Err(refused)
+                }
             }
         }
         None => Err(OpRefused::Fault(EditFault::NoLayer)),

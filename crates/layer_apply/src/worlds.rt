@@ -1,6 +1,8 @@
 // Operations on whole layers and on load rules.
-ghost use Rattle.std.specs.Prelude.{◌≡◌, Some, true};
+ghost use Rattle.std.specs.Prelude.{◌≡◌, Some, true, OnOk};
 ghost use Rattle.std.specs.Option.{option_copied};
+ghost use Rattle.layer_set.specs.Worlds.{with_held};
+ghost use Rattle.layer_set.specs.declared.held.Held.TheVariants.{Present};
 ghost use Rattle.layer_edit.specs.Outcomes.{Gives};
 ghost use Rattle.layer_apply.specs.Edits.{is_present, is_over, layer_or_fault, new_layer, layer_added, is_named, is_root_name, layer_put, rule_set};
 ghost use Rattle.layer_apply.specs.Parts.{world_edited};
@@ -8,12 +10,13 @@ ghost use Rattle.layer_apply.specs.Answers.{DoesOne};
 ghost use Rattle.usda_reader.specs.Reading.{read};
 
 use asset_names::AssetId;
-use layer_edit::{EditFault, Op, OpRefused, is_stage_prim};
+use edit_batches::{EditFault, Op, OpRefused};
+use layer_edit::is_stage_prim;
 use layer_set::{Held, World};
 use plain_data::{Text, copy};
 use sdf_paths::Path;
 use sdf_specs::Layer;
-use std::alloc::Global;
+use std::alloc::{AllocError, Global};
 use usda_reader::{LayerFault, read_layer};
 
 fn is_present(held: &Held) -> bool
@@ -55,6 +58,19 @@ fn new_layer(alloc: Global, text: &Option<Text>) -> Result<Layer, OpRefused>
     }
 }
 
+/// Puts a layer at a name.
+pub fn put_present(world: &mut World, name: &AssetId, layer: Layer) -> Result<(), AllocError>
+    ensures { OnOk result (world.new ≡ with_held name.now (Present layer) world.old) }
+{
+    match copy(name) {
+        Ok(name) => world.put(name, Held::Present(layer)),
+        Err(error) => {
+            drop(layer);
+            Err(error)
+        }
+    }
+}
+
 /// Adds a layer at a name that has none.
 #[tactic(auto, unfolding(crate::specs::Edits::layer_added, layer_edit::specs::Outcomes::passing))]
 fn add_layer(
@@ -72,7 +88,7 @@ fn add_layer(
         return Err(OpRefused::Fault(EditFault::LayerLimit));
     }
     let layer = new_layer(alloc, text)?;
-    world.put(copy(name)?, Held::Present(layer))?;
+    put_present(world, name, layer)?;
     Ok(())
 }
 

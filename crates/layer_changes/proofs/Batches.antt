@@ -7,7 +7,7 @@ use Rattle.layer_set.specs.LookUps.{stands_at}
 use Rattle.layer_set.specs.Worlds.{WorldData}
 use Rattle.layer_set.specs.declared.key.Key.{Key}
 use Rattle.layer_edit.specs.Outcomes.{Made}
-use Rattle.layer_edit.specs.declared.op.Op.{Op}
+use Rattle.edit_batches.specs.declared.op.Op.{Op}
 use Rattle.layer_edit.proofs.Found.{by_test}
 use Rattle.layer_apply.specs.Edits.{edited, Edited, proceed, edit_from, edit}
 use Rattle.layer_changes.specs.Changed.{IsChangedKey}

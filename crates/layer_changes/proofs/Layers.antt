@@ -38,12 +38,12 @@ use Rattle.layer_edit.specs.Typing.{typed, time_at, meta_value}
 use Rattle.layer_edit.specs.Metadata.{with_entry, text_of, with_head_entry, with_spec_entry, with_property_entry, with_entry_by, with_meta, meta_set, meta_cleared}
 use Rattle.layer_edit.specs.Fields.{with_paths, with_references, with_texts, with_targets, paths_set, references_set, texts_set, targets_set, connections_set, list_set, with_selection, selection_set, with_order, reordered, order_set, sublayers_set}
 use Rattle.layer_edit.specs.Offsets.{items_of, sublayers_of}
-use Rattle.layer_edit.specs.declared.fault.EditFault.{EditFault}
-use Rattle.layer_edit.specs.declared.fault.EditFault.TheVariants.{WrongPath, NoParent, NoSpec, SpecThere, NoSuchType, ValueShape, TimeRange, OffsetRange, BadArc}
-use Rattle.layer_edit.specs.declared.op.FieldList.{FieldList}
-use Rattle.layer_edit.specs.declared.op.FieldList.TheVariants as list
-use Rattle.layer_edit.specs.declared.written.WrittenReference.{WrittenReference}
-use Rattle.layer_edit.specs.declared.written.WrittenSubLayer.{WrittenSubLayer}
+use Rattle.edit_batches.specs.declared.fault.EditFault.{EditFault}
+use Rattle.edit_batches.specs.declared.fault.EditFault.TheVariants.{WrongPath, NoParent, NoSpec, SpecThere, NoSuchType, ValueShape, TimeRange, OffsetRange, BadArc}
+use Rattle.edit_batches.specs.declared.op.FieldList.{FieldList}
+use Rattle.edit_batches.specs.declared.op.FieldList.TheVariants as list
+use Rattle.edit_batches.specs.declared.written.WrittenReference.{WrittenReference}
+use Rattle.edit_batches.specs.declared.written.WrittenSubLayer.{WrittenSubLayer}
 use Rattle.layer_changes.specs.Parts.{is_in, is_among, is_below, of_new, of_owner, of_tree, of_head, of_arcs, of_body, of_meta_by, of_meta, of_list}
 use Rattle.layer_changes.specs.declared.part.Part.{Part}
 use Rattle.layer_changes.specs.declared.part.Part.TheVariants.{At, Below}

@@ -5,7 +5,7 @@ use Rattle.std.specs.List.Sorted.{IsStrictlySortedBy}
 use Rattle.std.proofs.lemmas.List.Elements.{All-weaker, All-contains}
 use Rattle.layer_set.specs.Worlds.{WorldData}
 use Rattle.layer_set.specs.declared.key.Key.{Key}
-use Rattle.layer_edit.specs.declared.op.Op.{Op}
+use Rattle.edit_batches.specs.declared.op.Op.{Op}
 use Rattle.layer_apply.specs.Edits.{edit}
 use Rattle.layer_changes.specs.Changed.{key_cmp, IsChangedKey, AreChanged}
 use Rattle.layer_changes.specs.Covering.{Names, NamesBatch, Keeps}

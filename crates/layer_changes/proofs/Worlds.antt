@@ -22,9 +22,9 @@ use Rattle.layer_set.specs.declared.held.Held.TheVariants.{Present, Absent, Brok
 use Rattle.layer_set.specs.declared.key.Key.{Key}
 use Rattle.layer_set.specs.declared.key.Key.TheVariants.{Head, Arcs, Body, Load}
 use Rattle.layer_edit.specs.Outcomes.{Made, given}
-use Rattle.layer_edit.specs.declared.fault.EditFault.TheVariants.{NoLayer}
-use Rattle.layer_edit.specs.declared.op.Op.{Op}
-use Rattle.layer_edit.specs.declared.op.Op.TheVariants as op
+use Rattle.edit_batches.specs.declared.fault.EditFault.TheVariants.{NoLayer}
+use Rattle.edit_batches.specs.declared.op.Op.{Op}
+use Rattle.edit_batches.specs.declared.op.Op.TheVariants as op
 use Rattle.layer_edit.proofs.Found.{by_test, is_key, other_put, same_put, other_removed}
 use Rattle.layer_apply.specs.Edits.{put_back, in_layer, new_layer, layer_added, layer_put, rule_set, edited}
 use Rattle.layer_changes.specs.Parts.{is_in, is_among, is_below, of_layer, of_rule, parts_of}

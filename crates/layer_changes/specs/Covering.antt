@@ -7,7 +7,7 @@ use Rattle.layer_set.specs.Worlds.{WorldData, spec_of}
 use Rattle.layer_set.specs.declared.held.Held.{Held}
 use Rattle.layer_set.specs.declared.key.Key.{Key}
 use Rattle.layer_set.specs.declared.key.Key.TheVariants.{Arcs, Body}
-use Rattle.layer_edit.specs.declared.op.Op.{Op}
+use Rattle.edit_batches.specs.declared.op.Op.{Op}
 use Rattle.layer_changes.specs.Changed.{IsChangedKey}
 use Rattle.layer_changes.specs.Parts.{is_in, parts_of}
 use Rattle.layer_changes.specs.declared.part.Part.{Part}

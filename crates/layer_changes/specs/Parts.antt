@@ -10,10 +10,10 @@ use Rattle.usda_fields.specs.declared.field.TextField.TheVariants.{VariantSets, 
 use Rattle.layer_set.specs.declared.key.Key.{Key}
 use Rattle.layer_set.specs.declared.key.Key.TheVariants.{Head, Arcs, Body, Load}
 use Rattle.layer_edit.specs.Places.{last_element, above}
-use Rattle.layer_edit.specs.declared.op.FieldList.{FieldList}
-use Rattle.layer_edit.specs.declared.op.FieldList.TheVariants as list
-use Rattle.layer_edit.specs.declared.op.Op.{Op}
-use Rattle.layer_edit.specs.declared.op.Op.TheVariants as op
+use Rattle.edit_batches.specs.declared.op.FieldList.{FieldList}
+use Rattle.edit_batches.specs.declared.op.FieldList.TheVariants as list
+use Rattle.edit_batches.specs.declared.op.Op.{Op}
+use Rattle.edit_batches.specs.declared.op.Op.TheVariants as op
 use Rattle.layer_changes.specs.Changed.{key_cmp}
 use Rattle.layer_changes.specs.declared.part.Part.{Part}
 use Rattle.layer_changes.specs.declared.part.Part.TheVariants.{At, Below}

@@ -5,8 +5,8 @@ ghost use Rattle.layer_changes.specs.Changed.{AreChanged};
 
 use crate::differing::differing_keys;
 use crate::named::named_keys;
+use edit_batches::{Batch, EditRefused};
 use layer_apply::edited_world;
-use layer_edit::{Batch, EditRefused};
 use layer_set::{Key, World};
 use plain_data::Items;
 use std::alloc::{AllocError, Global};
@@ -46,9 +46,14 @@ pub fn apply(alloc: Global, world: &World, batch: &Batch) -> Result<Applied, Edi
     ensures refused { IfErr result (λ e. IfOp e (λ op fault. edit world.now batch.now ≡ Err (op, fault))) }
 {
     let after = edited_world(alloc, world, batch)?;
-    let changed = changed_keys(alloc, world, &after, batch)?;
-    Ok(Applied {
-        world: after,
-        changed,
-    })
+    match changed_keys(alloc, world, &after, batch) {
+        Ok(changed) => Ok(Applied {
+            world: after,
+            changed,
+        }),
+        Err(_) => {
+            drop(after);
+            Err(EditRefused::NoMemory)
+        }
+    }
 }

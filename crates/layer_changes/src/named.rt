@@ -10,7 +10,7 @@ use crate::growing::{add, into_list};
 use crate::part::Part;
 use crate::parts::parts_of;
 use crate::trees::{add_spec, add_tree};
-use layer_edit::{Batch, Op};
+use edit_batches::{Batch, Op};
 use layer_set::{Key, World};
 use plain_data::{Items, copy};
 use std::alloc::{AllocError, Global};

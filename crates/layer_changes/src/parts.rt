@@ -6,7 +6,7 @@ ghost use Rattle.layer_changes.specs.declared.part.Part.TheVariants.{At};
 
 use crate::part::Part;
 use asset_names::AssetId;
-use layer_edit::{FieldList, Op, TextField};
+use edit_batches::{FieldList, Op, TextField};
 use layer_set::Key;
 use plain_data::{Items, copy};
 use sdf_paths::{Element, Path};

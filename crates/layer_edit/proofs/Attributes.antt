@@ -6,10 +6,10 @@ use Rattle.sdf_values.specs.declared.type_name.TypeName.{TypeName}
 use Rattle.layer_edit.specs.Outcomes.{Made, Test, first_fault, unless, passing, given, Gives, Does}
 use Rattle.layer_edit.specs.Places.{is_property_path, property_in}
 use Rattle.layer_edit.specs.Properties.{type_of, at_attribute}
-use Rattle.layer_edit.specs.declared.fault.EditFault.{EditFault}
-use Rattle.layer_edit.specs.declared.fault.EditFault.TheVariants.{WrongPath, NoSpec}
-use Rattle.layer_edit.specs.declared.fault.OpRefused.{OpRefused}
-use Rattle.layer_edit.specs.declared.fault.OpRefused.TheVariants as refused
+use Rattle.edit_batches.specs.declared.fault.EditFault.{EditFault}
+use Rattle.edit_batches.specs.declared.fault.EditFault.TheVariants.{WrongPath, NoSpec}
+use Rattle.edit_batches.specs.declared.fault.OpRefused.{OpRefused}
+use Rattle.edit_batches.specs.declared.fault.OpRefused.TheVariants as refused
 
 module _ {A : Type 0} (make : TypeName → Made A) where
   abbrev by_type : Option EditFault → Option TypeName → Made A

@@ -26,11 +26,11 @@ use Rattle.usda_lists.specs.declared.edit.ListEdit.TheVariants.{Explicit}
 use Rattle.layer_edit.specs.Outcomes.{Made, passing, given}
 use Rattle.layer_edit.specs.Places.{is_spec_path, is_property_path, property_in, has_spec, changed_spec, changed_property}
 use Rattle.layer_edit.specs.Offsets.{items_of, sublayers_of, is_bad_target, is_bad_item}
-use Rattle.layer_edit.specs.declared.fault.EditFault.TheVariants.{WrongPath, NoSpec, OffsetRange, BadArc}
-use Rattle.layer_edit.specs.declared.op.FieldList.{FieldList}
-use Rattle.layer_edit.specs.declared.op.FieldList.TheVariants as list
-use Rattle.layer_edit.specs.declared.written.WrittenReference.{WrittenReference}
-use Rattle.layer_edit.specs.declared.written.WrittenSubLayer.{WrittenSubLayer}
+use Rattle.edit_batches.specs.declared.fault.EditFault.TheVariants.{WrongPath, NoSpec, OffsetRange, BadArc}
+use Rattle.edit_batches.specs.declared.op.FieldList.{FieldList}
+use Rattle.edit_batches.specs.declared.op.FieldList.TheVariants as list
+use Rattle.edit_batches.specs.declared.written.WrittenReference.{WrittenReference}
+use Rattle.edit_batches.specs.declared.written.WrittenSubLayer.{WrittenSubLayer}
 
 -- ---- lists
 

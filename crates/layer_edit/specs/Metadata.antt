@@ -16,7 +16,7 @@ use Rattle.spec_tables.specs.Tables.{with_key, without_key}
 use Rattle.layer_edit.specs.Outcomes.{Made, passing, given}
 use Rattle.layer_edit.specs.Places.{last_element, has_spec, changed_spec, changed_property}
 use Rattle.layer_edit.specs.Typing.{meta_value}
-use Rattle.layer_edit.specs.declared.fault.EditFault.TheVariants.{NoSpec, ValueShape}
+use Rattle.edit_batches.specs.declared.fault.EditFault.TheVariants.{NoSpec, ValueShape}
 
 -- a value at a key, or none
 abbrev pub with_entry : List ℕ → Option Value → MetaEntries → MetaEntries

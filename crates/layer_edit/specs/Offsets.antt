@@ -7,9 +7,9 @@ use Rattle.spec_parts.specs.declared.items.SubLayer.{SubLayer}
 use Rattle.usda_lists.specs.Offsets.{whole_number}
 use Rattle.composition.specs.Assets.{anchor}
 use Rattle.layer_edit.specs.Places.{is_stage_prim}
-use Rattle.layer_edit.specs.declared.written.WrittenOffset.{WrittenOffset}
-use Rattle.layer_edit.specs.declared.written.WrittenReference.{WrittenReference}
-use Rattle.layer_edit.specs.declared.written.WrittenSubLayer.{WrittenSubLayer}
+use Rattle.edit_batches.specs.declared.written.WrittenOffset.{WrittenOffset}
+use Rattle.edit_batches.specs.declared.written.WrittenReference.{WrittenReference}
+use Rattle.edit_batches.specs.declared.written.WrittenSubLayer.{WrittenSubLayer}
 
 -- a scale from 1 to a million, an offset within a thousand million of 0
 abbrev pub in_bounds : ℤ → ℤ → Bool

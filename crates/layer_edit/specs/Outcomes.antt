@@ -1,8 +1,8 @@
 -- What an edit makes, or why it is refused.
 use Rattle.std.specs.Prelude.{◌≡◌, Bool, List, [], ◌∷◌, Option, Some, None, Result, Ok, Err, if◌then◌else◌}
-use Rattle.layer_edit.specs.declared.fault.EditFault.{EditFault}
-use Rattle.layer_edit.specs.declared.fault.OpRefused.{OpRefused}
-use Rattle.layer_edit.specs.declared.fault.OpRefused.TheVariants.{Fault, NoMemory}
+use Rattle.edit_batches.specs.declared.fault.EditFault.{EditFault}
+use Rattle.edit_batches.specs.declared.fault.OpRefused.{OpRefused}
+use Rattle.edit_batches.specs.declared.fault.OpRefused.TheVariants.{Fault, NoMemory}
 
 -- what an edit makes, or the fault with which it is refused
 abbrev pub Made : Type 0 → Type 0

@@ -13,7 +13,7 @@ use Rattle.spec_parts.specs.declared.spec.Spec.{Spec}
 use Rattle.spec_properties.specs.Properties.{same_name, without_property}
 use Rattle.layer_edit.specs.Outcomes.{Made, passing}
 use Rattle.layer_edit.specs.Places.{last_element, above, is_prim_path, is_variant_path, has_spec, changed_spec, with_properties}
-use Rattle.layer_edit.specs.declared.fault.EditFault.TheVariants.{WrongPath, NoParent, NoSpec, SpecThere}
+use Rattle.edit_batches.specs.declared.fault.EditFault.TheVariants.{WrongPath, NoParent, NoSpec, SpecThere}
 
 -- ---- names in the owner
 

@@ -15,7 +15,7 @@ use Rattle.spec_tables.specs.Tables.{with_key, without_key}
 use Rattle.layer_edit.specs.Outcomes.{Made, passing, given}
 use Rattle.layer_edit.specs.Places.{last_element, above, is_property_path, property_in, has_spec, changed_spec, with_properties, changed_property}
 use Rattle.layer_edit.specs.Typing.{has_form, typed, time_at}
-use Rattle.layer_edit.specs.declared.fault.EditFault.TheVariants.{WrongPath, NoParent, NoSpec, SpecThere, NoSuchType, ValueShape, TimeRange}
+use Rattle.edit_batches.specs.declared.fault.EditFault.TheVariants.{WrongPath, NoParent, NoSpec, SpecThere, NoSuchType, ValueShape, TimeRange}
 
 -- ---- new properties
 

@@ -6,7 +6,7 @@ use usda_fields::{OrderWord, PathField, ReferenceField, TextField};
 use usda_lists::ListEdit;
 
 /// A change of a list of names.
-#[derive(Debug, Drop)]
+#[derive(Drop)]
 pub enum NameChange {
     /// One name more, at the end.
     Add { name: Text },
@@ -15,7 +15,7 @@ pub enum NameChange {
 }
 
 /// A change of the names of variants.
-#[derive(Debug, Drop)]
+#[derive(Drop)]
 pub enum VariantChange {
     /// One variant more, the last of its set.
     Add { set: Text, variant: Text },
@@ -24,7 +24,7 @@ pub enum VariantChange {
 }
 
 /// A change of a property, which keeps its name.
-#[derive(Debug, Drop)]
+#[derive(Drop)]
 pub enum PropertyChange {
     /// A list of the targets or the connections.
     Targets { edit: ListEdit, items: Items<Path> },
@@ -39,7 +39,7 @@ pub enum PropertyChange {
 }
 
 /// A change of the spec of a prim or a variant.
-#[derive(Debug, Drop)]
+#[derive(Drop)]
 pub enum SpecChange {
     /// A list of classes.
     Paths {

@@ -6,13 +6,11 @@ ghost use Rattle.layer_edit.specs.Places.{property_in};
 ghost use Rattle.layer_edit.specs.Fields.{is_relationship, is_attribute, takes_order, reordered, paths_set, references_set, texts_set, targets_set, connections_set, list_set, selection_set, order_set, sublayers_set};
 
 use crate::change::{PropertyChange, SpecChange};
-use crate::fault::{EditFault, OpRefused};
 use crate::kinds::{is_property_path, is_spec_path};
 use crate::offsets::{has_bad_item, has_bad_target, items_of, sublayers_of};
-use crate::op::FieldList;
 use crate::places::{above, change_at, change_property_at, has_spec, property_in};
-use crate::written::{WrittenReference, WrittenSubLayer};
 use asset_names::AssetId;
+use edit_batches::{EditFault, FieldList, OpRefused, WrittenReference, WrittenSubLayer};
 use plain_data::{Items, Text, copy};
 use sdf_paths::Path;
 use sdf_specs::{Head, Layer, Property, SubLayer};

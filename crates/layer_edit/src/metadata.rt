@@ -4,10 +4,10 @@ ghost use Rattle.layer_edit.specs.Outcomes.{Does};
 ghost use Rattle.layer_edit.specs.Metadata.{text_of, with_head_entry, with_meta, meta_set, meta_cleared};
 
 use crate::change::{PropertyChange, SpecChange};
-use crate::fault::{EditFault, OpRefused};
 use crate::places::{change_at, change_property_at, has_spec};
 use crate::property_changes::with_entry;
 use crate::typing::meta_value;
+use edit_batches::{EditFault, OpRefused};
 use plain_data::{Text, copy};
 use sdf_paths::{Element, Path};
 use sdf_specs::{Head, Layer};
@@ -18,8 +18,14 @@ fn text_of(value: Option<Value>) -> Option<Text>
     ensures { result ≡ text_of value }
 {
     match value {
-        Some(Value::Text(text)) => Some(text),
-        _ => None,
+        Some(value) => match value {
+            Value::Text(text) => Some(text),
+            other => {
+                drop(other);
+                None
+            }
+        },
+        None => None,
     }
 }
 

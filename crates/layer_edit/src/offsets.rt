@@ -6,8 +6,8 @@ ghost use Rattle.usda_lists.specs.Offsets.{whole_number};
 ghost use Rattle.layer_edit.specs.Offsets.{in_bounds, offset_of_wholes, offset_of, item_of, items_of, sublayer_of, sublayers_of, is_bad_target, is_bad_path, is_bad_asset, is_bad_item};
 
 use crate::kinds::is_stage_prim;
-use crate::written::{WrittenOffset, WrittenReference, WrittenSubLayer};
 use asset_names::{AssetFault, AssetId};
+use edit_batches::{WrittenOffset, WrittenReference, WrittenSubLayer};
 use plain_data::{Items, Text, copy};
 use sdf_paths::Path;
 use sdf_specs::{RefItem, SubLayer};

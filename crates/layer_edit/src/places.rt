@@ -105,14 +105,20 @@ pub fn change_at(
 ) -> Result<(), AllocError>
     ensures { OnOk result (layer.new ≡ changed_spec path.now (spec_changed change) layer.old) }
 {
-    match take_spec(alloc, layer, path)? {
-        Some(spec) => {
-            let spec = changed(alloc, spec, change)?;
-            put_spec(layer, path, spec)
-        }
-        None => {
+    match take_spec(alloc, layer, path) {
+        Ok(taken) => match taken {
+            Some(spec) => {
+                let spec = changed(alloc, spec, change)?;
+                put_spec(layer, path, spec)
+            }
+            None => {
+                drop(change);
+                Ok(())
+            }
+        },
+        Err(error) => {
             drop(change);
-            Ok(())
+            Err(error)
         }
     }
 }
@@ -127,17 +133,24 @@ pub fn change_property_at(
 ) -> Result<(), AllocError>
     ensures { OnOk result (layer.new ≡ changed_property path.now (property_changed change) layer.old) }
 {
-    let owner = above(alloc, path)?;
-    match path.elements().last() {
-        Some(Element::Property(name)) => {
-            let name = copy(name)?;
-            change_at(
-                alloc,
-                layer,
-                &owner,
-                SpecChange::ChangeProperty { name, change },
-            )
+    let owner = match above(alloc, path) {
+        Ok(owner) => owner,
+        Err(error) => {
+            drop(change);
+            return Err(error);
         }
+    };
+    match path.elements().last() {
+        Some(Element::Property(name)) => match copy(name) {
+            Ok(name) => {
+                let change = SpecChange::ChangeProperty { name, change };
+                change_at(alloc, layer, &owner, change)
+            }
+            Err(error) => {
+                drop(change);
+                Err(error)
+            }
+        },
         Some(Element::Prim(_)) => {
             drop(change);
             Ok(())

@@ -8,10 +8,10 @@ ghost use Rattle.layer_edit.specs.Prims.{renamed, with_variants, listed, unliste
 ghost use Rattle.layer_edit.specs.Changes.{names_changed, sets_changed};
 
 use crate::change::{NameChange, SpecChange, VariantChange};
-use crate::fault::{EditFault, OpRefused};
 use crate::kinds::{follows_rules, is_prim_path, is_variant_path};
 use crate::names::change_names;
 use crate::places::{above, change_at, has_parent, has_spec};
+use edit_batches::{EditFault, OpRefused};
 use plain_data::{Items, Text, copy};
 use sdf_paths::{Element, Path};
 use sdf_specs::{Head, Layer, PutRefused, Spec, Specifier};

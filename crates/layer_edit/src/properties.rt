@@ -6,10 +6,10 @@ ghost use Rattle.layer_edit.specs.Places.{is_property_path};
 ghost use Rattle.layer_edit.specs.Properties.{blank_attribute, blank_relationship, named_property, with_new_property, attribute_added, relationship_added, type_of, at_attribute, default_given, default_set, default_dropped, default_cleared, sample_given, sample_set, sample_dropped, sample_cleared};
 
 use crate::change::{PropertyChange, SpecChange};
-use crate::fault::{EditFault, OpRefused};
 use crate::kinds::is_property_path;
 use crate::places::{above, change_at, change_property_at, has_parent, has_spec, property_in};
 use crate::typing::{has_form, time_at, typed};
+use edit_batches::{EditFault, OpRefused};
 use list_ops::ListOp;
 use plain_data::{Text, copy};
 use sdf_paths::{Element, Path};

@@ -12,6 +12,7 @@ use sdf_paths::Path;
 use sdf_specs::{Meta, Property};
 use sdf_values::{TimeCode, Value};
 use std::alloc::{AllocError, Global};
+use std::mem;
 use usda_lists::ListEdit;
 
 /// An opinion with one list of it given. An explicit list clears the others, and another list clears the explicit one.
@@ -26,7 +27,7 @@ pub fn given_list<T: Drop>(
     let mut op = op;
     match edit {
         ListEdit::Explicit => {
-            op = ListOp::new(alloc);
+            drop(mem::replace(&mut op, ListOp::new(alloc)));
             op.explicit = Some(items);
         }
         ListEdit::Delete => {
@@ -123,21 +124,27 @@ fn with_default(property: Property, value: Option<Value>) -> Property
             ty,
             custom,
             uniform,
-            default: _,
+            default,
             samples,
             connections,
             meta,
-        } => Property::Attr {
-            name,
-            ty,
-            custom,
-            uniform,
-            default: value,
-            samples,
-            connections,
-            meta,
-        },
-        relationship => relationship,
+        } => {
+            drop(default);
+            Property::Attr {
+                name,
+                ty,
+                custom,
+                uniform,
+                default: value,
+                samples,
+                connections,
+                meta,
+            }
+        }
+        relationship => {
+            drop(value);
+            relationship
+        }
     }
 }
 

@@ -25,7 +25,7 @@ fn give_list<T: Drop>(alloc: Global, op: &mut ListOp<T>, edit: ListEdit, items: 
     ensures { op.new ≡ given_list edit items op.old }
 {
     let before = mem::replace(op, ListOp::new(alloc));
-    *op = given_list(alloc, before, edit, items);
+    drop(mem::replace(op, given_list(alloc, before, edit, items)));
 }
 
 fn give_paths(alloc: Global, spec: &mut Spec, field: PathField, edit: ListEdit, items: Items<Path>)
@@ -94,7 +94,8 @@ fn give_meta(
     ensures { OnOk result (spec.new ≡ with_spec_entry key value spec.old) }
 {
     let before = mem::replace(&mut spec.body.meta, Meta::new(alloc));
-    spec.body.meta = with_entry(before, key, value)?;
+    let meta = with_entry(before, key, value)?;
+    drop(mem::replace(&mut spec.body.meta, meta));
     Ok(())
 }
 
@@ -135,15 +136,21 @@ fn change_property(
 ) -> Result<(), AllocError>
     ensures { OnOk result (spec.new ≡ with_changed_in (property_at name.now spec.old.body.properties) change spec.old) }
 {
-    match spec.body.properties.take(name)? {
-        Some(property) => {
-            let property = changed_property(alloc, property, change)?;
-            drop(spec.body.properties.insert(property)?);
-            Ok(())
-        }
-        None => {
+    match spec.body.properties.take(name) {
+        Ok(taken) => match taken {
+            Some(property) => {
+                let property = changed_property(alloc, property, change)?;
+                drop(spec.body.properties.insert(property)?);
+                Ok(())
+            }
+            None => {
+                drop(change);
+                Ok(())
+            }
+        },
+        Err(error) => {
             drop(change);
-            Ok(())
+            Err(error)
         }
     }
 }
@@ -186,6 +193,11 @@ pub fn changed_spec(alloc: Global, spec: Spec, change: SpecChange) -> Result<Spe
     ensures { IfOk result (λ changed. changed ≡ spec_changed change spec) }
 {
     let mut spec = spec;
-    change_spec(alloc, &mut spec, change)?;
-    Ok(spec)
+    match change_spec(alloc, &mut spec, change) {
+        Ok(()) => Ok(spec),
+        Err(error) => {
+            drop(spec);
+            Err(error)
+        }
+    }
 }

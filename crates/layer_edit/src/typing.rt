@@ -27,7 +27,10 @@ fn fits(alloc: Global, ty: TypeName, value: &Value) -> Result<bool, AllocError>
     ensures { IfOk result (λ fits. fits ≡ is_but_for_time (take_shape ty value.now)) }
 {
     match take_shape(alloc, ty, copy(value)?) {
-        Ok(_) => Ok(true),
+        Ok(fitting) => {
+            drop(fitting);
+            Ok(true)
+        }
         Err(ValueFault::Refused { kind, at: _ }) => Ok(matches!(kind, RefusalKind::TimeRange)),
         Err(ValueFault::NoMemory) => Err(AllocError),
     }
@@ -181,11 +184,28 @@ fn as_ruled(alloc: Global, rule: KeyRule, value: &Value) -> Result<Option<Value>
 fn judged(alloc: Global, key: &Text, value: Value) -> Result<Option<Value>, AllocError>
     ensures { IfOk result (λ v. v ≡ result_ok (judged (key_rule key.now) value)) }
 {
+    let name = match copy(key) {
+        Ok(name) => name,
+        Err(error) => {
+            drop(value);
+            return Err(error);
+        }
+    };
     let mut meta = Meta::new(alloc);
-    match put_value(alloc, &mut meta, copy(key)?, value) {
-        Ok(()) => Ok(meta.remove(key)),
-        Err(ActFault::Refused(_)) => Ok(None),
-        Err(ActFault::NoMemory) => Err(AllocError),
+    match put_value(alloc, &mut meta, name, value) {
+        Ok(()) => {
+            let kept = meta.remove(key);
+            drop(meta);
+            Ok(kept)
+        }
+        Err(ActFault::Refused(_)) => {
+            drop(meta);
+            Ok(None)
+        }
+        Err(ActFault::NoMemory) => {
+            drop(meta);
+            Err(AllocError)
+        }
     }
 }
 

@@ -45,7 +45,10 @@ fn load_within<F: LayerFiles>(
         };
         match take_turn(alloc, files, &mut draft, &name) {
             Ok(()) => {}
-            Err(fault) => return Err(fault),
+            Err(fault) => {
+                drop(draft);
+                return Err(fault);
+            }
         }
     }
     finished_within(draft, most)

@@ -1,6 +1,7 @@
 // A world that is being opened.
-ghost use Rattle.std.specs.Prelude.{◌≡◌, ◌+◌, Ok, Err, length, slice_get, map, IfOk, OnOk};
+ghost use Rattle.std.specs.Prelude.{◌≡◌, ◌+◌, [], Ok, Err, length, slice_get, map, IfOk, OnOk};
 ghost use Rattle.io_edges.specs.Causes.{IsCounted};
+ghost use Rattle.layer_set.specs.Worlds.{with_held};
 ghost use Rattle.layer_set.specs.declared.held.Held.{Held as SaidHeld};
 ghost use Rattle.layer_load.specs.Opening.{Opening, Ending, is_session, is_needed, if_needed, refusal_of, with_assets, judged, first_names, begun, by_turn, loaded};
 ghost use Rattle.layer_load.specs.Answers.{GoesOn, TakesTurn};
@@ -86,6 +87,24 @@ fn note_held(
     }
 }
 
+// Adds the names of the root and the session layer.
+fn note_first(
+    names: &mut Names,
+    root: &AssetId,
+    session: &Option<AssetId>,
+) -> Result<(), AllocError>
+    requires none { names.old.listed ≡ [] }
+    requires met { AreMet names.old }
+    ensures listed { OnOk result (names.new.listed ≡ first_names root.now session.now) }
+    ensures met { OnOk result (AreMet names.new) }
+{
+    names.note(copy(root)?)?;
+    match session {
+        Some(session) => names.note(copy(session)?),
+        None => Ok(()),
+    }
+}
+
 // The names of the root and the session layer.
 fn first_names(
     alloc: Global,
@@ -96,11 +115,13 @@ fn first_names(
     ensures met { IfOk result AreMet }
 {
     let mut names = Names::new(alloc);
-    names.note(copy(root)?)?;
-    if let Some(session) = session {
-        names.note(copy(session)?)?;
+    match note_first(&mut names, root, session) {
+        Ok(()) => Ok(names),
+        Err(error) => {
+            drop(names);
+            Err(error)
+        }
     }
-    Ok(names)
 }
 
 /// The world of a root and a session layer, before any of them had its turn.
@@ -112,13 +133,37 @@ pub fn begin(
     ensures begun { IfOk result (λ draft. opening_of draft ≡ begun root session) }
     ensures met { IfOk result (λ draft. AreMet draft.names) }
 {
-    let names = first_names(alloc, &root, &session)?;
-    let world = World::new(alloc, root, session)?;
-    Ok(WorldDraft {
-        names,
-        world,
-        bytes: 0,
-    })
+    let names = match first_names(alloc, &root, &session) {
+        Ok(names) => names,
+        Err(error) => {
+            drop((root, session));
+            return Err(error);
+        }
+    };
+    match World::new(alloc, root, session) {
+        Ok(world) => Ok(WorldDraft {
+            names,
+            world,
+            bytes: 0,
+        }),
+        Err(error) => {
+            drop(names);
+            Err(error)
+        }
+    }
+}
+
+// Puts what stands at a name.
+fn put_held(world: &mut World, name: &AssetId, held: Held) -> Result<(), AllocError>
+    ensures { OnOk result (world.new ≡ with_held name.now held world.old) }
+{
+    match copy(name) {
+        Ok(name) => world.put(name, held),
+        Err(error) => {
+            drop(held);
+            Err(error)
+        }
+    }
 }
 
 // Adds what stands at a name, and the names of what it names, unless it has to be there and is not. The bytes are then this many.
@@ -136,15 +181,23 @@ fn add(
     ensures calm { result ≡ Err LoadFault.ReadFault → ⊥ }
 {
     if let Some(refusal) = refusal_at(&draft.world, name, &held) {
+        drop(held);
         return Err(LoadFault::RootRefused {
             name: copy(name)?,
             refusal,
         });
     }
-    note_held(alloc, &mut draft.names, name, &held)?;
-    draft.world.put(copy(name)?, held)?;
-    draft.bytes = total;
-    Ok(())
+    match note_held(alloc, &mut draft.names, name, &held) {
+        Ok(()) => {
+            put_held(&mut draft.world, name, held)?;
+            draft.bytes = total;
+            Ok(())
+        }
+        Err(_) => {
+            drop(held);
+            Err(LoadFault::NoMemory)
+        }
+    }
 }
 
 /// Loads the layer of a name that has its turn, and adds it.
@@ -184,10 +237,11 @@ pub fn finished(draft: WorldDraft) -> Loaded
     ensures { result ≡ loaded (opening_of draft) }
 {
     let WorldDraft {
-        names: _,
+        names,
         world,
         bytes,
     } = draft;
+    drop(names);
     Loaded { world, bytes }
 }
 
@@ -196,6 +250,7 @@ pub fn finished_within(draft: WorldDraft, most: usize) -> Result<Loaded, LoadFau
     ensures { result ≡ by_turn (λ _. Err LoadFault.WorldTooLarge) (opening_of draft) (slice_get draft.names.listed most) }
 {
     if draft.names.len() > most {
+        drop(draft);
         return Err(LoadFault::WorldTooLarge);
     }
     Ok(finished(draft))

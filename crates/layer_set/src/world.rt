@@ -16,7 +16,7 @@ use crate::rules::Rules;
 use crate::same::{arcs_of, body_of, same_heading, same_part, same_roots};
 use crate::shared::Shared;
 use asset_names::AssetId;
-use plain_data::{copy, same};
+use plain_data::{ExactClone, copy, same};
 use sdf_paths::Path;
 use sdf_specs::{Layer, Spec};
 use spec_tables::OrderedTable;
@@ -53,6 +53,27 @@ impl Model for World {
     ghost view = { λ w. record { root = w.root; session = w.session; layers = w.layers; rules = w.rules } };
 
     ghost invariant = { λ w. AreRules w.rules × (w.absent ≡ Absent) };
+}
+
+/// The layer that is held, if one is.
+fn layer_of(held: Held) -> Option<Layer>
+    ensures { result ≡ present_layer held }
+{
+    match held {
+        Held::Present(layer) => Some(layer),
+        Held::Absent => None,
+        Held::Broken(_) => None,
+    }
+}
+
+/// Copies of two parts. It knows no fields of theirs, so that to let one go is a call.
+fn copied<A: ExactClone + Drop, B: ExactClone + Drop>(
+    first: &A,
+    second: &B,
+) -> Result<(A, B), AllocError>
+    ensures { IfOk result (λ copies. copies ≡ (first.now, second.now)) }
+{
+    Ok((copy(first)?, copy(second)?))
 }
 
 impl World {
@@ -165,8 +186,8 @@ impl World {
             Held::Broken(_) => return Ok(None),
         }
         match named::take(&mut self.layers, id)? {
-            Some(Held::Present(layer)) => Ok(Some(layer)),
-            _ => unreachable!(),
+            Some(held) => Ok(layer_of(held)),
+            None => Ok(None),
         }
     }
 
@@ -185,14 +206,21 @@ impl World {
     pub fn copy(&self) -> Result<World, AllocError>
         ensures { IfOk result (λ w. w ≡ self.now) }
     {
-        Ok(World {
-            root: copy(&self.root)?,
-            session: copy(&self.session)?,
-            layers: copy(&self.layers)?,
-            rules: copy(&self.rules)?,
-            absent: Held::Absent,
-            alloc: self.alloc,
-        })
+        let (root, session) = copied(&self.root, &self.session)?;
+        match copied(&self.layers, &self.rules) {
+            Ok((layers, rules)) => Ok(World {
+                root,
+                session,
+                layers,
+                rules,
+                absent: Held::Absent,
+                alloc: self.alloc,
+            }),
+            Err(error) => {
+                drop((root, session));
+                Err(error)
+            }
+        }
     }
 
     /// Whether a key has the same value in both worlds. Nothing is copied.

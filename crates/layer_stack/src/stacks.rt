@@ -77,8 +77,13 @@ fn one_stack(
     ensures { IfOk result (λ draft. draft ≡ with_stack most (look_ups world.now) name.now nothing_listed) }
 {
     let mut walk = Walk::new(alloc);
-    walk.list_from(world, most, name)?;
-    Ok(walk.into_draft())
+    match walk.list_from(world, most, name) {
+        Ok(()) => Ok(walk.into_draft()),
+        Err(error) => {
+            drop(walk);
+            Err(error)
+        }
+    }
 }
 
 /// Two layers with what stands below them, one after the other.
@@ -92,9 +97,17 @@ fn two_stacks(
     ensures { IfOk result (λ draft. draft ≡ with_stack most (look_ups world.now) second.now (with_stack most (look_ups world.now) first.now nothing_listed)) }
 {
     let mut walk = Walk::new(alloc);
-    walk.list_from(world, most, first)?;
-    walk.list_from(world, most, second)?;
-    Ok(walk.into_draft())
+    let listed = match walk.list_from(world, most, first) {
+        Ok(()) => walk.list_from(world, most, second),
+        Err(error) => Err(error),
+    };
+    match listed {
+        Ok(()) => Ok(walk.into_draft()),
+        Err(error) => {
+            drop(walk);
+            Err(error)
+        }
+    }
 }
 
 /// The stack of a name: that of a layer, or the session layer's, if there is one, and then the root layer's.

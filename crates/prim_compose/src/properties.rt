@@ -4,6 +4,8 @@ ghost use Rattle.std.specs.List.{list_any};
 ghost use Rattle.composition.specs.Views.{is_custom, property_meta};
 ghost use Rattle.field_resolve.specs.Folding.{properties_on};
 ghost use Rattle.prim_opinions.specs.Counting.{counted};
+ghost use Rattle.target_resolve.specs.Resolving.{targets_by, faults_by as target_faults_by};
+ghost use Rattle.value_resolve.specs.Resolving.{default_by, samples_by, faults_by as time_faults_by};
 ghost use Rattle.prim_compose.specs.Composed.{property_views, faults_of_property, merged_metadata};
 ghost use Rattle.prim_compose.specs.Properties.{viewed_by, folded_of, views_on, faults_on};
 
@@ -18,7 +20,7 @@ use spec_properties::{Meta, Property, Samples};
 use spec_tables::OrderedTable;
 use std::alloc::{AllocError, Global};
 use target_resolve::resolve_targets_by;
-use value_resolve::resolve_attr_by;
+use value_resolve::{AttrValue, resolve_attr_by};
 
 /// Properties on the stage, and the faults of what is said of them.
 #[derive(Drop)]
@@ -81,28 +83,94 @@ fn has_custom(specs: &[PropertyAt<'_, '_, '_>]) -> bool
     false
 }
 
+/// The property of this name on the stage, of which this is the strongest spec.
+fn view_named(name: Text, strongest: &Property, folded: Folded) -> PropertyView
+    ensures { result ≡ viewed_by name strongest.now folded }
+{
+    let Folded {
+        custom,
+        default,
+        samples,
+        targets,
+        meta,
+    } = folded;
+    match strongest {
+        Property::Attr { ty, uniform, .. } => PropertyView::Attr {
+            name,
+            ty: *ty,
+            custom,
+            uniform: *uniform,
+            default,
+            samples,
+            connections: targets,
+            meta,
+        },
+        Property::Rel { .. } => {
+            drop((default, samples));
+            PropertyView::Rel {
+                name,
+                custom,
+                targets,
+                meta,
+            }
+        }
+    }
+}
+
 /// The property on the stage, of which this is the strongest spec.
 fn viewed_by(name: &Text, strongest: &Property, folded: Folded) -> Result<PropertyView, AllocError>
     ensures { IfOk result (λ view. view ≡ viewed_by name.now strongest.now folded) }
 {
-    match strongest {
-        Property::Attr { ty, uniform, .. } => Ok(PropertyView::Attr {
-            name: copy(name)?,
-            ty: *ty,
-            custom: folded.custom,
-            uniform: *uniform,
-            default: folded.default,
-            samples: folded.samples,
-            connections: folded.targets,
-            meta: folded.meta,
-        }),
-        Property::Rel { .. } => Ok(PropertyView::Rel {
-            name: copy(name)?,
-            custom: folded.custom,
-            targets: folded.targets,
-            meta: folded.meta,
-        }),
+    match copy(name) {
+        Ok(name) => Ok(view_named(name, strongest, folded)),
+        Err(error) => {
+            drop(folded);
+            Err(error)
+        }
     }
+}
+
+/// The default and the samples that specs decide; appends the faults of what they say.
+fn fold_values(
+    alloc: Global,
+    faults: &mut Items<PrimFault>,
+    name: &Text,
+    specs: &[PropertyAt<'_, '_, '_>],
+) -> Result<(Option<Value>, Samples), AllocError>
+    ensures values { IfOk result (λ both. both ≡ (default_by specs.now, samples_by specs.now)) }
+    ensures faults { OnOk result (faults.new ≡ faults.old ++ time_faults_by name.now specs.now) }
+{
+    let AttrValue {
+        default,
+        samples,
+        faults: told,
+    } = resolve_attr_by(alloc, name, specs)?;
+    match push_all(faults, told.as_slice()) {
+        Ok(()) => {
+            drop(told);
+            Ok((default, samples))
+        }
+        Err(error) => {
+            drop((default, samples, told));
+            Err(error)
+        }
+    }
+}
+
+/// The targets or connections and the metadata that specs make; appends the faults of what they say.
+fn fold_lists(
+    alloc: Global,
+    faults: &mut Items<PrimFault>,
+    name: &Text,
+    specs: &[PropertyAt<'_, '_, '_>],
+) -> Result<(Option<Items<Path>>, Meta), AllocError>
+    ensures lists { IfOk result (λ both. both ≡ (targets_by specs.now, merged_metadata specs.now)) }
+    ensures faults { OnOk result (faults.new ≡ faults.old ++ target_faults_by name.now specs.now) }
+{
+    let list = resolve_targets_by(alloc, name, specs)?;
+    push_all(faults, list.faults.as_slice())?;
+    let meta = merged_meta(alloc, specs)?;
+    Ok((list.targets, meta))
 }
 
 /// What specs make together; appends the faults of what they say.
@@ -115,17 +183,23 @@ fn fold_specs(
     ensures folded { IfOk result (λ folded. folded ≡ folded_of specs.now) }
     ensures faults { OnOk result (faults.new ≡ faults.old ++ faults_of_property name.now specs.now) }
 {
-    let value = resolve_attr_by(alloc, name, specs)?;
-    let list = resolve_targets_by(alloc, name, specs)?;
-    push_all(faults, value.faults.as_slice())?;
-    push_all(faults, list.faults.as_slice())?;
-    Ok(Folded {
-        custom: has_custom(specs),
-        default: value.default,
-        samples: value.samples,
-        targets: list.targets,
-        meta: merged_meta(alloc, specs)?,
-    })
+    let values = fold_values(alloc, faults, name, specs)?;
+    match fold_lists(alloc, faults, name, specs) {
+        Ok((targets, meta)) => {
+            let (default, samples) = values;
+            Ok(Folded {
+                custom: has_custom(specs),
+                default,
+                samples,
+                targets,
+                meta,
+            })
+        }
+        Err(error) => {
+            drop(values);
+            Err(error)
+        }
+    }
 }
 
 /// Appends a property of this name, if there is a spec of it.
@@ -144,7 +218,10 @@ fn push_view(
             views.push(view)?;
             Ok(())
         }
-        None => Ok(()),
+        None => {
+            drop(folded);
+            Ok(())
+        }
     }
 }
 

@@ -65,7 +65,7 @@ fn with_default(alloc: Global, meta: &Meta, name: &Text) -> Result<Meta, AllocEr
     ensures { IfOk result (λ all. all ≡ with_default name.now meta.now) }
 {
     let mut all = copy(meta)?;
-    all.insert(default_key(alloc)?, Value::Text(copy(name)?))?;
+    drop(all.insert(default_key(alloc)?, Value::Text(copy(name)?))?);
     Ok(all)
 }
 

@@ -1,14 +1,18 @@
-ghost use Rattle.std.specs.Prelude.{◌≡◌, ◌++◌, true, IfOk};
+ghost use Rattle.std.specs.Prelude.{◌≡◌, ◌++◌, true, map, IfOk};
 ghost use Rattle.std.specs.List.{list_all};
+ghost use Rattle.composition.specs.Faults.{child_too_long};
+ghost use Rattle.composition.specs.Fields.{listed_children, unlisted_children};
 ghost use Rattle.composition.specs.Paths.{limits};
 ghost use Rattle.composition.specs.Views.{empty_view};
+ghost use Rattle.field_resolve.specs.Folding.{meta_on};
 ghost use Rattle.layer_set.specs.LookUps.{look_ups};
 ghost use Rattle.layer_set.specs.Rules.{IsStagePrim};
-ghost use Rattle.prim_index.specs.Answer.{index_at, faults_in};
+ghost use Rattle.prim_index.specs.Answer.{index_at, sites_in, choices_in, faults_in};
 ghost use Rattle.sdf_paths.specs.Paths.{is_prim_name};
 ghost use Rattle.prim_index.specs.Once.{faults_once};
 ghost use Rattle.prim_compose.specs.Listing.{entry_at};
-ghost use Rattle.prim_compose.specs.Viewed.{index_in, seen, seen_by};
+ghost use Rattle.prim_compose.specs.Properties.{views_on, faults_on};
+ghost use Rattle.prim_compose.specs.Viewed.{active_names, index_in, seen, seen_by};
 
 use crate::children::{active_names, children_below};
 use crate::faults::faults_after;
@@ -23,6 +27,7 @@ use prim_opinions::{SaidAt, opinions_on};
 use prim_view::{Choices, PrimFault, PrimView, PropertyView, Site};
 use sdf_paths::Path;
 use sdf_specs::Specifier;
+use spec_properties::Meta;
 use spec_tables::OrderedTable;
 use std::alloc::{AllocError, Global};
 
@@ -85,6 +90,73 @@ fn joined(
     }
 }
 
+/// The names of a prim's children, and its faults: those of its index, of its properties, given here, and of its children.
+fn listed(
+    alloc: Global,
+    place: &Path,
+    index: &PrimIndex,
+    said: &[SaidAt<'_, '_>],
+    meta: &Meta,
+    properties: &[PrimFault],
+) -> Result<(Items<Text>, Items<PrimFault>), AllocError>
+    requires place { list_all is_prim_name place.now ≡ true }
+    requires meta { meta.now ≡ meta_on said.now }
+    ensures { IfOk result (λ both. both ≡ (listed_children limits place.now (active_names said.now), faults_once ((faults_in index.now ++ properties.now) ++ map child_too_long (unlisted_children limits place.now (active_names said.now))))) }
+{
+    let names = active_names(alloc, meta, said)?;
+    let children = children_below(alloc, place, names.as_slice())?;
+    match all_faults(alloc, index, properties, children.faults.as_slice()) {
+        Ok(faults) => Ok((children.names, faults)),
+        Err(error) => {
+            drop(children);
+            Err(error)
+        }
+    }
+}
+
+/// The properties of a prim with the names of its children, and its faults.
+fn content_of(
+    alloc: Global,
+    place: &Path,
+    index: &PrimIndex,
+    said: &[SaidAt<'_, '_>],
+    meta: &Meta,
+) -> Result<((Items<PropertyView>, Items<Text>), Items<PrimFault>), AllocError>
+    requires place { list_all is_prim_name place.now ≡ true }
+    requires meta { meta.now ≡ meta_on said.now }
+    ensures { IfOk result (λ all. all ≡ ((views_on said.now, listed_children limits place.now (active_names said.now)), faults_once ((faults_in index.now ++ faults_on said.now) ++ map child_too_long (unlisted_children limits place.now (active_names said.now))))) }
+{
+    let properties = properties_of(alloc, said)?;
+    match listed(
+        alloc,
+        place,
+        index,
+        said,
+        meta,
+        properties.faults.as_slice(),
+    ) {
+        Ok((children, faults)) => Ok(((properties.views, children), faults)),
+        Err(error) => {
+            drop(properties);
+            Err(error)
+        }
+    }
+}
+
+/// The choices and the sites of an index.
+fn chosen(alloc: Global, index: &PrimIndex) -> Result<(Choices, Items<Site>), AllocError>
+    ensures { IfOk result (λ both. both ≡ (choices_in index.now, sites_in index.now)) }
+{
+    let choices = copy(index.choices())?;
+    match copied(alloc, index.sites()) {
+        Ok(sites) => Ok((choices, sites)),
+        Err(error) => {
+            drop(choices);
+            Err(error)
+        }
+    }
+}
+
 /// The view of a prim of the stage, by its index and the opinions on it.
 fn view_from(
     alloc: Global,
@@ -96,25 +168,22 @@ fn view_from(
     ensures { IfOk result (λ view. view ≡ seen place.now (index_in index.now) said.now) }
 {
     let fields = fields_of(alloc, said)?;
-    let properties = properties_of(alloc, said)?;
-    let names = active_names(alloc, &fields.meta, said)?;
-    let children = children_below(alloc, place, names.as_slice())?;
-    let faults = all_faults(
-        alloc,
-        index,
-        properties.faults.as_slice(),
-        children.faults.as_slice(),
-    )?;
-    let choices = copy(index.choices())?;
-    let sites = copied(alloc, index.sites())?;
-    Ok(joined(
-        fields,
-        properties.views,
-        children.names,
-        choices,
-        sites,
-        faults,
-    ))
+    match content_of(alloc, place, index, said, &fields.meta) {
+        Ok((content, faults)) => match chosen(alloc, index) {
+            Ok((choices, sites)) => {
+                let (properties, children) = content;
+                Ok(joined(fields, properties, children, choices, sites, faults))
+            }
+            Err(error) => {
+                drop((fields, content, faults));
+                Err(error)
+            }
+        },
+        Err(error) => {
+            drop(fields);
+            Err(error)
+        }
+    }
 }
 
 /// The view of a prim of the stage, by its index.

@@ -1,7 +1,7 @@
 // The tree of a node, the frames of a prim, and the rounds of choices, which rest on each other.
 ghost use Rattle.std.specs.Prelude.{◌≡◌, ◌==◌, ◌-◌, [], IfOk, length};
 ghost use Rattle.composition.specs.Paths.{limits};
-ghost use Rattle.composition.specs.Trees.{node as node_of_tree, none, cut, size_among};
+ghost use Rattle.composition.specs.Trees.{node as node_of_tree, none, cut, size_among, own_branches, lifted_branches};
 ghost use Rattle.composition.specs.Nodes.{bare, nothing_said};
 ghost use Rattle.prim_index.specs.Children.{arc_child_with};
 ghost use Rattle.layer_set.specs.LookUps.{look_ups};
@@ -67,31 +67,45 @@ pub fn tree_at(
 ) -> Result<Tree, AllocError>
     ensures { IfOk result (λ tree. meant tree ≡ tree_below limits (said limits (look_ups world.now)) depth steps room node) }
 {
-    let here = here_at(alloc, world, &node)?;
+    let here = match here_at(alloc, world, &node) {
+        Ok(here) => here,
+        Err(error) => {
+            drop(node);
+            return Err(error);
+        }
+    };
     if steps == 0 {
         return Ok(cut_tree(alloc, node, here));
     }
-    let arcs = own_branches(alloc, &node, &here)?;
-    let own = children_at(
-        alloc,
-        world,
-        depth,
-        steps - 1,
-        room.saturating_sub(1),
-        &node,
-        arcs.as_slice(),
-    )?;
-    let arcs = lifted_branches(alloc, &node, own.children.as_slice())?;
-    let lifted = children_at(
-        alloc,
-        world,
-        depth,
-        steps - 1,
-        own.room,
-        &node,
-        arcs.as_slice(),
-    )?;
-    Ok(joined_tree(node, here, own, lifted))
+    let room = room.saturating_sub(1);
+    match grown_at(alloc, world, depth, steps - 1, room, &node, &here) {
+        Ok(grown) => Ok(joined_tree(node, here, grown.0, grown.1)),
+        Err(error) => {
+            drop((node, here));
+            Err(error)
+        }
+    }
+}
+
+/// What stands below a node: under its own arcs, and under the classes that these hand up.
+#[cycle(grow)]
+fn grown_at(
+    alloc: Global,
+    world: &World,
+    depth: usize,
+    steps: usize,
+    room: usize,
+    node: &Node,
+    here: &Here,
+) -> Result<(Grown, Grown), AllocError>
+    ensures own { IfOk result (λ both. trees_of both.0.children both.0.is_cut ≡ grown_below limits (said limits (look_ups world.now)) depth steps node.now room (own_branches node.now here.now)) }
+    ensures lifted { IfOk result (λ both. trees_of both.1.children both.1.is_cut ≡ grown_below limits (said limits (look_ups world.now)) depth steps node.now (room - size_among (trees_of both.0.children both.0.is_cut)) (lifted_branches limits node.now (trees_of both.0.children both.0.is_cut))) }
+{
+    let arcs = own_branches(alloc, node, here)?;
+    let own = children_at(alloc, world, depth, steps, room, node, arcs.as_slice())?;
+    let arcs = lifted_branches(alloc, node, own.children.as_slice())?;
+    let lifted = children_at(alloc, world, depth, steps, own.room, node, arcs.as_slice())?;
+    Ok((own, lifted))
 }
 
 /// A node for whose children there was no room.
@@ -223,7 +237,16 @@ fn child_at(
     }
     let target = above_target(alloc, depth - 1, node, branch)?;
     let count = path_length(&target);
-    let above = frames_at(alloc, world, depth - 1, Payloads::All, &target, count)?;
+    let above = match frames_at(alloc, world, depth - 1, Payloads::All, &target, count) {
+        Ok(above) => {
+            drop(target);
+            above
+        }
+        Err(error) => {
+            drop(target);
+            return Err(error);
+        }
+    };
     let child = arc_child(node, branch, &above)?;
     tree_at(alloc, world, depth - 1, MAX_NODES, room, child)
 }
@@ -305,7 +328,16 @@ pub fn frames_at(
     let on = is_loaded(world, payloads, &path)?;
     let first = first_frame(alloc, on);
     let there = node_at(node, path)?;
-    let frame = rounds_at(alloc, world, depth, MAX_ROUNDS, &there, &above, first)?;
+    let frame = match rounds_at(alloc, world, depth, MAX_ROUNDS, &there, &above, first) {
+        Ok(frame) => {
+            drop(there);
+            frame
+        }
+        Err(error) => {
+            drop((there, above));
+            return Err(error);
+        }
+    };
     with_first(frame, &above)
 }
 
@@ -348,7 +380,9 @@ fn round_at(
 {
     let there = node_in_round(node, above, &frame)?;
     let tree = tree_at(alloc, world, depth, MAX_NODES, MAX_NODES, there)?;
-    next_frame(alloc, frame, &tree)
+    let next = next_frame(alloc, frame, &tree);
+    drop(tree);
+    next
 }
 
 /// A frame with what a round decides in its tree.

@@ -47,7 +47,9 @@ fn sublayers(
     match outcome {
         Outcome::Leads(lead) => {
             let there = stack(alloc, world, &lead.stack)?;
-            sublayer_faults(alloc, there.faults.as_slice())
+            let faults = sublayer_faults(alloc, there.faults.as_slice());
+            drop(there);
+            faults
         }
         Outcome::GivesNoArc(_) => Ok(Items::new(alloc)),
     }

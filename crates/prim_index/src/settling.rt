@@ -103,12 +103,20 @@ fn settled_at(
     }
     let count = choice_count(&frame);
     let tree = round_tree(alloc, world, node, above, &frame)?;
-    let next = next_frame(alloc, frame, &tree)?;
+    let next = match next_frame(alloc, frame, &tree) {
+        Ok(next) => next,
+        Err(error) => {
+            drop(tree);
+            return Err(error);
+        }
+    };
     let settled = is_settled(&next, count);
     if !settled {
+        drop(tree);
         return settled_at(alloc, world, rounds - 1, node, above, next);
     }
     if next.overgrown {
+        drop(tree);
         return Ok(Settled {
             frame: next,
             tree: None,
@@ -132,12 +140,17 @@ fn tree_with(
     ensures { IfOk result (λ tree. meant tree ≡ tree_below limits (said limits (look_ups world.now)) 64 4096 4096 (framed node settled.frame above.now)) }
 {
     let Settled { frame, tree } = settled;
-    if let Some(tree) = tree {
-        return Ok(tree);
+    match tree {
+        Some(tree) => {
+            drop((node, frame));
+            Ok(tree)
+        }
+        None => {
+            let node = with_frames(node, frame, above)?;
+            let tree = tree_at(alloc, world, MAX_DEPTH, MAX_NODES, MAX_NODES, node)?;
+            Ok(tree)
+        }
     }
-    let node = with_frames(node, frame, above)?;
-    let tree = tree_at(alloc, world, MAX_DEPTH, MAX_NODES, MAX_NODES, node)?;
-    Ok(tree)
 }
 
 /// The tree of a prim of the stage.
@@ -150,10 +163,28 @@ pub fn stage_tree(alloc: Global, world: &World, place: &Path) -> Result<Tree, Al
         let tree = tree_at(alloc, world, MAX_DEPTH, MAX_NODES, MAX_NODES, begun)?;
         return Ok(tree);
     }
-    let above = frames_at(alloc, world, MAX_DEPTH, Payloads::Ruled, &begun, count - 1)?;
-    let on = is_loaded(world, Payloads::Ruled, place)?;
+    let above = match frames_at(alloc, world, MAX_DEPTH, Payloads::Ruled, &begun, count - 1) {
+        Ok(above) => above,
+        Err(error) => {
+            drop(begun);
+            return Err(error);
+        }
+    };
+    let on = match is_loaded(world, Payloads::Ruled, place) {
+        Ok(on) => on,
+        Err(error) => {
+            drop((begun, above));
+            return Err(error);
+        }
+    };
     let first = first_frame(alloc, on);
-    let settled = settled_at(alloc, world, MAX_ROUNDS, &begun, &above, first)?;
+    let settled = match settled_at(alloc, world, MAX_ROUNDS, &begun, &above, first) {
+        Ok(settled) => settled,
+        Err(error) => {
+            drop((begun, above));
+            return Err(error);
+        }
+    };
     let tree = tree_with(alloc, world, begun, &above, settled)?;
     Ok(tree)
 }

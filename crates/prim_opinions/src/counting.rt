@@ -33,10 +33,15 @@ fn same_words(a: &str, b: &str) -> bool
 fn same_sort(a: &Property, b: &Property) -> bool
     ensures { result ≡ same_sort a.now b.now }
 {
-    match (a, b) {
-        (Property::Attr { ty: a, .. }, Property::Attr { ty: b, .. }) => same_type(*a, *b),
-        (Property::Rel { .. }, Property::Rel { .. }) => true,
-        _ => false,
+    match a {
+        Property::Attr { ty: a, .. } => match b {
+            Property::Attr { ty: b, .. } => same_type(*a, *b),
+            Property::Rel { .. } => false,
+        },
+        Property::Rel { .. } => match b {
+            Property::Attr { .. } => false,
+            Property::Rel { .. } => true,
+        },
     }
 }
 

@@ -1,5 +1,5 @@
 // The stacks of some sites, each built once.
-ghost use Rattle.std.specs.Prelude.{◌≡◌, true, OnOk, is_some};
+ghost use Rattle.std.specs.Prelude.{◌≡◌, true, IfOk, OnOk, is_some};
 ghost use Rattle.std.specs.BTreeMap.{get};
 ghost use Rattle.layer_set.specs.LookUps.{look_ups};
 ghost use Rattle.layer_stack.specs.Meant.{defined_stack};
@@ -7,7 +7,7 @@ ghost use Rattle.prim_opinions.specs.Stacks.{name_cmp, AreStacks, layers_or_none
 
 use asset_names::AssetId;
 use layer_set::World;
-use layer_stack::stack;
+use layer_stack::{LayerStack, stack};
 use plain_data::{Items, copy};
 use prim_view::StackName;
 use sdf_values::LayerOffset;
@@ -16,6 +16,24 @@ use std::collections::BTreeMap;
 
 /// Layers with their offsets, by the name of their stack.
 pub type Stacks = BTreeMap<StackName, Items<(AssetId, LayerOffset)>>;
+
+/// The layers of a stack.
+fn layers_named(
+    alloc: Global,
+    world: &World,
+    name: &StackName,
+) -> Result<Items<(AssetId, LayerOffset)>, AllocError>
+    ensures { IfOk result (λ layers. layers ≡ (defined_stack (look_ups world.now) name.now).layers) }
+{
+    let LayerStack {
+        name,
+        layers,
+        faults,
+        asked,
+    } = stack(alloc, world, name)?;
+    drop((name, faults, asked));
+    Ok(layers)
+}
 
 /// Notes the layers of a stack, unless they are noted.
 pub fn note_stack(
@@ -31,8 +49,9 @@ pub fn note_stack(
     if stacks.contains_key(name) {
         return Ok(());
     }
-    let stack = stack(alloc, world, name)?;
-    stacks.insert(copy(name)?, stack.layers)?;
+    let key = copy(name)?;
+    let layers = layers_named(alloc, world, name)?;
+    drop(stacks.insert(key, layers)?);
     Ok(())
 }
 

@@ -289,13 +289,27 @@ impl ExactEq for PrimFault {
 fn same_fault(a: &PrimFault, b: &PrimFault) -> bool
     ensures { IsTrue result ↔ (a.now ≡ b.now) }
 {
-    match (a, b) {
-        (PrimFault::Sublayer(a), PrimFault::Sublayer(b)) => same(a, b),
-        (PrimFault::Arc(a), PrimFault::Arc(b)) => same(a, b),
-        (PrimFault::TimeOutside(a), PrimFault::TimeOutside(b)) => same(a, b),
-        (PrimFault::TargetOutside(a), PrimFault::TargetOutside(b)) => same(a, b),
-        (PrimFault::ChildTooLong(a), PrimFault::ChildTooLong(b)) => same(a, b),
-        (PrimFault::Overgrown, PrimFault::Overgrown) => true,
-        _ => false,
+    match a {
+        PrimFault::Sublayer(a) => match b {
+            PrimFault::Sublayer(b) => same(a, b),
+            _ => false,
+        },
+        PrimFault::Arc(a) => match b {
+            PrimFault::Arc(b) => same(a, b),
+            _ => false,
+        },
+        PrimFault::TimeOutside(a) => match b {
+            PrimFault::TimeOutside(b) => same(a, b),
+            _ => false,
+        },
+        PrimFault::TargetOutside(a) => match b {
+            PrimFault::TargetOutside(b) => same(a, b),
+            _ => false,
+        },
+        PrimFault::ChildTooLong(a) => match b {
+            PrimFault::ChildTooLong(b) => same(a, b),
+            _ => false,
+        },
+        PrimFault::Overgrown => matches!(b, PrimFault::Overgrown),
     }
 }

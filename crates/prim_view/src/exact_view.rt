@@ -413,11 +413,14 @@ fn same_view(a: &PrimView, b: &PrimView) -> bool
 fn same_choices(a: &[(Text, Text)], b: &[(Text, Text)]) -> bool
     ensures { IsTrue result ↔ (a.now ≡ b.now) }
 {
-    match (a.split_first(), b.split_first()) {
-        (None, None) => true,
-        (Some((x, xs)), Some((y, ys))) => {
-            same(&x.0, &y.0) && same(&x.1, &y.1) && same_choices(xs, ys)
-        }
-        _ => false,
+    match a.split_first() {
+        None => match b.split_first() {
+            None => true,
+            Some(_) => false,
+        },
+        Some((x, xs)) => match b.split_first() {
+            None => false,
+            Some((y, ys)) => same(&x.0, &y.0) && same(&x.1, &y.1) && same_choices(xs, ys),
+        },
     }
 }

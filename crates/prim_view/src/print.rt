@@ -1,5 +1,7 @@
 //! The texts of faults.
 ghost use Rattle.std.specs.Prelude.{◌≡◌, ◌++◌, false, IfOk, OnOk, codes, string_bytes};
+ghost use Rattle.std.specs.Fmt.{decimal, signed_decimal};
+ghost use Rattle.sdf_paths.specs.Paths.{printed};
 ghost use Rattle.prim_view.specs.Printing.{path_text, is_zero, is_one, is_identity, unless_identity, offset_text, item_name, item_text, field_name, reason_name, refusal_name, refusal_text, refusal_of, arc_front, arc_back, arc_text, sublayer_reason_name, sublayer_text, place_text, property_text, property_place, target_word, time_word, child_word, time_text, target_front, target_text, child_text, fault_text};
 ghost use Rattle.sdf_values.specs.Print.{asset_text};
 
@@ -84,12 +86,19 @@ fn push_name(out: &mut String, name: &AssetId) -> Result<(), AllocError>
     push_asset(out, name.text())
 }
 
+/// Appends a path as it is printed.
+fn push_printed(out: &mut String, path: &Path) -> Result<(), AllocError>
+    ensures { OnOk result (string_bytes out.new ≡ string_bytes out.old ++ printed path.now) }
+{
+    let text = path.print()?;
+    out.push_str(text.as_str())
+}
+
 fn push_path(out: &mut String, path: &Path) -> Result<(), AllocError>
     ensures { OnOk result (string_bytes out.new ≡ string_bytes out.old ++ path_text path.now) }
 {
-    let text = path.print()?;
     out.push_str("<")?;
-    out.push_str(text.as_str())?;
+    push_printed(out, path)?;
     out.push_str(">")
 }
 
@@ -111,16 +120,29 @@ fn is_identity(offset: FaultOffset) -> bool
     is_zero(offset.offset) && is_one(offset.scale)
 }
 
+/// Appends a whole number.
+fn push_whole(out: &mut String, n: i64) -> Result<(), AllocError>
+    ensures { OnOk result (string_bytes out.new ≡ string_bytes out.old ++ signed_decimal n) }
+{
+    let text = n.to_string(*out.allocator())?;
+    out.push_str(text.as_str())
+}
+
+/// Appends the number of a line or a column.
+fn push_count(out: &mut String, n: u64) -> Result<(), AllocError>
+    ensures { OnOk result (string_bytes out.new ≡ string_bytes out.old ++ decimal n) }
+{
+    let text = n.to_string(*out.allocator())?;
+    out.push_str(text.as_str())
+}
+
 fn push_shift(out: &mut String, offset: FaultOffset) -> Result<(), AllocError>
     ensures { OnOk result (string_bytes out.new ≡ string_bytes out.old ++ unless_identity false offset) }
 {
-    let alloc = *out.allocator();
-    let start = offset.offset.to_string(alloc)?;
-    let scale = offset.scale.to_string(alloc)?;
     out.push_str(" (offset = ")?;
-    out.push_str(start.as_str())?;
+    push_whole(out, offset.offset)?;
     out.push_str("; scale = ")?;
-    out.push_str(scale.as_str())?;
+    push_whole(out, offset.scale)?;
     out.push_str(")")
 }
 
@@ -141,19 +163,25 @@ fn push_item_name(
 ) -> Result<(), AllocError>
     ensures { OnOk result (string_bytes out.new ≡ string_bytes out.old ++ item_name source.now path.now) }
 {
-    match (source, path) {
-        (ItemSource::Own, None) => out.push_str("<>"),
-        (ItemSource::Own, Some(path)) => push_path(out, path),
-        (ItemSource::Named(name), None) => push_name(out, name),
-        (ItemSource::Named(name), Some(path)) => {
-            push_name(out, name)?;
-            push_path(out, path)
-        }
-        (ItemSource::Unanchored(asset), None) => push_asset(out, asset.as_str()),
-        (ItemSource::Unanchored(asset), Some(path)) => {
-            push_asset(out, asset.as_str())?;
-            push_path(out, path)
-        }
+    match source {
+        ItemSource::Own => match path {
+            None => out.push_str("<>"),
+            Some(path) => push_path(out, path),
+        },
+        ItemSource::Named(name) => match path {
+            None => push_name(out, name),
+            Some(path) => {
+                push_name(out, name)?;
+                push_path(out, path)
+            }
+        },
+        ItemSource::Unanchored(asset) => match path {
+            None => push_asset(out, asset.as_str()),
+            Some(path) => {
+                push_asset(out, asset.as_str())?;
+                push_path(out, path)
+            }
+        },
     }
 }
 
@@ -167,15 +195,12 @@ fn push_item(out: &mut String, item: &FaultItem) -> Result<(), AllocError>
 fn push_refusal(out: &mut String, refusal: Refusal) -> Result<(), AllocError>
     ensures { OnOk result (string_bytes out.new ≡ string_bytes out.old ++ refusal_text refusal) }
 {
-    let alloc = *out.allocator();
-    let line = refusal.line.to_string(alloc)?;
-    let column = refusal.column.to_string(alloc)?;
     out.push_str(" ")?;
     out.push_str(refusal_name(refusal.kind))?;
     out.push_str(" ")?;
-    out.push_str(line.as_str())?;
+    push_count(out, refusal.line)?;
     out.push_str(":")?;
-    out.push_str(column.as_str())
+    push_count(out, refusal.column)
 }
 
 fn push_refusal_of(out: &mut String, reason: ArcReason) -> Result<(), AllocError>
@@ -197,9 +222,8 @@ fn push_place(out: &mut String, layer: &AssetId, path: &Path) -> Result<(), Allo
 fn push_property(out: &mut String, site: &Path, name: &Text) -> Result<(), AllocError>
     ensures { OnOk result (string_bytes out.new ≡ string_bytes out.old ++ property_text site.now name.now) }
 {
-    let text = site.print()?;
     out.push_str("<")?;
-    out.push_str(text.as_str())?;
+    push_printed(out, site)?;
     out.push_str(".")?;
     out.push_str(name.as_str())?;
     out.push_str(">")

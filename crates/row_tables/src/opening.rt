@@ -70,7 +70,7 @@ fn session_of(alloc: Global, word: &str) -> Result<Option<AssetId>, CallFault> {
 }
 
 // Opens the world of files, whose session layer has the name that a word is. Where it is refused, why is appended.
-fn opened(
+fn opened_files(
     alloc: Global,
     out: &mut String,
     files: &mut AskedFiles,
@@ -94,7 +94,7 @@ pub(crate) fn open_once(
     trial: &mut Trial,
 ) -> Result<(), CallFault> {
     if trial.opened.is_none() {
-        let opened = opened(alloc, out, &mut trial.files, trial.session.as_str())?;
+        let opened = opened_files(alloc, out, &mut trial.files, trial.session.as_str())?;
         drop(mem::replace(&mut trial.opened, opened));
     }
     Ok(())

@@ -181,7 +181,7 @@ struct Authored {
 }
 
 // What the layers author of the stack and at the path that words tell.
-fn authored(alloc: Global, world: &World, words: &str) -> Result<Authored, CallFault> {
+fn authored_by_words(alloc: Global, world: &World, words: &str) -> Result<Authored, CallFault> {
     let (name, path) = place_of(alloc, words)?;
     let stack = stack_of(alloc, world, &name)?;
     let has_spec = has_spec_at(alloc, world, &stack, &path)?;
@@ -223,7 +223,7 @@ pub(crate) fn push_sets_call(
     world: &World,
     words: &str,
 ) -> Result<(), CallFault> {
-    let found = authored(alloc, world, words)?;
+    let found = authored_by_words(alloc, world, words)?;
     let told = push_authored(out, &found);
     drop(found);
     told

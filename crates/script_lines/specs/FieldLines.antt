@@ -1,9 +1,9 @@
 -- Lines of lists and sublayers.
 use Rattle.std.specs.Prelude.{ℕ, if◌then◌else◌, List, [], codes, Option, Some, None}
-use Rattle.layer_edit.specs.declared.op.Op.TheVariants as op
-use Rattle.layer_edit.specs.declared.op.FieldList.{FieldList}
-use Rattle.layer_edit.specs.declared.op.FieldList.TheVariants as list
-use Rattle.layer_edit.specs.declared.written.WrittenSubLayer.{WrittenSubLayer}
+use Rattle.edit_batches.specs.declared.op.Op.TheVariants as op
+use Rattle.edit_batches.specs.declared.op.FieldList.{FieldList}
+use Rattle.edit_batches.specs.declared.op.FieldList.TheVariants as list
+use Rattle.edit_batches.specs.declared.written.WrittenSubLayer.{WrittenSubLayer}
 use Rattle.list_ops.specs.ListEdits.{firsts}
 use Rattle.sdf_paths.specs.declared.element.Element.{Element}
 use Rattle.usda_fields.specs.Fields.{path_field, reference_field, text_field}

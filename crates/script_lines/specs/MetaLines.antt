@@ -1,7 +1,7 @@
 -- Lines of metadata, selections, orders and load rules.
 use Rattle.std.specs.Prelude.{ℕ, Bool, ◌==◌, ◌||◌, if◌then◌else◌, List, [], codes, Option, Some, None}
 use Rattle.std.specs.Cmp.Lexicographic.{pointwise}
-use Rattle.layer_edit.specs.declared.op.Op.TheVariants as op
+use Rattle.edit_batches.specs.declared.op.Op.TheVariants as op
 use Rattle.usd_names.specs.Names.{is_identifier}
 use Rattle.usda_fields.specs.declared.owner.OrderWord.{OrderWord}
 use Rattle.usda_fields.specs.declared.owner.OrderWord.TheVariants.{NameChildren, PropertyNames}

@@ -1,6 +1,6 @@
 -- A layer and a path, with which most operations begin, and the end of a line.
 use Rattle.std.specs.Prelude.{ℕ, List, Option, Some}
-use Rattle.layer_edit.specs.declared.op.Op.{Op}
+use Rattle.edit_batches.specs.declared.op.Op.{Op}
 use Rattle.sdf_paths.specs.Paths.{owner, plain}
 use Rattle.sdf_paths.specs.declared.element.Element.{Element}
 use Rattle.script_words.specs.Answers.{◌>>=◌}

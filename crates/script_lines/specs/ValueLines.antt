@@ -1,6 +1,6 @@
 -- Lines that give and take values of attributes.
 use Rattle.std.specs.Prelude.{ℕ, List, Option, Some}
-use Rattle.layer_edit.specs.declared.op.Op.TheVariants as op
+use Rattle.edit_batches.specs.declared.op.Op.TheVariants as op
 use Rattle.script_words.specs.Answers.{◌>>=◌}
 use Rattle.script_words.specs.Values.{value_in}
 use Rattle.script_words.specs.Words.{number_at}

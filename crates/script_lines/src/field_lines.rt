@@ -7,7 +7,9 @@ ghost use Rattle.script_lines.specs.FieldLines.{paths_list, references_list, tex
 use crate::line::Line;
 use crate::meta_lines::{is_path_field, is_reference_field, is_text_field};
 use crate::places::{prim_base, target_at};
-use layer_edit::{FieldList, ListEdit, Op, PathField, ReferenceField, TextField, WrittenSubLayer};
+use edit_batches::{
+    FieldList, ListEdit, Op, PathField, ReferenceField, TextField, WrittenSubLayer,
+};
 use plain_data::Items;
 use script_words::{
     LineFault, ListItems, ListPlace, behind_word, first_paths, first_references, first_texts,
@@ -122,10 +124,10 @@ pub fn list_line(alloc: Global, bytes: &[u8]) -> Result<Line, LineFault>
     ensures { Finds result (list_line bytes.now) }
 {
     let (layer, path, rest) = target_at(alloc, bytes)?;
-    let (field, rest) = name_at(rest)?;
-    let (edit, rest) = edit_at(rest)?;
-    let base = prim_base(&path)?;
-    let list = field_list(alloc, field, &base, rest)?;
+    let (field, rest) = read_or_drop!(name_at(rest), (layer, path));
+    let (edit, rest) = read_or_drop!(edit_at(rest), (layer, path));
+    let base = read_or_drop!(prim_base(&path), (layer, path), LineFault::NoMemory);
+    let list = read_or_drop!(field_list(alloc, field, &base, rest), (layer, path, base));
     Ok(Line::Change(Op::SetList {
         layer,
         path,
@@ -150,7 +152,7 @@ pub fn sublayers_line(alloc: Global, bytes: &[u8]) -> Result<Line, LineFault>
     ensures { Finds result (sublayers_line bytes.now) }
 {
     let (layer, rest) = layer_at(alloc, bytes)?;
-    let rest = behind_word("=", rest).ok_or(LineFault::Bad)?;
-    let sublayers = sublayers_in(alloc, rest)?;
+    let rest = read_or_drop!(behind_word("=", rest).ok_or(LineFault::Bad), layer);
+    let sublayers = read_or_drop!(sublayers_in(alloc, rest), layer);
     Ok(Line::Change(Op::SetSublayers { layer, sublayers }))
 }

@@ -1,5 +1,5 @@
 use asset_names::AssetId;
-use layer_edit::Op;
+use edit_batches::Op;
 use stage_questions::Question;
 
 /// A line of a script, read for itself.

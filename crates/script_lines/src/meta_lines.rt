@@ -5,7 +5,7 @@ ghost use Rattle.script_lines.specs.MetaLines.{is_path_field, is_reference_field
 
 use crate::line::Line;
 use crate::places::{changed, prim_base, target_at};
-use layer_edit::{Op, OrderWord};
+use edit_batches::{Op, OrderWord};
 use plain_data::{Items, Text};
 use script_words::{
     LineFault, ListItems, ListPlace, behind_word, list_in, name_at, path_at, text_at, value_in,
@@ -67,11 +67,15 @@ pub fn meta_line(alloc: Global, bytes: &[u8]) -> Result<Line, LineFault>
     ensures { Finds result (meta_line bytes.now) }
 {
     let (layer, path, rest) = target_at(alloc, bytes)?;
-    let (key, rest) = key_at(rest)?;
-    let rest = behind_word("=", rest).ok_or(LineFault::Bad)?;
-    let base = prim_base(&path)?;
-    let value = value_in(alloc, &base, rest)?;
-    let key = Text::of(alloc, key)?;
+    let (key, rest) = read_or_drop!(key_at(rest), (layer, path));
+    let rest = read_or_drop!(behind_word("=", rest).ok_or(LineFault::Bad), (layer, path));
+    let base = read_or_drop!(prim_base(&path), (layer, path), LineFault::NoMemory);
+    let value = read_or_drop!(value_in(alloc, &base, rest), (layer, path, base));
+    let key = read_or_drop!(
+        Text::of(alloc, key),
+        (layer, path, base, value),
+        LineFault::NoMemory
+    );
     Ok(Line::Change(Op::SetMeta {
         layer,
         path,
@@ -86,8 +90,8 @@ pub fn unmeta_line(alloc: Global, bytes: &[u8]) -> Result<Line, LineFault>
     ensures { Finds result (unmeta_line bytes.now) }
 {
     let (layer, path, rest) = target_at(alloc, bytes)?;
-    let (key, rest) = name_at(rest)?;
-    let key = Text::of(alloc, key)?;
+    let (key, rest) = read_or_drop!(name_at(rest), (layer, path));
+    let key = read_or_drop!(Text::of(alloc, key), (layer, path), LineFault::NoMemory);
     changed(Op::ClearMeta { layer, path, key }, rest)
 }
 
@@ -110,10 +114,14 @@ pub fn select_line(alloc: Global, bytes: &[u8]) -> Result<Line, LineFault>
     ensures { Finds result (select_line bytes.now) }
 {
     let (layer, path, rest) = target_at(alloc, bytes)?;
-    let (set, rest) = set_at(rest)?;
-    let rest = behind_word("=", rest).ok_or(LineFault::Bad)?;
-    let (variant, rest) = text_at(alloc, rest)?;
-    let set = Text::of(alloc, set)?;
+    let (set, rest) = read_or_drop!(set_at(rest), (layer, path));
+    let rest = read_or_drop!(behind_word("=", rest).ok_or(LineFault::Bad), (layer, path));
+    let (variant, rest) = read_or_drop!(text_at(alloc, rest), (layer, path));
+    let set = read_or_drop!(
+        Text::of(alloc, set),
+        (layer, path, variant),
+        LineFault::NoMemory
+    );
     changed(
         Op::Select {
             layer,
@@ -131,8 +139,8 @@ pub fn unselect_line(alloc: Global, bytes: &[u8]) -> Result<Line, LineFault>
     ensures { Finds result (unselect_line bytes.now) }
 {
     let (layer, path, rest) = target_at(alloc, bytes)?;
-    let (set, rest) = set_at(rest)?;
-    let set = Text::of(alloc, set)?;
+    let (set, rest) = read_or_drop!(set_at(rest), (layer, path));
+    let set = read_or_drop!(Text::of(alloc, set), (layer, path), LineFault::NoMemory);
     changed(Op::Unselect { layer, path, set }, rest)
 }
 
@@ -163,10 +171,10 @@ pub fn order_line(alloc: Global, bytes: &[u8]) -> Result<Line, LineFault>
     ensures { Finds result (order_line bytes.now) }
 {
     let (layer, path, rest) = target_at(alloc, bytes)?;
-    let (word, rest) = name_at(rest)?;
-    let word = order_of(word).ok_or(LineFault::Bad)?;
-    let rest = behind_word("=", rest).ok_or(LineFault::Bad)?;
-    let names = names_in(alloc, rest)?;
+    let (word, rest) = read_or_drop!(name_at(rest), (layer, path));
+    let word = read_or_drop!(order_of(word).ok_or(LineFault::Bad), (layer, path));
+    let rest = read_or_drop!(behind_word("=", rest).ok_or(LineFault::Bad), (layer, path));
+    let names = read_or_drop!(names_in(alloc, rest), (layer, path));
     Ok(Line::Change(Op::SetOrder {
         layer,
         path,

@@ -5,7 +5,7 @@ ghost use Rattle.script_lines.specs.Places.{target_at, prim_base, changed};
 
 use crate::line::Line;
 use asset_names::AssetId;
-use layer_edit::Op;
+use edit_batches::Op;
 use script_words::{LineFault, ended, layer_at, path_at};
 use sdf_paths::Path;
 use std::alloc::{AllocError, Global};

@@ -49,11 +49,8 @@ pub fn value_line(alloc: Global, bytes: &[u8]) -> Result<Line, LineFault>
     ensures { Finds result (value_line bytes.now) }
 {
     let (path, rest) = property_at(alloc, bytes)?;
-    let (number, rest) = match number_at(rest) {
-        Ok(read) => read,
-        Err(fault) => return Err(fault),
-    };
-    let time = time_in(number).ok_or(LineFault::Bad)?;
+    let (number, rest) = read_or_drop!(number_at(rest), path);
+    let time = read_or_drop!(time_in(number).ok_or(LineFault::Bad), path);
     asked(Question::Value { path, time }, rest)
 }
 

@@ -6,7 +6,7 @@ ghost use Rattle.script_lines.specs.SpecLines.{new_layer_of, new_layer_line, spe
 use crate::line::Line;
 use crate::places::{changed, target_at};
 use asset_names::AssetId;
-use layer_edit::Op;
+use edit_batches::Op;
 use plain_data::Text;
 use script_words::{LineFault, behind_word, flag_at, is_end, layer_at, name_at, text_at};
 use sdf_values::{ELEMENTS, ElementType, TypeName};
@@ -73,7 +73,7 @@ pub fn spec_line(alloc: Global, bytes: &[u8]) -> Result<Line, LineFault>
     let (word, rest) = name_at(bytes)?;
     let specifier = specifier_of(word).ok_or(LineFault::Bad)?;
     let (layer, path, rest) = target_at(alloc, rest)?;
-    let (type_name, rest) = prim_type_at(alloc, rest)?;
+    let (type_name, rest) = read_or_drop!(prim_type_at(alloc, rest), (layer, path));
     changed(
         Op::AddPrim {
             layer,
@@ -134,7 +134,7 @@ pub fn attribute_line(alloc: Global, bytes: &[u8]) -> Result<Line, LineFault>
     ensures { Finds result (attribute_line bytes.now) }
 {
     let (layer, path, rest) = target_at(alloc, bytes)?;
-    let (ty, rest) = type_at(rest)?;
+    let (ty, rest) = read_or_drop!(type_at(rest), (layer, path));
     let (custom, rest) = flag_at("custom", rest);
     let (uniform, rest) = flag_at("uniform", rest);
     changed(

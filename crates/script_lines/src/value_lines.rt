@@ -5,7 +5,7 @@ ghost use Rattle.script_lines.specs.ValueLines.{set_line, clear_line, sample_lin
 
 use crate::line::Line;
 use crate::places::{changed, prim_base, target_at};
-use layer_edit::Op;
+use edit_batches::Op;
 use script_words::{LineFault, number_at, value_in};
 use std::alloc::Global;
 
@@ -15,8 +15,8 @@ pub fn set_line(alloc: Global, bytes: &[u8]) -> Result<Line, LineFault>
     ensures { Finds result (set_line bytes.now) }
 {
     let (layer, path, rest) = target_at(alloc, bytes)?;
-    let base = prim_base(&path)?;
-    let value = value_in(alloc, &base, rest)?;
+    let base = read_or_drop!(prim_base(&path), (layer, path), LineFault::NoMemory);
+    let value = read_or_drop!(value_in(alloc, &base, rest), (layer, path, base));
     Ok(Line::Change(Op::SetDefault { layer, path, value }))
 }
 
@@ -35,12 +35,9 @@ pub fn sample_line(alloc: Global, bytes: &[u8]) -> Result<Line, LineFault>
     ensures { Finds result (sample_line bytes.now) }
 {
     let (layer, path, rest) = target_at(alloc, bytes)?;
-    let (time, rest) = match number_at(rest) {
-        Ok(read) => read,
-        Err(fault) => return Err(fault),
-    };
-    let base = prim_base(&path)?;
-    let value = value_in(alloc, &base, rest)?;
+    let (time, rest) = read_or_drop!(number_at(rest), (layer, path));
+    let base = read_or_drop!(prim_base(&path), (layer, path), LineFault::NoMemory);
+    let value = read_or_drop!(value_in(alloc, &base, rest), (layer, path, base));
     Ok(Line::Change(Op::SetSample {
         layer,
         path,
@@ -55,9 +52,6 @@ pub fn unsample_line(alloc: Global, bytes: &[u8]) -> Result<Line, LineFault>
     ensures { Finds result (unsample_line bytes.now) }
 {
     let (layer, path, rest) = target_at(alloc, bytes)?;
-    let (time, rest) = match number_at(rest) {
-        Ok(read) => read,
-        Err(fault) => return Err(fault),
-    };
+    let (time, rest) = read_or_drop!(number_at(rest), (layer, path));
     changed(Op::ClearSample { layer, path, time }, rest)
 }

@@ -1,9 +1,9 @@
 -- Lists that go to the end of a line: what each token adds, and which items are kept.
 use Rattle.std.specs.Prelude.{ℕ, pos, Bool, false, if◌then◌else◌, List, [], ◌∷◌, ◌++◌, Option, Some, None}
 use Rattle.plain_data.specs.Ends.{last, front}
-use Rattle.layer_edit.specs.declared.written.WrittenOffset.{WrittenOffset}
-use Rattle.layer_edit.specs.declared.written.WrittenReference.{WrittenReference}
-use Rattle.layer_edit.specs.declared.written.WrittenSubLayer.{WrittenSubLayer}
+use Rattle.edit_batches.specs.declared.written.WrittenOffset.{WrittenOffset}
+use Rattle.edit_batches.specs.declared.written.WrittenReference.{WrittenReference}
+use Rattle.edit_batches.specs.declared.written.WrittenSubLayer.{WrittenSubLayer}
 use Rattle.sdf_paths.specs.declared.element.Element.{Element}
 use Rattle.sdf_values.specs.Numbers.{zero_number}
 use Rattle.sdf_values.specs.declared.decimal.Num.{Num}

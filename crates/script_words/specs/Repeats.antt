@@ -16,8 +16,8 @@ use Rattle.sdf_values.specs.contracts.decimal.NumPartialEq.TheImpl.{ghosts as nu
 use Rattle.sdf_values.specs.contracts.decimal.NumOrd.TheImpl.{ghosts as num_order}
 use Rattle.sdf_values.specs.declared.decimal.Num.{Num}
 use Rattle.sdf_values.specs.declared.decimal.Num.TheVariants.{Finite, Inf, NegInf, Nan}
-use Rattle.layer_edit.specs.declared.written.WrittenOffset.{WrittenOffset}
-use Rattle.layer_edit.specs.declared.written.WrittenReference.{WrittenReference}
+use Rattle.edit_batches.specs.declared.written.WrittenOffset.{WrittenOffset}
+use Rattle.edit_batches.specs.declared.written.WrittenReference.{WrittenReference}
 use Rattle.usda_lists.specs.References.{same_text, same_path}
 use Rattle.usda_lists.specs.Repeats.{path_is}
 use Rattle.script_words.specs.contracts.repeats.OrderedReferencePartialEq.TheImpl.{ghosts as reference_eq}

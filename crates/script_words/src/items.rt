@@ -6,7 +6,7 @@ ghost use Rattle.usda_lists.specs.References.{path_or_none};
 
 use crate::fault::LineFault;
 use crate::place::{ItemForm, ListPlace};
-use layer_edit::{WrittenOffset, WrittenReference, WrittenSubLayer};
+use edit_batches::{WrittenOffset, WrittenReference, WrittenSubLayer};
 use plain_data::{Items, Text};
 use sdf_paths::Path;
 use sdf_values::{Decimal, Num};

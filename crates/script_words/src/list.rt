@@ -9,7 +9,7 @@ use crate::fault::LineFault;
 use crate::items::{ListItems, with_token};
 use crate::place::{ListPlace, is_in_brackets, may_end, place_behind};
 use crate::words::tokens_of;
-use layer_edit::{WrittenReference, WrittenSubLayer};
+use edit_batches::{WrittenReference, WrittenSubLayer};
 use plain_data::{Items, Text};
 use sdf_paths::Path;
 use std::alloc::Global;
@@ -42,13 +42,20 @@ fn draft_behind(
         bracketed,
         items,
     } = draft;
-    let next = place_behind(items.form(), bracketed, place, kind, text).ok_or(LineFault::Bad)?;
-    let items = with_token(alloc, base, place, kind, text, items)?;
-    Ok(ListDraft {
-        place: next,
-        bracketed: is_in_brackets(bracketed, next),
-        items,
-    })
+    match place_behind(items.form(), bracketed, place, kind, text) {
+        Some(next) => {
+            let items = with_token(alloc, base, place, kind, text, items)?;
+            Ok(ListDraft {
+                place: next,
+                bracketed: is_in_brackets(bracketed, next),
+                items,
+            })
+        }
+        None => {
+            drop(items);
+            Err(LineFault::Bad)
+        }
+    }
 }
 
 // The items, where the list may end.
@@ -58,6 +65,7 @@ fn whole_list(draft: ListDraft) -> Result<ListItems, LineFault>
     if may_end(draft.bracketed, draft.place) {
         Ok(draft.items)
     } else {
+        drop(draft);
         Err(LineFault::Bad)
     }
 }
@@ -78,7 +86,10 @@ fn list_from(
                 draft = draft_behind(alloc, base, token.kind, token.text, draft)?;
             }
             Ok(None) => return whole_list(draft),
-            Err(_) => return Err(LineFault::Bad),
+            Err(_) => {
+                drop(draft);
+                return Err(LineFault::Bad);
+            }
         }
     }
 }
@@ -95,13 +106,21 @@ pub fn list_in(
 ) -> Result<ListItems, LineFault>
     ensures { Finds result (list_in base.now place items bytes.now) }
 {
-    let mut tokens = tokens_of(bytes).ok_or(LineFault::Bad)?;
-    let draft = ListDraft {
-        place,
-        bracketed: false,
-        items,
-    };
-    list_from(alloc, base, draft, &mut tokens)
+    match tokens_of(bytes) {
+        Some(tokens) => {
+            let mut tokens = tokens;
+            let draft = ListDraft {
+                place,
+                bracketed: false,
+                items,
+            };
+            list_from(alloc, base, draft, &mut tokens)
+        }
+        None => {
+            drop(items);
+            Err(LineFault::Bad)
+        }
+    }
 }
 
 impl ListItems {
@@ -111,7 +130,10 @@ impl ListItems {
     {
         match self {
             ListItems::Texts(items) => Ok(items),
-            _ => Err(LineFault::Bad),
+            other => {
+                drop(other);
+                Err(LineFault::Bad)
+            }
         }
     }
 
@@ -121,7 +143,10 @@ impl ListItems {
     {
         match self {
             ListItems::Paths(items) => Ok(items),
-            _ => Err(LineFault::Bad),
+            other => {
+                drop(other);
+                Err(LineFault::Bad)
+            }
         }
     }
 
@@ -131,7 +156,10 @@ impl ListItems {
     {
         match self {
             ListItems::Targets(items) => Ok(items),
-            _ => Err(LineFault::Bad),
+            other => {
+                drop(other);
+                Err(LineFault::Bad)
+            }
         }
     }
 
@@ -141,7 +169,10 @@ impl ListItems {
     {
         match self {
             ListItems::References(items) => Ok(items),
-            _ => Err(LineFault::Bad),
+            other => {
+                drop(other);
+                Err(LineFault::Bad)
+            }
         }
     }
 
@@ -151,7 +182,10 @@ impl ListItems {
     {
         match self {
             ListItems::SubLayers(items) => Ok(items),
-            _ => Err(LineFault::Bad),
+            other => {
+                drop(other);
+                Err(LineFault::Bad)
+            }
         }
     }
 }

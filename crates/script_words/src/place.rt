@@ -48,13 +48,24 @@ pub enum ListPlace {
 fn behind_first(form: ItemForm, kind: TokenKind) -> Option<ListPlace>
     ensures { result ≡ behind_first form kind }
 {
-    match (form, kind) {
-        (ItemForm::Texts, TokenKind::String) => Some(ListPlace::Behind),
-        (ItemForm::Paths, TokenKind::Path) => Some(ListPlace::Behind),
-        (ItemForm::References, TokenKind::Asset) => Some(ListPlace::Asset),
-        (ItemForm::References, TokenKind::Path) => Some(ListPlace::Named),
-        (ItemForm::SubLayers, TokenKind::Asset) => Some(ListPlace::Named),
-        _ => None,
+    match form {
+        ItemForm::Texts => match kind {
+            TokenKind::String => Some(ListPlace::Behind),
+            _ => None,
+        },
+        ItemForm::Paths => match kind {
+            TokenKind::Path => Some(ListPlace::Behind),
+            _ => None,
+        },
+        ItemForm::References => match kind {
+            TokenKind::Asset => Some(ListPlace::Asset),
+            TokenKind::Path => Some(ListPlace::Named),
+            _ => None,
+        },
+        ItemForm::SubLayers => match kind {
+            TokenKind::Asset => Some(ListPlace::Named),
+            _ => None,
+        },
     }
 }
 

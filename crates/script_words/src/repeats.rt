@@ -4,7 +4,7 @@ ghost use Rattle.list_ops.specs.ListEdits.{firsts};
 ghost use Rattle.usda_lists.specs.References.{same_text, same_path};
 ghost use Rattle.script_words.specs.Repeats.{same_reference};
 
-use layer_edit::{WrittenOffset, WrittenReference};
+use edit_batches::{WrittenOffset, WrittenReference};
 use list_ops::ListOp;
 use plain_data::{ExactClone, ExactEq, ExactOrd, Items, Text};
 use sdf_paths::Path;
@@ -22,8 +22,16 @@ fn firsts<T: ExactEq + ExactOrd + ExactClone + Drop>(
     let mut kept = Vec::new(alloc);
     let mut op = ListOp::new(alloc);
     op.explicit = Some(items);
-    op.apply_ordered(&mut kept)?;
-    Ok(Items::from_vec(kept))
+    match op.apply_ordered(&mut kept) {
+        Ok(()) => {
+            drop(op);
+            Ok(Items::from_vec(kept))
+        }
+        Err(error) => {
+            drop((op, kept));
+            Err(error)
+        }
+    }
 }
 
 /// The first of each text.
@@ -50,7 +58,7 @@ struct OrderedReference {
 }
 
 impl Model for OrderedReference {
-    ghost use Rattle.layer_edit.specs.declared.written.WrittenReference.{WrittenReference};
+    ghost use Rattle.edit_batches.specs.declared.written.WrittenReference.{WrittenReference};
 
     ghost Value = { WrittenReference };
 

@@ -63,5 +63,7 @@ pub fn value_in(alloc: Global, base: &Path, bytes: &[u8]) -> Result<Value, LineF
 {
     let mut tokens = tokens_of(bytes).ok_or(LineFault::Bad)?;
     let mut value = OpenValue::new(alloc, Shape::Untyped, false);
-    value_from(alloc, base, &mut value, &mut tokens)
+    let found = value_from(alloc, base, &mut value, &mut tokens);
+    drop(value);
+    found
 }

@@ -82,7 +82,7 @@ impl Layer {
     pub fn set_head(&mut self, head: Head)
         ensures { self.new ≡ record self.old { head = head } }
     {
-        self.head = head;
+        drop(mem::replace(&mut self.head, head));
     }
 
     /// Changes the head alone, and answers the one before, so that it can be changed without a copy. Takes no memory.
@@ -179,11 +179,18 @@ impl Clone for Layer {
     ghost is_clone = { λ x y. y ≡ x };
 
     fn clone(&self) -> Result<Layer, AllocError> {
-        Ok(Layer {
-            head: copy(&self.head)?,
-            specs: copy(&self.specs)?,
-            alloc: self.alloc,
-        })
+        let specs = copy(&self.specs)?;
+        match copy(&self.head) {
+            Ok(head) => Ok(Layer {
+                head,
+                specs,
+                alloc: self.alloc,
+            }),
+            Err(error) => {
+                drop(specs);
+                Err(error)
+            }
+        }
     }
 }
 

@@ -3,7 +3,7 @@ use Rattle.std.proofs.Common.{◌≡◌, ℕ, ◌+◌, ◌<◌, ◌≤◌, true,
 use Rattle.std.specs.Prelude.{nat_lt}
 use Rattle.std.proofs.lemmas.Bool.{lt-ltb, le-ltb}
 use Rattle.std.proofs.lemmas.List.{length-take}
-use Rattle.layer_edit.specs.declared.op.Op.{Op}
+use Rattle.edit_batches.specs.declared.op.Op.{Op}
 use Rattle.session_script.specs.declared.steps.Step.{Step}
 use Rattle.session_script.specs.declared.faults.ScriptKind.{ScriptKind}
 use Rattle.session_script.specs.declared.faults.ScriptKind.TheVariants.{BadLine, TooLong}

@@ -1,6 +1,6 @@
 -- Moves of the code as those of the definitions.
 use Rattle.std.specs.Prelude.{◌≡◌, List, Option, None}
-use Rattle.layer_edit.specs.declared.op.Op.{Op}
+use Rattle.edit_batches.specs.declared.op.Op.{Op}
 use Rattle.session_script.specs.declared.moves.Moved.{Moved}
 use Rattle.session_script.specs.declared.moves.Moved.TheVariants.{GoesOn, Asks, Refuses}
 use Rattle.session_script.specs.Reading.{Move, goes_on, asks, refuses}

@@ -1,6 +1,6 @@
 -- A script as the steps that it asks for, up to its end or to the first line that is refused.
 use Rattle.std.specs.Prelude.{ℕ, ◌+◌, nat_lt, true, false, List, [], ◌∷◌, ◌++◌, length, Option, Some, None}
-use Rattle.layer_edit.specs.declared.op.Op.{Op}
+use Rattle.edit_batches.specs.declared.op.Op.{Op}
 use Rattle.script_lines.specs.Lines.{line_of}
 use Rattle.script_lines.specs.declared.line.Line.{Line}
 use Rattle.script_lines.specs.declared.line.Line.TheVariants.{Blank, Begin, Change, Commit, Open, Publish, Ask}

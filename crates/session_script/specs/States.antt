@@ -4,7 +4,7 @@ use Rattle.std.specs.Io.KnownBytes.{Consumes}
 use Rattle.session_script.specs.declared.front.Front.{Front}
 use Rattle.session_script.specs.declared.front.Front.TheVariants.{Line, TooLong, End}
 use Rattle.std.specs.List.{concat, list_any}
-use Rattle.layer_edit.specs.declared.op.Op.{Op}
+use Rattle.edit_batches.specs.declared.op.Op.{Op}
 use Rattle.session_script.specs.declared.steps.Step.{Step}
 use Rattle.session_script.specs.declared.faults.ScriptKind.{ScriptKind}
 use Rattle.session_script.specs.declared.faults.ScriptKind.TheVariants.{BadLine, Unfinished}

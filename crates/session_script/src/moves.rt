@@ -6,7 +6,7 @@ ghost use Rattle.session_script.specs.Moves.{IsMoved};
 ghost use Rattle.script_lines.specs.declared.line.Line.TheVariants as Line;
 
 use crate::steps::Step;
-use layer_edit::{Batch, Op};
+use edit_batches::{Batch, Op};
 use plain_data::Items;
 use script_lines::Line;
 use std::alloc::{AllocError, Global};
@@ -66,7 +66,10 @@ fn change(batch: &mut Option<Items<Op>>, op: Op) -> Result<Moved, AllocError>
             ops.push(op)?;
             Ok(Moved::GoesOn)
         }
-        None => Ok(Moved::Refuses),
+        None => {
+            drop(op);
+            Ok(Moved::Refuses)
+        }
     }
 }
 
@@ -75,6 +78,7 @@ fn ask(batch: &Option<Items<Op>>, step: Step) -> Moved
     ensures { IsMoved result batch.now batch.now (asked batch.now step) }
 {
     if batch.is_some() {
+        drop(step);
         Moved::Refuses
     } else {
         Moved::Asks(step)

@@ -8,8 +8,8 @@ use crate::faults::{ScriptFault, ScriptKind};
 use crate::front::{Front, read_front};
 use crate::moves::{Moved, take_line};
 use crate::steps::Step;
+use edit_batches::Op;
 use io_edges::Source;
-use layer_edit::Op;
 use plain_data::Items;
 use script_lines::read_line;
 use std::alloc::Global;
@@ -32,7 +32,7 @@ pub struct Script {
 impl Model for Script {
     ghost use Rattle.std.specs.Prelude.{drop};
     ghost use Rattle.std.specs.Coded.{codes};
-    ghost use Rattle.layer_edit.specs.contracts.op.Op as of_op;
+    ghost use Rattle.edit_batches.specs.contracts.op.Op as of_op;
     ghost use Rattle.session_script.specs.States.{State, IsKept};
 
     ghost Value = { State };

@@ -1,7 +1,7 @@
 //! What a script asks for.
 
 use asset_names::AssetId;
-use layer_edit::Batch;
+use edit_batches::Batch;
 use stage_questions::Question;
 
 /// What a script asks for next.

@@ -4,7 +4,7 @@ ghost use Rattle.spec_tables.specs.Tables.{IsTable, with_key, with_value};
 ghost use Rattle.shared_tables.specs.Trees.{entries, link_entries};
 
 use crate::entry::Entry;
-use crate::node::{Link, Node, balanced, joined, shared};
+use crate::node::{Link, Node, joined, shared, with_after, with_before};
 use std::alloc::{AllocError, Global};
 use std::cmp::Ordering;
 use std::sync::Arc;
@@ -24,9 +24,7 @@ pub(crate) fn with_entry<K: Ord + Drop, V: Drop>(
             match entry.key().cmp(node.entry.key()) {
                 Ordering::Less => {
                     let before = with_entry(alloc, &node.before, entry)?;
-                    let middle = node.entry.shared()?;
-                    let after = shared(&node.after)?;
-                    balanced(alloc, Some(before), middle, after)
+                    with_before(alloc, Some(before), node)
                 }
                 Ordering::Equal => {
                     let before = shared(&node.before)?;
@@ -35,10 +33,8 @@ pub(crate) fn with_entry<K: Ord + Drop, V: Drop>(
                     joined(alloc, before, middle, after)
                 }
                 Ordering::Greater => {
-                    let before = shared(&node.before)?;
-                    let middle = node.entry.shared()?;
                     let after = with_entry(alloc, &node.after, entry)?;
-                    balanced(alloc, before, middle, Some(after))
+                    with_after(alloc, node, Some(after))
                 }
             }
         }

@@ -1,6 +1,7 @@
 //! Nodes of a search tree that several trees share, and how they are joined so that a tree stays low.
 ghost use Rattle.std.specs.Prelude.{◌≡◌, ◌++◌, ◌∷◌, IfOk};
 ghost use Rattle.shared_tables.specs.Trees.{entries, link_entries};
+ghost use Rattle.shared_tables.specs.declared.node.Node.{out-Node};
 
 use crate::entry::Entry;
 use std::alloc::{AllocError, Global};
@@ -148,4 +149,30 @@ pub(crate) fn balanced<K: Drop, V: Drop>(
         }
     }
     joined(alloc, before, entry, after)
+}
+
+/// A node with another part before it.
+pub(crate) fn with_before<K: Drop, V: Drop>(
+    alloc: Global,
+    before: Link<K, V>,
+    node: &Node<K, V>,
+) -> Result<Arc<Node<K, V>>, AllocError>
+    ensures { IfOk result (λ n. entries n.value ≡ link_entries before ++ (out-Node K V node.now).entry ∷ link_entries (out-Node K V node.now).after) }
+{
+    let entry = node.entry.shared()?;
+    let after = shared(&node.after)?;
+    balanced(alloc, before, entry, after)
+}
+
+/// A node with another part past it.
+pub(crate) fn with_after<K: Drop, V: Drop>(
+    alloc: Global,
+    node: &Node<K, V>,
+    after: Link<K, V>,
+) -> Result<Arc<Node<K, V>>, AllocError>
+    ensures { IfOk result (λ n. entries n.value ≡ link_entries (out-Node K V node.now).before ++ (out-Node K V node.now).entry ∷ link_entries after) }
+{
+    let entry = node.entry.shared()?;
+    let before = shared(&node.before)?;
+    balanced(alloc, before, entry, after)
 }

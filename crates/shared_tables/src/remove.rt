@@ -4,7 +4,7 @@ ghost use Rattle.spec_tables.specs.Tables.{IsTable, without_key};
 ghost use Rattle.shared_tables.specs.Trees.{entries, link_entries};
 
 use crate::entry::Entry;
-use crate::node::{Link, Node, balanced, shared};
+use crate::node::{Link, Node, balanced, shared, with_after, with_before};
 use std::alloc::{AllocError, Global};
 use std::cmp::Ordering;
 
@@ -19,9 +19,7 @@ fn split_first<K: Drop, V: Drop>(
         None => Ok((node.entry.shared()?, shared(&node.after)?)),
         Some(before) => {
             let (first, rest) = split_first(alloc, before)?;
-            let middle = node.entry.shared()?;
-            let after = shared(&node.after)?;
-            let tree = balanced(alloc, rest, middle, after)?;
+            let tree = with_before(alloc, rest, node)?;
             Ok((first, Some(tree)))
         }
     }
@@ -61,17 +59,13 @@ pub(crate) fn without_entry<K: Ord + Drop, V: Drop>(
             match key.cmp(node.entry.key()) {
                 Ordering::Less => {
                     let before = without_entry(alloc, &node.before, key)?;
-                    let middle = node.entry.shared()?;
-                    let after = shared(&node.after)?;
-                    let tree = balanced(alloc, before, middle, after)?;
+                    let tree = with_before(alloc, before, node)?;
                     Ok(Some(tree))
                 }
                 Ordering::Equal => together(alloc, &node.before, &node.after),
                 Ordering::Greater => {
-                    let before = shared(&node.before)?;
-                    let middle = node.entry.shared()?;
                     let after = without_entry(alloc, &node.after, key)?;
-                    let tree = balanced(alloc, before, middle, after)?;
+                    let tree = with_after(alloc, node, after)?;
                     Ok(Some(tree))
                 }
             }

@@ -1,15 +1,15 @@
 // The sites of a tree: which of several places of one site is kept.
-ghost use Rattle.std.specs.Prelude.{◌≡◌, ◌++◌, [], ◌∷◌, IfOk, OnOk, map, filter};
+ghost use Rattle.std.specs.Prelude.{◌≡◌, ◌++◌, [], ◌∷◌, None, IfOk, OnOk, map, filter};
 ghost use Rattle.composition.specs.Paths.{limits};
 ghost use Rattle.composition.specs.Faults.{site_of};
 ghost use Rattle.composition.specs.Opinions.{is_by_class, is_class_map};
-ghost use Rattle.composition.specs.Strength.{sites};
+ghost use Rattle.composition.specs.Strength.{sites, strong_of, weak_of};
 ghost use Rattle.prim_trees.specs.Meant.{meant};
-ghost use Rattle.site_order.specs.Best.{place_at, kept_by, is_alone};
+ghost use Rattle.site_order.specs.Best.{place_at, best_from, kept_by, is_alone};
 ghost use Rattle.site_order.specs.Entries.{entry, entries};
 ghost use Rattle.site_order.specs.Places.{trees_shown};
 
-use crate::best::{BestPlaces, best_of, is_best, key_of};
+use crate::best::{BestPlaces, SiteKey, best_of, is_best, key_of};
 use crate::order::{strong_of, weak_of};
 use crate::ranks::Ranked;
 use class_arcs::same_kind;
@@ -34,20 +34,75 @@ pub fn sites(alloc: Global, tree: &Tree) -> Result<Items<Site>, AllocError>
     Ok(told)
 }
 
+/// The strong places of a tree, and the best of each site.
+fn strong_places<'t>(
+    alloc: Global,
+    tree: &'t Tree,
+) -> Result<(Vec<Ranked<'t>>, BestPlaces), AllocError>
+    ensures part { IfOk result (λ both. entries both.0.items ≡ strong_of limits (meant tree.now)) }
+    ensures best { IfOk result (λ both. (q : SiteKey) → place_at both.1 q ≡ best_from q None 0 (entries both.0.items)) }
+{
+    let part = strong_of(alloc, tree)?;
+    match best_of(alloc, part.as_slice()) {
+        Ok(best) => Ok((part, best)),
+        Err(error) => {
+            drop(part);
+            Err(error)
+        }
+    }
+}
+
+/// The weak places of a tree of sites that have no strong one, and the best of each site.
+fn weak_places<'t>(
+    alloc: Global,
+    tree: &'t Tree,
+    strong: &BestPlaces,
+) -> Result<(Vec<Ranked<'t>>, BestPlaces), AllocError>
+    ensures part { IfOk result (λ both. entries both.0.items ≡ filter (is_alone (place_at strong.now)) (weak_of limits (meant tree.now))) }
+    ensures best { IfOk result (λ both. (q : SiteKey) → place_at both.1 q ≡ best_from q None 0 (entries both.0.items)) }
+{
+    let weak = weak_of(alloc, tree)?;
+    let part = not_among(alloc, strong, weak.as_slice())?;
+    match best_of(alloc, part.as_slice()) {
+        Ok(best) => Ok((part, best)),
+        Err(error) => {
+            drop(part);
+            Err(error)
+        }
+    }
+}
+
+/// The nodes at the best places of a part, and then of another.
+fn best_nodes<'t>(
+    alloc: Global,
+    strong: &(Vec<Ranked<'t>>, BestPlaces),
+    weak: &(Vec<Ranked<'t>>, BestPlaces),
+) -> Result<Vec<&'t Tree>, AllocError>
+    ensures { IfOk result (λ kept. trees_shown kept.items ≡ map (λ e. e.0) (kept_by (place_at strong.now.1) 0 (entries strong.now.0.items)) ++ map (λ e. e.0) (kept_by (place_at weak.now.1) 0 (entries weak.now.0.items))) }
+{
+    let mut kept = Vec::new(alloc);
+    push_best(&mut kept, &strong.1, strong.0.as_slice())?;
+    push_best(&mut kept, &weak.1, weak.0.as_slice())?;
+    Ok(kept)
+}
+
 /// The nodes at the places that the sites of the tree keep.
 #[tactic(auto, using(crate::proofs::Kept::places_are))]
 pub fn places<'t>(alloc: Global, tree: &'t Tree) -> Result<Vec<&'t Tree>, AllocError>
     ensures { IfOk result (λ kept. trees_shown kept.items ≡ sites limits (meant tree.now)) }
 {
-    let strong = strong_of(alloc, tree)?;
-    let weak = weak_of(alloc, tree)?;
-    let best = best_of(alloc, strong.as_slice())?;
-    let weaker = not_among(alloc, &best, weak.as_slice())?;
-    let best_weaker = best_of(alloc, weaker.as_slice())?;
-    let mut kept = Vec::new(alloc);
-    push_best(&mut kept, &best, strong.as_slice())?;
-    push_best(&mut kept, &best_weaker, weaker.as_slice())?;
-    Ok(kept)
+    let strong = strong_places(alloc, tree)?;
+    match weak_places(alloc, tree, &strong.1) {
+        Ok(weak) => {
+            let kept = best_nodes(alloc, &strong, &weak);
+            drop((strong, weak));
+            kept
+        }
+        Err(error) => {
+            drop(strong);
+            Err(error)
+        }
+    }
 }
 
 /// Appends the nodes at the places of a part that are the best of their sites.

@@ -109,8 +109,13 @@ impl Properties {
         ensures ok { OnOk result (self.new ≡ with_property property self.old) }
         ensures err { OnErr result (self.new ≡ self.old) }
     {
-        let name = copy(property.name())?;
-        Ok(self.by_name.insert(name, property)?)
+        match copy(property.name()) {
+            Ok(name) => Ok(self.by_name.insert(name, property)?),
+            Err(error) => {
+                drop(property);
+                Err(error)
+            }
+        }
     }
 
     /// Puts a property in the place of the one of its name, which it answers; hands the property back where there is none of its
@@ -138,7 +143,10 @@ impl Properties {
         let blank = Property::blank_relationship(*self.by_name.allocator(), copy(name)?);
         match self.replace(blank) {
             Ok(taken) => Ok(Some(taken)),
-            Err(_) => Ok(None),
+            Err(blank) => {
+                drop(blank);
+                Ok(None)
+            }
         }
     }
 

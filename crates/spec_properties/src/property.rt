@@ -1,4 +1,4 @@
-ghost use Rattle.std.specs.Prelude.{◌≡◌, ◌↔◌, IsTrue};
+ghost use Rattle.std.specs.Prelude.{◌≡◌, ◌↔◌, IsTrue, IfOk};
 ghost use Rattle.spec_properties.specs.Properties.{property_name, blank_relationship};
 
 use crate::small::{Meta, Samples};
@@ -56,6 +56,17 @@ impl Property {
     }
 }
 
+/// Copies of three parts. It knows no fields of theirs, so that to let one go is a call.
+fn copied<A: ExactClone + Drop, B: ExactClone + Drop, C: ExactClone + Drop>(
+    first: &A,
+    second: &B,
+    third: &C,
+) -> Result<(A, B, C), AllocError>
+    ensures { IfOk result (λ copies. copies ≡ (first.now, second.now, third.now)) }
+{
+    Ok((copy(first)?, copy(second)?, copy(third)?))
+}
+
 impl Clone for Property {
     ghost use Rattle.std.specs.Prelude.{◌≡◌};
 
@@ -72,27 +83,39 @@ impl Clone for Property {
                 samples,
                 connections,
                 meta,
-            } => Ok(Property::Attr {
-                name: copy(name)?,
-                ty: *ty,
-                custom: *custom,
-                uniform: *uniform,
-                default: copy(default)?,
-                samples: copy(samples)?,
-                connections: copy(connections)?,
-                meta: copy(meta)?,
-            }),
+            } => {
+                let (name, default, samples) = copied(name, default, samples)?;
+                match copied(ty, connections, meta) {
+                    Ok((ty, connections, meta)) => Ok(Property::Attr {
+                        name,
+                        ty,
+                        custom: *custom,
+                        uniform: *uniform,
+                        default,
+                        samples,
+                        connections,
+                        meta,
+                    }),
+                    Err(error) => {
+                        drop((name, default, samples));
+                        Err(error)
+                    }
+                }
+            }
             Property::Rel {
                 name,
                 custom,
                 targets,
                 meta,
-            } => Ok(Property::Rel {
-                name: copy(name)?,
-                custom: *custom,
-                targets: copy(targets)?,
-                meta: copy(meta)?,
-            }),
+            } => {
+                let (name, targets, meta) = copied(name, targets, meta)?;
+                Ok(Property::Rel {
+                    name,
+                    custom: *custom,
+                    targets,
+                    meta,
+                })
+            }
         }
     }
 }

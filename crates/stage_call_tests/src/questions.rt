@@ -1,7 +1,7 @@
 // Answers and replies as bytes: each question with each kind of answer.
 use asset_names::AssetId;
 use change_core::EditReply;
-use layer_edit::EditFault;
+use edit_batches::EditFault;
 use plain_data::{Items, Text};
 use prim_view::{PrimFault, PrimView, PropertyView, Site, StackName};
 use sdf_paths::Path;

@@ -4,8 +4,8 @@ ghost use Rattle.layer_apply.specs.Edits.{edit};
 ghost use Rattle.sdf_paths.specs.declared.element.Element.TheVariants as element;
 
 use compose_api::{ApplyRefused, Composer};
+use edit_batches::{Batch, EditFault, EditRefused};
 use layer_apply::edited_world;
-use layer_edit::{Batch, EditFault, EditRefused};
 use layer_set::World;
 use prim_compose::compose_prim;
 use prim_view::PrimView;

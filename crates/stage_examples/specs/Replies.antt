@@ -1,7 +1,7 @@
 -- What a session writes: the replies to batches and publishes, and the lines that answer questions.
 use Rattle.std.specs.Prelude.{◌≡◌, ℕ, ◌*◌, ◌^◌, pos, negsuc, true, false, List, [], ◌∷◌, codes, Some}
 use Rattle.change_core.specs.declared.history.EditReply.TheVariants.{Accepted, Refused, JournalFull}
-use Rattle.layer_edit.specs.declared.fault.EditFault.TheVariants as fault
+use Rattle.edit_batches.specs.declared.fault.EditFault.TheVariants as fault
 use Rattle.path_maps.specs.declared.kind.ArcKind.TheVariants as arc
 use Rattle.prim_view.specs.declared.fault.ArcFault.{ArcFault}
 use Rattle.prim_view.specs.declared.fault.ArcReason.TheVariants as arc_reason

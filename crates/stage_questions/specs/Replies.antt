@@ -3,8 +3,8 @@ use Rattle.std.specs.Prelude.{ℕ, ◌-◌, ◌++◌, codes}
 use Rattle.std.specs.Fmt.{decimal}
 use Rattle.change_core.specs.declared.history.EditReply.{EditReply}
 use Rattle.change_core.specs.declared.history.EditReply.TheVariants.{Accepted, Refused, JournalFull}
-use Rattle.layer_edit.specs.declared.fault.EditFault.{EditFault}
-use Rattle.layer_edit.specs.declared.fault.EditFault.TheVariants as fault
+use Rattle.edit_batches.specs.declared.fault.EditFault.{EditFault}
+use Rattle.edit_batches.specs.declared.fault.EditFault.TheVariants as fault
 use Rattle.prim_view.specs.Printing.{refusal_text}
 use Rattle.usda_writer.specs.Texts.{Text}
 

@@ -1,5 +1,6 @@
 // A question with its answer.
-ghost use Rattle.std.specs.Prelude.{◌≡◌, ◌++◌, OnOk};
+ghost use Rattle.std.specs.Prelude.{◌≡◌, ◌++◌, OnErr, OnOk};
+ghost use Rattle.std.specs.Io.{StartsWith};
 ghost use Rattle.stage_questions.specs.Answers.{line_of, flat_text, measured, answer, answer_line};
 
 use crate::question::{Question, print_question};
@@ -15,7 +16,8 @@ use std::alloc::{AllocError, Global};
 
 // Appends a text and the end of its line.
 fn push_line(out: &mut Vec<u8>, text: &str) -> Result<(), AllocError>
-    ensures { OnOk result (out.new.items ≡ out.old.items ++ line_of text.now) }
+    ensures added { OnOk result (out.new.items ≡ out.old.items ++ line_of text.now) }
+    ensures kept { OnErr result (StartsWith out.new.items out.old.items) }
 {
     out.extend_from_slice(text.as_bytes())?;
     out.extend_from_slice(b"\n")
@@ -23,7 +25,8 @@ fn push_line(out: &mut Vec<u8>, text: &str) -> Result<(), AllocError>
 
 // Appends a text behind its length.
 fn push_measured(alloc: Global, out: &mut Vec<u8>, text: &[u8]) -> Result<(), AllocError>
-    ensures { OnOk result (out.new.items ≡ out.old.items ++ measured text.now) }
+    ensures added { OnOk result (out.new.items ≡ out.old.items ++ measured text.now) }
+    ensures kept { OnErr result (StartsWith out.new.items out.old.items) }
 {
     let length = text.len().to_string(alloc)?;
     out.extend_from_slice(length.as_bytes())?;
@@ -38,7 +41,8 @@ fn push_flattened(
     out: &mut Vec<u8>,
     view: &View<'_, Path, PrimView>,
 ) -> Result<(), AllocError>
-    ensures { OnOk result (out.new.items ≡ out.old.items ++ measured (flat_text view.now.items)) }
+    ensures added { OnOk result (out.new.items ≡ out.old.items ++ measured (flat_text view.now.items)) }
+    ensures kept { OnErr result (StartsWith out.new.items out.old.items) }
 {
     let text = flatten_text(alloc, view)?;
     push_measured(alloc, out, text.as_slice())
@@ -52,7 +56,8 @@ fn push_told(
     view: &View<'_, Path, PrimView>,
     question: &Question,
 ) -> Result<(), AllocError>
-    ensures { OnOk result (out.new.items ≡ out.old.items ++ answer root.now view.now.items question.now) }
+    ensures added { OnOk result (out.new.items ≡ out.old.items ++ answer root.now view.now.items question.now) }
+    ensures kept { OnErr result (StartsWith out.new.items out.old.items) }
 {
     match question {
         Question::Value { path, time } => {
@@ -72,7 +77,7 @@ fn push_told(
 ///
 /// # Errors
 ///
-/// Memory ran out; `out` may then end in a part of the answer.
+/// Memory ran out; `out` then has what stood there before, and may have a part of the answer behind it.
 pub fn push_answer(
     alloc: Global,
     out: &mut Vec<u8>,
@@ -80,7 +85,8 @@ pub fn push_answer(
     view: &View<'_, Path, PrimView>,
     question: &Question,
 ) -> Result<(), AllocError>
-    ensures { OnOk result (out.new.items ≡ out.old.items ++ answer_line root.now view.now.items question.now) }
+    ensures added { OnOk result (out.new.items ≡ out.old.items ++ answer_line root.now view.now.items question.now) }
+    ensures kept { OnErr result (StartsWith out.new.items out.old.items) }
 {
     let asked = print_question(alloc, question)?;
     out.extend_from_slice(asked.as_bytes())?;

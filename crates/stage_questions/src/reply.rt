@@ -1,37 +1,65 @@
 // The replies to batches and publishes.
-ghost use Rattle.std.specs.Prelude.{◌≡◌, ◌++◌, OnOk};
+ghost use Rattle.std.specs.Prelude.{◌≡◌, ◌++◌, OnErr, OnOk, codes};
 ghost use Rattle.std.specs.Fmt.{decimal};
-ghost use Rattle.prim_view.specs.Printing.{refusal_text};
+ghost use Rattle.std.specs.Io.{StartsWith};
+ghost use Rattle.prim_view.specs.Printing.{refusal_name, refusal_text};
 ghost use Rattle.stage_questions.specs.Replies.{edit_fault_text, accepted_text, refused_word, refused_op, refused_text, full_text, edit_text, published_text};
 
 use change_core::EditReply;
-use layer_edit::EditFault;
+use edit_batches::EditFault;
 use prim_view::refusal_name;
+use sdf_values::RefusalKind;
 use spec_parts::Refusal;
 use std::alloc::{AllocError, Global};
 
 fn push_number(alloc: Global, out: &mut Vec<u8>, number: u64) -> Result<(), AllocError>
-    ensures { OnOk result (out.new.items ≡ out.old.items ++ decimal number) }
+    ensures added { OnOk result (out.new.items ≡ out.old.items ++ decimal number) }
+    ensures kept { OnErr result (StartsWith out.new.items out.old.items) }
 {
     let text = number.to_string(alloc)?;
     out.extend_from_slice(text.as_bytes())
 }
 
-// Appends a refusal with its place, behind a blank.
-fn push_refusal(alloc: Global, out: &mut Vec<u8>, refusal: Refusal) -> Result<(), AllocError>
-    ensures { OnOk result (out.new.items ≡ out.old.items ++ refusal_text refusal) }
+// Appends a number behind a word.
+fn push_behind(alloc: Global, out: &mut Vec<u8>, word: &[u8], number: u64) -> Result<(), AllocError>
+    ensures added { OnOk result (out.new.items ≡ out.old.items ++ word.now ++ decimal number) }
+    ensures kept { OnErr result (StartsWith out.new.items out.old.items) }
+{
+    out.extend_from_slice(word)?;
+    push_number(alloc, out, number)
+}
+
+// Appends the line and the column of a refusal, behind a blank.
+fn push_place(alloc: Global, out: &mut Vec<u8>, refusal: Refusal) -> Result<(), AllocError>
+    ensures added { OnOk result (out.new.items ≡ out.old.items ++ codes " " ++ decimal refusal.line ++ codes ":" ++ decimal refusal.column) }
+    ensures kept { OnErr result (StartsWith out.new.items out.old.items) }
+{
+    push_behind(alloc, out, b" ", refusal.line)?;
+    push_behind(alloc, out, b":", refusal.column)
+}
+
+// Appends the name of a kind of refusal, behind a blank.
+fn push_kind(out: &mut Vec<u8>, kind: RefusalKind) -> Result<(), AllocError>
+    ensures added { OnOk result (out.new.items ≡ out.old.items ++ codes " " ++ refusal_name kind) }
+    ensures kept { OnErr result (StartsWith out.new.items out.old.items) }
 {
     out.extend_from_slice(b" ")?;
-    out.extend_from_slice(refusal_name(refusal.kind).as_bytes())?;
-    out.extend_from_slice(b" ")?;
-    push_number(alloc, out, refusal.line)?;
-    out.extend_from_slice(b":")?;
-    push_number(alloc, out, refusal.column)
+    out.extend_from_slice(refusal_name(kind).as_bytes())
+}
+
+// Appends a refusal with its place, behind a blank.
+fn push_refusal(alloc: Global, out: &mut Vec<u8>, refusal: Refusal) -> Result<(), AllocError>
+    ensures added { OnOk result (out.new.items ≡ out.old.items ++ refusal_text refusal) }
+    ensures kept { OnErr result (StartsWith out.new.items out.old.items) }
+{
+    push_kind(out, refusal.kind)?;
+    push_place(alloc, out, refusal)
 }
 
 // Appends why an operation is refused.
 fn push_fault(alloc: Global, out: &mut Vec<u8>, fault: EditFault) -> Result<(), AllocError>
-    ensures { OnOk result (out.new.items ≡ out.old.items ++ edit_fault_text fault) }
+    ensures added { OnOk result (out.new.items ≡ out.old.items ++ edit_fault_text fault) }
+    ensures kept { OnErr result (StartsWith out.new.items out.old.items) }
 {
     match fault {
         EditFault::NoLayer => out.extend_from_slice(b"NoLayer"),
@@ -56,7 +84,8 @@ fn push_fault(alloc: Global, out: &mut Vec<u8>, fault: EditFault) -> Result<(), 
 
 // Appends the reply to a batch that was accepted.
 fn push_accepted(alloc: Global, out: &mut Vec<u8>, number: u64) -> Result<(), AllocError>
-    ensures { OnOk result (out.new.items ≡ out.old.items ++ accepted_text number) }
+    ensures added { OnOk result (out.new.items ≡ out.old.items ++ accepted_text number) }
+    ensures kept { OnErr result (StartsWith out.new.items out.old.items) }
 {
     out.extend_from_slice(b"batch ")?;
     push_number(alloc, out, number)?;
@@ -72,7 +101,8 @@ fn refused_word() -> &'static str
 
 // Appends that the operation of this number is refused.
 fn push_refused_op(alloc: Global, out: &mut Vec<u8>, op: u32) -> Result<(), AllocError>
-    ensures { OnOk result (out.new.items ≡ out.old.items ++ refused_op op) }
+    ensures added { OnOk result (out.new.items ≡ out.old.items ++ refused_op op) }
+    ensures kept { OnErr result (StartsWith out.new.items out.old.items) }
 {
     out.extend_from_slice(refused_word().as_bytes())?;
     push_number(alloc, out, u64::from(op))?;
@@ -86,7 +116,8 @@ fn push_refused(
     op: u32,
     fault: EditFault,
 ) -> Result<(), AllocError>
-    ensures { OnOk result (out.new.items ≡ out.old.items ++ refused_text op fault) }
+    ensures added { OnOk result (out.new.items ≡ out.old.items ++ refused_text op fault) }
+    ensures kept { OnErr result (StartsWith out.new.items out.old.items) }
 {
     push_refused_op(alloc, out, op)?;
     push_fault(alloc, out, fault)?;
@@ -95,7 +126,8 @@ fn push_refused(
 
 // Appends the reply to a batch for which the journal has no room.
 fn push_full(out: &mut Vec<u8>) -> Result<(), AllocError>
-    ensures { OnOk result (out.new.items ≡ out.old.items ++ full_text) }
+    ensures added { OnOk result (out.new.items ≡ out.old.items ++ full_text) }
+    ensures kept { OnErr result (StartsWith out.new.items out.old.items) }
 {
     out.extend_from_slice(b"batch refused: journal full\n")
 }
@@ -104,13 +136,14 @@ fn push_full(out: &mut Vec<u8>) -> Result<(), AllocError>
 ///
 /// # Errors
 ///
-/// Memory ran out; `out` may then end in a part of the reply.
+/// Memory ran out; `out` then has what stood there before, and may have a part of the reply behind it.
 pub fn push_edit_reply(
     alloc: Global,
     out: &mut Vec<u8>,
     reply: &EditReply<EditFault>,
 ) -> Result<(), AllocError>
-    ensures { OnOk result (out.new.items ≡ out.old.items ++ edit_text reply.now) }
+    ensures added { OnOk result (out.new.items ≡ out.old.items ++ edit_text reply.now) }
+    ensures kept { OnErr result (StartsWith out.new.items out.old.items) }
 {
     match reply {
         EditReply::Accepted { number } => push_accepted(alloc, out, *number),
@@ -119,11 +152,25 @@ pub fn push_edit_reply(
     }
 }
 
+// Appends the number of a stage and of the batches that it has.
+fn push_version(
+    alloc: Global,
+    out: &mut Vec<u8>,
+    version: u64,
+    batches: u64,
+) -> Result<(), AllocError>
+    ensures added { OnOk result (out.new.items ≡ out.old.items ++ codes "published " ++ decimal version ++ codes ": batches " ++ decimal batches) }
+    ensures kept { OnErr result (StartsWith out.new.items out.old.items) }
+{
+    push_behind(alloc, out, b"published ", version)?;
+    push_behind(alloc, out, b": batches ", batches)
+}
+
 /// Appends the reply to a publish of so many places, the root among them.
 ///
 /// # Errors
 ///
-/// Memory ran out; `out` may then end in a part of the reply.
+/// Memory ran out; `out` then has what stood there before, and may have a part of the reply behind it.
 pub fn push_publish_reply(
     alloc: Global,
     out: &mut Vec<u8>,
@@ -131,13 +178,10 @@ pub fn push_publish_reply(
     batches: u64,
     places: usize,
 ) -> Result<(), AllocError>
-    ensures { OnOk result (out.new.items ≡ out.old.items ++ published_text version batches places) }
+    ensures added { OnOk result (out.new.items ≡ out.old.items ++ published_text version batches places) }
+    ensures kept { OnErr result (StartsWith out.new.items out.old.items) }
 {
-    out.extend_from_slice(b"published ")?;
-    push_number(alloc, out, version)?;
-    out.extend_from_slice(b": batches ")?;
-    push_number(alloc, out, batches)?;
-    out.extend_from_slice(b", prims ")?;
-    push_number(alloc, out, places.saturating_sub(1) as u64)?;
+    push_version(alloc, out, version, batches)?;
+    push_behind(alloc, out, b", prims ", places.saturating_sub(1) as u64)?;
     out.extend_from_slice(b"\n")
 }

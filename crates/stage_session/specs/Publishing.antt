@@ -2,8 +2,8 @@
 use Rattle.std.specs.Prelude.{◌≡◌, ℕ, List}
 use Rattle.change_core.specs.Cores as cores
 use Rattle.change_core.specs.History.{version_count, batch_count}
-use Rattle.layer_edit.specs.declared.op.Op.{Op}
-use Rattle.layer_edit.specs.declared.fault.EditFault.{EditFault}
+use Rattle.edit_batches.specs.declared.op.Op.{Op}
+use Rattle.edit_batches.specs.declared.fault.EditFault.{EditFault}
 use Rattle.layer_set.specs.Worlds.{WorldData}
 use Rattle.stage_query.specs.Answers.{Stage}
 use Rattle.stage_session.specs.Sessions.{stage_after, with_publish}

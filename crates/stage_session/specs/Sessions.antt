@@ -8,9 +8,9 @@ use Rattle.change_core.specs.declared.history.HistoryEntry.TheVariants as noted
 use Rattle.change_core.specs.declared.history.EditReply.{EditReply}
 use Rattle.change_core.specs.declared.history.EditReply.TheVariants.{Accepted, Refused, JournalFull}
 use Rattle.layer_apply.specs.Edits.{edit}
-use Rattle.layer_edit.specs.declared.op.Op.{Op}
-use Rattle.layer_edit.specs.declared.fault.EditFault.{EditFault}
-use Rattle.layer_edit.specs.declared.op.Op.TheVariants.{PutLayer}
+use Rattle.edit_batches.specs.declared.op.Op.{Op}
+use Rattle.edit_batches.specs.declared.fault.EditFault.{EditFault}
+use Rattle.edit_batches.specs.declared.op.Op.TheVariants.{PutLayer}
 use Rattle.layer_set.specs.Worlds.{WorldData}
 use Rattle.layer_set.specs.declared.held.Held.{Held}
 use Rattle.composition.specs.Texts.{Text}

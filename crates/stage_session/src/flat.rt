@@ -13,7 +13,7 @@ use prim_view::PrimView;
 use sdf_paths::Path;
 use stage_composer::UsdComposer;
 use stage_publish::Edition;
-use std::alloc::Global;
+use std::alloc::{AllocError, Global};
 
 // The stage of a world.
 fn stage_of_world(alloc: Global, world: &World) -> Result<Items<(Path, PrimView)>, StageRefused>
@@ -23,6 +23,13 @@ fn stage_of_world(alloc: Global, world: &World) -> Result<Items<(Path, PrimView)
 {
     let items = stage_items_within(alloc, &UsdComposer::new(alloc), world, MOST_PATHS)?;
     Ok(items)
+}
+
+// The text of the flattened layer of an edition.
+fn edition_text(alloc: Global, edition: &Edition<Path, PrimView>) -> Result<Vec<u8>, AllocError>
+    ensures { IfOk result (λ text. text.items ≡ flat_text edition.now.items) }
+{
+    flatten_text(alloc, &edition.view())
 }
 
 /// The text of the flattened layer of the stage of a world.
@@ -37,6 +44,14 @@ pub fn flatten_world(alloc: Global, world: &World) -> Result<Vec<u8>, StageRefus
 {
     let items = stage_of_world(alloc, world)?;
     let edition = Edition::build(alloc, 0, 0, items, None)?;
-    let text = flatten_text(alloc, &edition.view())?;
-    Ok(text)
+    match edition_text(alloc, &edition) {
+        Ok(text) => {
+            drop(edition);
+            Ok(text)
+        }
+        Err(_) => {
+            drop(edition);
+            Err(StageRefused::NoMemory)
+        }
+    }
 }

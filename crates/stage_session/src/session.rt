@@ -6,7 +6,7 @@ ghost use Rattle.stage_session.specs.Sessions.{after_batch, after_publish, batch
 use asset_names::AssetId;
 use change_core::{Core, Items};
 use compose_api::StageRefused;
-use layer_edit::{Batch, Op};
+use edit_batches::{Batch, Op};
 use layer_set::{Held, World};
 use plain_data::copy;
 use prim_view::PrimView;
@@ -16,6 +16,7 @@ use stage_publish::Edition;
 use stage_questions::{Question, push_answer, push_edit_reply, push_publish_reply};
 use std::alloc::{AllocError, Global};
 use std::marker::Model;
+use std::mem;
 
 /// As many paths as a stage has at most, `/` among them.
 pub const MOST_PATHS: usize = 262_144;
@@ -34,7 +35,7 @@ pub struct Session {
 impl Model for Session {
     ghost use Rattle.std.specs.Prelude.{◌≡◌};
     ghost use Rattle.std.specs.Coded.{codes};
-    ghost use Rattle.layer_edit.specs.contracts.op.Op as of_op;
+    ghost use Rattle.edit_batches.specs.contracts.op.Op as of_op;
     ghost use Rattle.layer_set.specs.contracts.world.World as of_world;
     ghost use Rattle.prim_view.specs.contracts.view.PrimView as of_view;
     ghost use Rattle.sdf_values.specs.contracts.value.Value as of_value;
@@ -103,10 +104,28 @@ impl Session {
         ensures few { IfOk result (λ x. length (stage_after world []) ≤ most_paths) }
         ensures full { result ≡ Err StageRefused.Full → most_paths < length (stage_after world []) }
     {
-        let root = copy(world.root())?;
+        let root = match copy(world.root()) {
+            Ok(root) => root,
+            Err(_) => {
+                drop(world);
+                return Err(StageRefused::NoMemory);
+            }
+        };
         let mut core = Core::new(alloc, UsdComposer::new(alloc), world, 1)?;
-        let published = publish_core(&mut core)?;
-        let (shown, reply) = show(alloc, published)?;
+        let published = match publish_core(&mut core) {
+            Ok(published) => published,
+            Err(refused) => {
+                drop((root, core));
+                return Err(refused);
+            }
+        };
+        let (shown, reply) = match show(alloc, published) {
+            Ok(shown) => shown,
+            Err(_) => {
+                drop((root, core));
+                return Err(StageRefused::NoMemory);
+            }
+        };
         let session = Session {
             alloc,
             root,
@@ -158,7 +177,7 @@ impl Session {
     {
         let published = publish_core(&mut self.core)?;
         let (shown, reply) = show(self.alloc, published)?;
-        self.shown = shown;
+        drop(mem::replace(&mut self.shown, shown));
         Ok(reply)
     }
 

@@ -1,9 +1,9 @@
 // The edits of an opinion on the stage.
-ghost use Rattle.std.specs.Prelude.{◌≡◌, ◌++◌, filter, IfOk, OnOk};
+ghost use Rattle.std.specs.Prelude.{◌≡◌, ◌++◌, filter, filter_map, IfOk, OnOk};
 ghost use Rattle.composition.specs.Arcs.{is_empty};
 ghost use Rattle.composition.specs.Opinions.{has_edits, is_opinion};
 ghost use Rattle.composition.specs.Texts.{both};
-ghost use Rattle.target_resolve.specs.Translating.{is_lost, op_on_stage, folded_paths, if_any, tried};
+ghost use Rattle.target_resolve.specs.Translating.{is_lost, on_stage, op_on_stage, folded_paths, if_any, tried};
 
 use crate::translate::{Moved, translated_paths};
 use list_ops::{ListOp, fold_ordered};
@@ -11,6 +11,7 @@ use path_maps::ArcMap;
 use plain_data::{Items, copy};
 use sdf_paths::Path;
 use std::alloc::{AllocError, Global};
+use std::mem;
 
 /// Edits with what has a translation, and the items that have none, deletes aside.
 #[derive(Drop)]
@@ -58,29 +59,75 @@ fn append(out: &mut Items<Path>, more: Items<Path>) -> Result<(), AllocError>
     Ok(())
 }
 
+/// Paths on the stage; those that have no translation are appended to others.
+fn kept_paths(
+    alloc: Global,
+    maps: &[ArcMap],
+    paths: &Items<Path>,
+    lost: &mut Items<Path>,
+) -> Result<Items<Path>, AllocError>
+    ensures kept { IfOk result (λ kept. kept ≡ filter_map (on_stage maps.now) paths.now) }
+    ensures lost { OnOk result (lost.new ≡ lost.old ++ filter (is_lost maps.now) paths.now) }
+{
+    let moved = translated_paths(alloc, maps, paths.as_slice())?;
+    match append(lost, moved.lost) {
+        Ok(()) => Ok(moved.kept),
+        Err(error) => {
+            drop(moved.kept);
+            Err(error)
+        }
+    }
+}
+
+/// Puts the items that are added, prepended, appended and reordered, on the stage, in the place of others.
+fn put_listed(
+    alloc: Global,
+    maps: &[ArcMap],
+    op: &ListOp<Path>,
+    into: &mut ListOp<Path>,
+    lost: &mut Items<Path>,
+) -> Result<(), AllocError>
+    ensures edits { OnOk result (into.new ≡ record (op_on_stage maps.now op.now) { explicit = into.old.explicit; deleted = into.old.deleted }) }
+    ensures lost { OnOk result (lost.new ≡ lost.old ++ filter (is_lost maps.now) (op.now.added ++ op.now.prepended ++ op.now.appended ++ op.now.ordered)) }
+{
+    into.added = kept_paths(alloc, maps, &op.added, lost)?;
+    into.prepended = kept_paths(alloc, maps, &op.prepended, lost)?;
+    into.appended = kept_paths(alloc, maps, &op.appended, lost)?;
+    into.ordered = kept_paths(alloc, maps, &op.ordered, lost)?;
+    Ok(())
+}
+
+/// Puts all items but explicit ones, on the stage, in the place of others. A delete that has no translation is not told.
+fn put_edits(
+    alloc: Global,
+    maps: &[ArcMap],
+    op: &ListOp<Path>,
+    into: &mut Edited,
+) -> Result<(), AllocError>
+    ensures edits { OnOk result (into.new.op ≡ record (op_on_stage maps.now op.now) { explicit = into.old.op.explicit }) }
+    ensures lost { OnOk result (into.new.lost ≡ into.old.lost ++ filter (is_lost maps.now) (op.now.added ++ op.now.prepended ++ op.now.appended ++ op.now.ordered)) }
+{
+    let deleted = translated_paths(alloc, maps, op.deleted.as_slice())?;
+    into.op.deleted = deleted.kept;
+    put_listed(alloc, maps, op, &mut into.op, &mut into.lost)
+}
+
 /// The edits that are not explicit, on the stage.
 fn edits_on_stage(alloc: Global, maps: &[ArcMap], op: &ListOp<Path>) -> Result<Edited, AllocError>
     ensures edits { IfOk result (λ e. e.op ≡ record (op_on_stage maps.now op.now) { explicit = None }) }
     ensures lost { IfOk result (λ e. e.lost ≡ filter (is_lost maps.now) (op.now.added ++ op.now.prepended ++ op.now.appended ++ op.now.ordered)) }
 {
-    let deleted = translated_paths(alloc, maps, op.deleted.as_slice())?;
-    let added = translated_paths(alloc, maps, op.added.as_slice())?;
-    let prepended = translated_paths(alloc, maps, op.prepended.as_slice())?;
-    let appended = translated_paths(alloc, maps, op.appended.as_slice())?;
-    let ordered = translated_paths(alloc, maps, op.ordered.as_slice())?;
-    let mut lost = added.lost;
-    append(&mut lost, prepended.lost)?;
-    append(&mut lost, appended.lost)?;
-    append(&mut lost, ordered.lost)?;
-    let op = ListOp {
-        explicit: None,
-        deleted: deleted.kept,
-        added: added.kept,
-        prepended: prepended.kept,
-        appended: appended.kept,
-        ordered: ordered.kept,
+    let mut edited = Edited {
+        op: ListOp::new(alloc),
+        lost: Items::new(alloc),
     };
-    Ok(Edited { op, lost })
+    match put_edits(alloc, maps, op, &mut edited) {
+        Ok(()) => Ok(edited),
+        Err(error) => {
+            drop(edited);
+            Err(error)
+        }
+    }
 }
 
 /// The edits with an explicit list.
@@ -88,27 +135,10 @@ fn with_explicit(edits: Edited, items: Moved) -> Edited
     ensures edits { result.op ≡ record edits.op { explicit = Some items.kept } }
     ensures lost { result.lost ≡ items.lost }
 {
-    let Edited { op, lost: _ } = edits;
-    let ListOp {
-        explicit: _,
-        deleted,
-        added,
-        prepended,
-        appended,
-        ordered,
-    } = op;
-    let op = ListOp {
-        explicit: Some(items.kept),
-        deleted,
-        added,
-        prepended,
-        appended,
-        ordered,
-    };
-    Edited {
-        op,
-        lost: items.lost,
-    }
+    let mut edits = edits;
+    drop(mem::replace(&mut edits.op.explicit, Some(items.kept)));
+    drop(mem::replace(&mut edits.lost, items.lost));
+    edits
 }
 
 /// The edits of an opinion on the stage.
@@ -123,10 +153,13 @@ pub fn translated_edits(
     let edits = edits_on_stage(alloc, maps, op)?;
     match &op.explicit {
         None => Ok(edits),
-        Some(items) => {
-            let items = translated_paths(alloc, maps, items.as_slice())?;
-            Ok(with_explicit(edits, items))
-        }
+        Some(items) => match translated_paths(alloc, maps, items.as_slice()) {
+            Ok(items) => Ok(with_explicit(edits, items)),
+            Err(error) => {
+                drop(edits);
+                Err(error)
+            }
+        },
     }
 }
 

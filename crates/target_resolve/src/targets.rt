@@ -71,6 +71,8 @@ fn push_op(
 {
     if is_opinion(edits) {
         ops.push(translated)?;
+    } else {
+        drop(translated);
     }
     Ok(())
 }

@@ -24,6 +24,10 @@ entries_of k es = own_entries writer (k ∷ []) es
 abbrev pub EachWrote : ℕ → List ℕ → List Entry → Type 0
 EachWrote steps numbers es = All (λ k. entries_of k es ≡ written k steps) numbers
 
+-- a seat with these numbers has written only the first entries, fewer than this many
+abbrev pub WroteFewer : ℕ → ℕ → List ℕ → List Entry → Type 0
+WroteFewer steps by numbers es = (n : ℕ) × n < steps × (own_entries writer numbers es ≡ written by n)
+
 -- each seat below the number has written this many entries, and the book has no others
 pub record IsWrittenBy (seats steps : ℕ) (es : List Entry) : Type 0 where
   pub each : (k : ℕ) → k < seats → entries_of k es ≡ written k steps

@@ -1,6 +1,6 @@
 ghost use Rattle.std.specs.Prelude.{◌≡◌, [], ◌∷◌, ◌++◌, IfOk, IfErr};
 ghost use Rattle.turn_lock.specs.Seats.{IsSeatOf, IsFree, SameNumbers, number, seen, numbers, own_entries};
-ghost use Rattle.turn_writers.specs.Books.{writer, entry, written, EachWrote};
+ghost use Rattle.turn_writers.specs.Books.{writer, entry, written, EachWrote, WroteFewer};
 
 use crate::book::Book;
 use crate::entry::Entry;
@@ -35,7 +35,7 @@ pub fn add<R: Wait>(
 ///
 /// # Errors
 ///
-/// Memory ran out. The seat has then written some of them.
+/// Memory ran out. The seat has then written the first of them, in order, and at least one is missing.
 pub fn write<R: Wait>(
     rt: &R,
     desk: &Desk<Book>,
@@ -46,6 +46,7 @@ pub fn write<R: Wait>(
     requires fresh { own_entries writer (numbers seat) (seen seat) ≡ [] }
     ensures seat { IsSeatOf desk.now result.0 × IsFree result.0 × SameNumbers seat result.0 }
     ensures written { IfOk result.1 (λ _. EachWrote steps (numbers result.0) (seen result.0)) }
+    ensures stopped { IfErr result.1 (λ _. WroteFewer steps (number seat) (numbers seat) (seen result.0)) }
 {
     for step in 0..steps {
         if let Err(error) = add(rt, desk, &mut seat, step) {

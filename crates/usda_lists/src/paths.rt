@@ -93,15 +93,27 @@ pub fn target_from(alloc: Global, base: &Path, text: &str) -> Result<Option<Path
     }
 }
 
+// The token of a path from the root down.
+fn token_of(alloc: Global, path: &Path) -> Result<Text, AllocError>
+    ensures { IfOk result (λ token. token ≡ absolute_token path.now) }
+{
+    let text = path.print()?;
+    let mut token = Text::of(alloc, "<")?;
+    token.push_str(text.as_str())?;
+    token.push('>')?;
+    Ok(token)
+}
+
 /// The path token that means the same path wherever it stands.
 pub fn absolute_from(alloc: Global, base: &Path, text: &str) -> Result<Option<Text>, AllocError>
     ensures { IfOk result (λ token. token ≡ absolute_from base.now text.now) }
 {
-    let Some(path) = path_from(alloc, base, text)? else {
-        return Ok(None);
-    };
-    let mut token = Text::of(alloc, "<")?;
-    token.push_str(path.print()?.as_str())?;
-    token.push('>')?;
-    Ok(Some(token))
+    match path_from(alloc, base, text)? {
+        Some(path) => {
+            let token = token_of(alloc, &path);
+            drop(path);
+            Ok(Some(token?))
+        }
+        None => Ok(None),
+    }
 }

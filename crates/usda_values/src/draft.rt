@@ -1,5 +1,5 @@
 //! A value that is being read, token by token.
-ghost use Rattle.std.specs.Prelude.{◌≡◌, OnOk};
+ghost use Rattle.std.specs.Prelude.{◌≡◌, Ok, OnOk};
 ghost use Rattle.plain_data.specs.Ends.{last};
 ghost use Rattle.usda_values.specs.Scalars.{token_value};
 ghost use Rattle.usda_values.specs.Shapes.{tuple_members, array_members, take_value};
@@ -114,11 +114,18 @@ impl ValueDraft {
     fn put(&mut self, kind: TokenKind, text: &str) -> Result<(), ActFault>
         ensures { Does result self.new (put_act (token_value kind text.now) self.old) }
     {
-        let value = match token_value(self.outer.allocator(), kind, text) {
-            Ok(value) => value,
-            Err(fault) => return Err(fault),
-        };
+        match token_value(self.outer.allocator(), kind, text) {
+            Ok(value) => self.put_value(value),
+            Err(fault) => Err(fault),
+        }
+    }
+
+    // The value of a token.
+    fn put_value(&mut self, value: Value) -> Result<(), ActFault>
+        ensures { Does result self.new (put_act (Ok value) self.old) }
+    {
         if is_full(self.level.room) {
+            drop(value);
             return Err(ActFault::Refused(RefusalKind::ValueShape));
         }
         match take_value(self.level.item, is_statement(self.level.bracket), value) {
@@ -190,13 +197,14 @@ impl ValueDraft {
     fn go_out(&mut self) -> Result<(), AllocError>
         ensures { OnOk result (self.new ≡ go_out (last self.old.outer) self.old) }
     {
-        let Some(outer) = self.outer.pop() else {
-            return Ok(());
-        };
-        let inner = mem::replace(&mut self.level, outer);
-        let value = inner.wrap(self.outer.allocator())?;
-        self.place = behind_value(self.level.bracket);
-        self.level.give(value)
+        match self.outer.pop() {
+            Some(outer) => {
+                let inner = mem::replace(&mut self.level, outer);
+                let value = inner.wrap(self.outer.allocator())?;
+                self.give_value(value)
+            }
+            None => Ok(()),
+        }
     }
 
     fn act_value(&mut self, kind: TokenKind, text: &str) -> Result<(), ActFault>

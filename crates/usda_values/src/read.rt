@@ -47,7 +47,10 @@ fn read(draft: ValueDraft, tokens: &mut Tokens<'_>) -> Result<Value, ValueFault>
         match step(&mut draft, tokens) {
             Ok(false) => {}
             Ok(true) => return Ok(draft.into_value()),
-            Err(fault) => return Err(fault),
+            Err(fault) => {
+                drop(draft);
+                return Err(fault);
+            }
         }
     }
 }

@@ -131,9 +131,12 @@ pub fn take_shape(alloc: Global, ty: TypeName, v: Value) -> Result<Value, ValueF
     ensures { AnswersShape result (take_shape ty v) }
 {
     if v.is_block() {
+        drop(v);
         return Ok(Value::Block);
     }
-    match taken(alloc, ty, &v) {
+    let taken = taken(alloc, ty, &v);
+    drop(v);
+    match taken {
         Ok(value) => Ok(value),
         Err(ActFault::Refused(kind)) => Err(ValueFault::Refused { kind, at: 0 }),
         Err(ActFault::NoMemory) => Err(ValueFault::NoMemory),

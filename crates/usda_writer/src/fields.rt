@@ -1,7 +1,8 @@
 // Lines of metadata.
-ghost use Rattle.std.specs.Prelude.{◌≡◌, ◌++◌, OnOk, IfOk, IsTrue, map, string_bytes};
+ghost use Rattle.std.specs.Prelude.{◌≡◌, ◌++◌, OnOk, IfOk, IsTrue, codes, map, string_bytes};
 ghost use Rattle.std.specs.List.{flat_map};
-ghost use Rattle.usda_writer.specs.Fields.{is_comment, comment_line, key_line, meta_lines, selection_item, selection_lines, spec_lines, sublayer_lines};
+ghost use Rattle.sdf_values.specs.Print.{print};
+ghost use Rattle.usda_writer.specs.Fields.{line, is_comment, comment_line, key_line, meta_lines, selection_item, selection_lines, spec_lines, sublayer_lines};
 
 use crate::lists::{push_edit, push_list};
 use crate::texts::push_blanks;
@@ -55,22 +56,39 @@ pub fn push_meta(out: &mut String, level: usize, meta: &Meta) -> Result<(), Allo
     push_keys(out, level, meta)
 }
 
+// A variant that is selected, as an entry of a dictionary.
+fn selection_item(set: &Text, variant: &Text) -> Result<DictItem, AllocError>
+    ensures { IfOk result (λ item. item ≡ selection_item (set.now, variant.now)) }
+{
+    Ok(DictItem {
+        key: copy(set)?,
+        ty: DictType::Plain(TypeName {
+            element: ElementType::String,
+            array: false,
+        }),
+        value: Value::Text(copy(variant)?),
+    })
+}
+
 // The variants that are selected, as entries of a dictionary.
 fn selection_items(alloc: Global, selections: &Selections) -> Result<Items<DictItem>, AllocError>
     ensures { IfOk result (λ items. items ≡ map selection_item selections.now) }
 {
     let mut items = Items::new(alloc);
     for (set, variant) in selections.iter() {
-        items.push(DictItem {
-            key: copy(set)?,
-            ty: DictType::Plain(TypeName {
-                element: ElementType::String,
-                array: false,
-            }),
-            value: Value::Text(copy(variant)?),
-        })?;
+        items.push(selection_item(set, variant)?)?;
     }
     Ok(items)
+}
+
+// Appends the word `variants` and a value.
+fn push_variants(out: &mut String, level: usize, value: &Value) -> Result<(), AllocError>
+    ensures { OnOk result (string_bytes out.new ≡ string_bytes out.old ++ line level (codes "variants = " ++ print value.now level)) }
+{
+    push_blanks(out, level)?;
+    out.push_str("variants = ")?;
+    push_value(out, value, level)?;
+    out.push_str("\n")
 }
 
 // Appends the variants that are selected.
@@ -85,12 +103,10 @@ fn push_selections(
         return Ok(());
     }
     let alloc = *out.allocator();
-    let items = selection_items(alloc, selections)?;
-    let value = Value::Dict(items);
-    push_blanks(out, level)?;
-    out.push_str("variants = ")?;
-    push_value(out, &value, level)?;
-    out.push_str("\n")
+    let value = Value::Dict(selection_items(alloc, selections)?);
+    let pushed = push_variants(out, level, &value);
+    drop(value);
+    pushed
 }
 
 /// Appends the metadata of a prim or a variant.

@@ -103,14 +103,8 @@ fn is_identity(offset: LayerOffset) -> bool
 fn push_shift(out: &mut String, offset: LayerOffset) -> Result<(), AllocError>
     ensures { OnOk result (string_bytes out.new ≡ string_bytes out.old ++ unless_identity false offset) }
 {
-    let alloc = *out.allocator();
-    let start = offset.offset.to_string(alloc)?;
-    let scale = offset.scale.to_string(alloc)?;
-    out.push_str(" (offset = ")?;
-    out.push_str(start.as_str())?;
-    out.push_str("; scale = ")?;
-    out.push_str(scale.as_str())?;
-    out.push_str(")")
+    let LayerOffset { offset, scale } = offset;
+    write!(out, " (offset = {offset}; scale = {scale})")
 }
 
 /// Appends an offset behind an item, unless it changes no time.

@@ -27,7 +27,7 @@ fn with_key(alloc: Global, meta: &Meta, name: &Text) -> Result<Meta, AllocError>
     let mut new = copy(meta)?;
     let key = Text::of(alloc, "defaultPrim")?;
     let value = Value::Text(copy(name)?);
-    new.insert(key, value)?;
+    drop(new.insert(key, value)?);
     Ok(new)
 }
 

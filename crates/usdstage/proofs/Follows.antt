@@ -4,7 +4,7 @@ use Rattle.std.specs.Io.KnownBytes.{Appends}
 use Rattle.std.specs.List.{concat}
 use Rattle.std.proofs.lemmas.List.{append-nil}
 use Rattle.composition.specs.Texts.{Text}
-use Rattle.layer_edit.specs.declared.op.Op.{Op}
+use Rattle.edit_batches.specs.declared.op.Op.{Op}
 use Rattle.layer_set.specs.declared.held.Held.{Held}
 use Rattle.session_script.specs.Pieces.{lines_of, AreFed}
 use Rattle.session_script.specs.Reading.{Steps, at_end, steps_from, steps_of}

@@ -57,12 +57,15 @@ fn main(rt: HostRuntime) -> ExitCode {
         Ok(status) => status,
         Err(_) => Status::NoMemory,
     };
-    match status.line(rt.alloc()) {
+    let code = status.code();
+    let line = status.line(rt.alloc());
+    drop(status);
+    match line {
         Ok(line) => {
             if !line.is_empty() {
                 let _ = rt.eprintln(line);
             }
-            ExitCode::from(status.code())
+            ExitCode::from(code)
         }
         Err(_) => {
             // No memory is left for the line.

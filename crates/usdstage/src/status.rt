@@ -115,6 +115,13 @@ fn line_about_script(alloc: Global, number: u64, kind: ScriptKind) -> Result<Str
     Ok(line)
 }
 
+// A line of these words.
+fn plain_line(alloc: Global, words: &str) -> Result<String, AllocError>
+    ensures { IfOk result (λ line. string_bytes line ≡ words.now) }
+{
+    Ok(String::from_str(alloc, words)?)
+}
+
 impl Status {
     ghost use Rattle.usdstage.specs.Statuses.{exit_code, status_line};
 
@@ -141,17 +148,14 @@ impl Status {
     {
         match self {
             Status::Done => Ok(String::new(alloc)),
-            Status::Usage => Ok(String::from_str(alloc, "usdstage: not a command")?),
-            Status::ReadFault => Ok(String::from_str(alloc, "usdstage: reading failed")?),
-            Status::WriteFault => Ok(String::from_str(alloc, "usdstage: writing failed")?),
+            Status::Usage => plain_line(alloc, "usdstage: not a command"),
+            Status::ReadFault => plain_line(alloc, "usdstage: reading failed"),
+            Status::WriteFault => plain_line(alloc, "usdstage: writing failed"),
             Status::RootRefused { name, refusal } => line_about_root(alloc, name, refusal),
             Status::ScriptRefused { line, kind } => line_about_script(alloc, *line, *kind),
-            Status::StageFull => Ok(String::from_str(alloc, "usdstage: more than 262144 paths")?),
-            Status::WorldTooLarge => Ok(String::from_str(
-                alloc,
-                "usdstage: too many layers or bytes",
-            )?),
-            Status::NoMemory => Ok(String::from_str(alloc, "usdstage: out of memory")?),
+            Status::StageFull => plain_line(alloc, "usdstage: more than 262144 paths"),
+            Status::WorldTooLarge => plain_line(alloc, "usdstage: too many layers or bytes"),
+            Status::NoMemory => plain_line(alloc, "usdstage: out of memory"),
         }
     }
 }

@@ -1,6 +1,6 @@
 //! All that the program does.
 
-ghost use Rattle.std.specs.Prelude.{◌≡◌, ◌≢◌, ◌≤◌, ◌↔◌, ◌++◌, ◌⊎◌, ℕ, List, [], map, take, length, Ok, Err, Some, None, IfSome, IfOk, IfErr, string_bytes};
+ghost use Rattle.std.specs.Prelude.{◌≡◌, ◌≢◌, ◌≤◌, ◌↔◌, ◌++◌, ◌⊎◌, ℕ, List, [], map, take, length, Ok, Err, Some, None, false, IfSome, IfOk, IfErr, string_bytes};
 ghost use Rattle.std.specs.Io.KnownBytes.{Appends};
 ghost use Rattle.io_edges.specs.Causes.{IsCounted, Rose};
 ghost use Rattle.io_edges.specs.Stores.{file_named};
@@ -20,8 +20,8 @@ use crate::status::Status;
 use crate::words::{Command, Verb, command_of};
 use asset_names::AssetId;
 use compose_api::StageRefused;
+use edit_batches::Batch;
 use io_edges::{FreeGate, Gate, LayerFiles, Sink, Source, SureFiles, SureSink, SureSource};
-use layer_edit::Batch;
 use layer_load::{LoadFault, Loaded, load_one, load_world};
 use layer_set::World;
 use session_script::{Script, ScriptFault, Step};
@@ -81,7 +81,10 @@ fn open_layer<F: LayerFiles>(
             Ok(reply) => Ok((reply, total)),
             Err(_) => Err(Status::NoMemory),
         },
-        Err(fault) => Err(unopened(fault)),
+        Err(fault) => {
+            drop(id);
+            Err(unopened(fault))
+        }
     }
 }
 
@@ -138,7 +141,11 @@ fn reply_to<F: LayerFiles>(
         Step::Batch(batch) => edit(session, bytes, batch),
         Step::OpenLayer(id) => open_layer(alloc, session, bytes, id, files),
         Step::Publish => publish(session, bytes),
-        Step::Ask(question) => answer(session, bytes, &question),
+        Step::Ask(question) => {
+            let replied = answer(session, bytes, &question);
+            drop(question);
+            replied
+        }
     }
 }
 
@@ -168,7 +175,43 @@ fn carry_out<F: LayerFiles, K: Sink>(
     }
 }
 
-// Carries out the steps of a script, each with its reply before the next is read.
+// Carries out the steps of a script of which nothing was read, each with its reply before the next is read.
+fn run_steps<F: LayerFiles, S: Source, K: Sink>(
+    alloc: Global,
+    session: &mut Session,
+    bytes: u64,
+    steps: &mut Script,
+    files: &mut F,
+    script: &mut S,
+    out: &mut K,
+) -> Status
+    requires { steps.old ≡ record { taken = 0; held = []; ended = false; lines = 0; batch = None; line = 0; stopped = None } }
+    ensures outcome { ByFiles (F.files files.old) (λ held size. IfSome (S.left script.old) (λ all. EndsWith (carried held size session.old bytes (steps_of all)) result (K.taken out.old) (K.taken out.new))) }
+    ensures end { result ≡ Status.Done → BothTold (S.left script.old) (S.left script.new) (λ _ b. b ≡ []) }
+    ensures reads { AreCounted (result ≡ Status.ReadFault) (F.faults files.old) (F.faults files.new) (S.faults script.old) (S.faults script.new) }
+    ensures script_fault { result ≡ Status.ReadFault → (Rose (F.faults files.old) (F.faults files.new) → ⊥) → ByFiles (F.files files.old) (λ held size. BothTold (S.left script.old) (S.left script.new)
+        (λ all left. RepliesToLines (λ lines. carried held size session.old bytes (steps_of lines)) all left (K.taken out.old) (K.taken out.new))) }
+    ensures writes { IsCounted (result ≡ Status.WriteFault) (K.faults out.old) (K.faults out.new) }
+    ensures kinds { result ≢ Status.Usage }
+{
+    let mut bytes = bytes;
+    loop {
+        match steps.next(script) {
+            Ok(None) => return Status::Done,
+            Ok(Some(step)) => match carry_out(alloc, session, bytes, step, files, out) {
+                Ok(total) => bytes = total,
+                Err(status) => return status,
+            },
+            Err(ScriptFault::Refused { line, kind }) => {
+                return Status::ScriptRefused { line, kind };
+            }
+            Err(ScriptFault::ReadFault) => return Status::ReadFault,
+            Err(ScriptFault::NoMemory) => return Status::NoMemory,
+        }
+    }
+}
+
+// Carries out the steps of a script on a session, which ends with them.
 fn run_script<F: LayerFiles, S: Source, K: Sink>(
     alloc: Global,
     session: Session,
@@ -186,22 +229,10 @@ fn run_script<F: LayerFiles, S: Source, K: Sink>(
     ensures kinds { result ≢ Status.Usage }
 {
     let mut session = session;
-    let mut bytes = bytes;
     let mut steps = Script::new(alloc);
-    loop {
-        match steps.next(script) {
-            Ok(None) => return Status::Done,
-            Ok(Some(step)) => match carry_out(alloc, &mut session, bytes, step, files, out) {
-                Ok(total) => bytes = total,
-                Err(status) => return status,
-            },
-            Err(ScriptFault::Refused { line, kind }) => {
-                return Status::ScriptRefused { line, kind };
-            }
-            Err(ScriptFault::ReadFault) => return Status::ReadFault,
-            Err(ScriptFault::NoMemory) => return Status::NoMemory,
-        }
-    }
+    let status = run_steps(alloc, &mut session, bytes, &mut steps, files, script, out);
+    drop((session, steps));
+    status
 }
 
 // Opens a session on a world, and writes the reply to the opening.
@@ -219,8 +250,14 @@ fn open_session<K: Sink>(alloc: Global, world: World, out: &mut K) -> Result<Ses
     };
     match write_all(out, &reply) {
         Written::Whole => Ok(session),
-        Written::Failed => Err(Status::WriteFault),
-        Written::NoMemory => Err(Status::NoMemory),
+        Written::Failed => {
+            drop(session);
+            Err(Status::WriteFault)
+        }
+        Written::NoMemory => {
+            drop(session);
+            Err(Status::NoMemory)
+        }
     }
 }
 
@@ -275,7 +312,11 @@ fn run_command<F: LayerFiles, S: Source, K: Sink>(
         Err(fault) => return unopened(fault),
     };
     match verb {
-        Verb::Flatten => write_flat(alloc, &loaded.world, out),
+        Verb::Flatten => {
+            let status = write_flat(alloc, &loaded.world, out);
+            drop(loaded);
+            status
+        }
         Verb::Session => run_session(alloc, loaded, files, script, out),
     }
 }

@@ -73,15 +73,27 @@ fn with_root(alloc: Global, draft: Draft, word: &str) -> Result<Option<Draft>, A
     ensures { IfOk result (λ next. next ≡ with_root draft word.now) }
 {
     if draft.root.is_some() {
+        drop(draft);
         return Ok(None);
     }
-    match name_of(alloc, word)? {
-        Some(name) => Ok(Some(Draft {
-            root: Some(name),
-            session: draft.session,
-            wants_layer: false,
-        })),
-        None => Ok(None),
+    match name_of(alloc, word) {
+        Ok(Some(name)) => {
+            let Draft { root, session, .. } = draft;
+            drop(root);
+            Ok(Some(Draft {
+                root: Some(name),
+                session,
+                wants_layer: false,
+            }))
+        }
+        Ok(None) => {
+            drop(draft);
+            Ok(None)
+        }
+        Err(error) => {
+            drop(draft);
+            Err(error)
+        }
     }
 }
 
@@ -90,15 +102,27 @@ fn with_session(alloc: Global, draft: Draft, word: &str) -> Result<Option<Draft>
     ensures { IfOk result (λ next. next ≡ with_session draft word.now) }
 {
     if draft.session.is_some() {
+        drop(draft);
         return Ok(None);
     }
-    match name_of(alloc, word)? {
-        Some(name) => Ok(Some(Draft {
-            root: draft.root,
-            session: Some(name),
-            wants_layer: false,
-        })),
-        None => Ok(None),
+    match name_of(alloc, word) {
+        Ok(Some(name)) => {
+            let Draft { root, session, .. } = draft;
+            drop(session);
+            Ok(Some(Draft {
+                root,
+                session: Some(name),
+                wants_layer: false,
+            }))
+        }
+        Ok(None) => {
+            drop(draft);
+            Ok(None)
+        }
+        Err(error) => {
+            drop(draft);
+            Err(error)
+        }
     }
 }
 
@@ -106,14 +130,17 @@ fn with_session(alloc: Global, draft: Draft, word: &str) -> Result<Option<Draft>
 fn wanting(draft: Draft) -> Option<Draft>
     ensures { result ≡ wanting draft }
 {
-    match draft.session {
-        Some(_) => None,
-        None => Some(Draft {
-            root: draft.root,
-            session: None,
-            wants_layer: true,
-        }),
+    if draft.session.is_some() {
+        drop(draft);
+        return None;
     }
+    let Draft { root, session, .. } = draft;
+    drop(session);
+    Some(Draft {
+        root,
+        session: None,
+        wants_layer: true,
+    })
 }
 
 // An option, or the root.
@@ -127,6 +154,7 @@ fn with_word(alloc: Global, draft: Draft, word: &str) -> Result<Option<Draft>, A
         return with_session(alloc, draft, name);
     }
     if begins_with_dash(word.as_bytes()) {
+        drop(draft);
         return Ok(None);
     }
     with_root(alloc, draft, word)
@@ -141,6 +169,7 @@ fn take_word(alloc: Global, draft: Draft, word: &str) -> Result<Option<Draft>, A
         return with_word(alloc, draft, word);
     }
     if begins_with_dash(word.as_bytes()) {
+        drop(draft);
         return Ok(None);
     }
     with_session(alloc, draft, word)
@@ -169,21 +198,21 @@ fn take_words(alloc: Global, words: &[String]) -> Result<Option<Draft>, AllocErr
 fn finished(verb: Verb, draft: Draft) -> Option<Command>
     ensures { result ≡ finished verb draft }
 {
-    let Draft {
-        root,
-        session,
-        wants_layer,
-    } = draft;
-    if wants_layer {
+    if draft.wants_layer {
+        drop(draft);
         return None;
     }
+    let Draft { root, session, .. } = draft;
     match root {
         Some(root) => Some(Command {
             verb,
             root,
             session,
         }),
-        None => None,
+        None => {
+            drop(session);
+            None
+        }
     }
 }
 

@@ -2,6 +2,8 @@ ghost use Rattle.std.specs.Prelude.{◌≡◌, ◌++◌, IfOk, OnOk};
 ghost use Rattle.layer_set.specs.LookUps.{look_ups};
 ghost use Rattle.prim_opinions.specs.Counting.{counted};
 ghost use Rattle.prim_opinions.specs.Gathering.{said_on};
+ghost use Rattle.composition.specs.Values.{given};
+ghost use Rattle.value_resolve.specs.Deciding.{decided_next};
 ghost use Rattle.value_resolve.specs.Resolving.{fault_if, default_by, samples_by, faults_by};
 
 use crate::decision::Decision;
@@ -13,6 +15,7 @@ use prim_view::{PrimFault, Site, TimeFault};
 use sdf_values::Value;
 use spec_properties::Samples;
 use std::alloc::{AllocError, Global};
+use std::mem;
 
 /// The values of an attribute on the stage.
 #[derive(Debug, Drop)]
@@ -44,6 +47,31 @@ fn push_fault(
     Ok(())
 }
 
+/// Lets an opinion decide what is open, and appends its fault.
+fn take_opinion(
+    alloc: Global,
+    name: &Text,
+    opinion: &PropertyAt<'_, '_, '_>,
+    decision: &mut Decision,
+    faults: &mut Items<PrimFault>,
+) -> Result<(), AllocError>
+    ensures decision { OnOk result (decision.new ≡ decided_next decision.old (given opinion.now)) }
+    ensures faults { OnOk result (faults.new ≡ faults.old ++ fault_if name.now opinion.now.said (given opinion.now).left_out) }
+{
+    let given = given(alloc, opinion)?;
+    match push_fault(faults, name, opinion.said(), given.left_out) {
+        Ok(()) => {
+            let before = mem::replace(decision, Decision::open(alloc));
+            drop(mem::replace(decision, before.and_then(given)));
+            Ok(())
+        }
+        Err(error) => {
+            drop(given);
+            Err(error)
+        }
+    }
+}
+
 /// The values of an attribute of this name by the specs that count. Specs that are relationships give nothing.
 ///
 /// # Errors
@@ -61,9 +89,7 @@ pub fn resolve_attr_by(
     let mut decision = Decision::open(alloc);
     let mut faults = Items::new(alloc);
     for opinion in specs {
-        let given = given(alloc, opinion)?;
-        push_fault(&mut faults, name, opinion.said(), given.left_out)?;
-        decision = decision.and_then(given);
+        take_opinion(alloc, name, opinion, &mut decision, &mut faults)?;
     }
     let Decision {
         default,

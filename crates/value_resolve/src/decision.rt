@@ -56,7 +56,10 @@ fn first_of(stronger: Option<Value>, weaker: Option<Value>) -> Option<Value>
     ensures { result ≡ or_else stronger weaker }
 {
     match stronger {
-        Some(value) => Some(value),
+        Some(value) => {
+            drop(weaker);
+            Some(value)
+        }
         None => weaker,
     }
 }

@@ -75,10 +75,10 @@ fn mapped_values(
 {
     let mut kept = Items::with_room_of(items)?;
     for item in items.as_slice() {
-        let Some(value) = mapped(offset, item)? else {
-            return Ok(None);
-        };
-        kept.push(value)?;
+        match mapped(offset, item)? {
+            Some(value) => kept.push(value)?,
+            None => return Ok(None),
+        }
     }
     Ok(Some(kept))
 }
@@ -92,10 +92,10 @@ fn mapped_dict(
 {
     let mut kept = Items::with_room_of(items)?;
     for item in items.as_slice() {
-        let Some(item) = mapped_entry(offset, item)? else {
-            return Ok(None);
-        };
-        kept.push(item)?;
+        match mapped_entry(offset, item)? {
+            Some(item) => kept.push(item)?,
+            None => return Ok(None),
+        }
     }
     Ok(Some(kept))
 }
@@ -104,15 +104,15 @@ fn mapped_dict(
 fn mapped_entry(offset: StageOffset, item: &DictItem) -> Result<Option<DictItem>, AllocError>
     ensures { IfOk result (λ kept. kept ≡ mapped_item (record { key = (out-DictItem item.now).key; ty = (out-DictItem item.now).ty; value = mapped_value offset (out-DictItem item.now).value })) }
 {
-    let Some(value) = mapped(offset, &item.value)? else {
-        return Ok(None);
-    };
     let key = copy(&item.key)?;
-    Ok(Some(DictItem {
-        key,
-        ty: item.ty,
-        value,
-    }))
+    match mapped(offset, &item.value)? {
+        Some(value) => Ok(Some(DictItem {
+            key,
+            ty: item.ty,
+            value,
+        })),
+        None => Ok(None),
+    }
 }
 
 /// A value as it is on the stage: with its times mapped, if it has the type `timecode`; none where one leaves the range.

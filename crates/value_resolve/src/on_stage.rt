@@ -50,8 +50,8 @@ fn given_by(
 ) -> Result<OnStage, AllocError>
     ensures { IfOk result (λ g. gives g ≡ given_by times offset default.now samples.now) }
 {
-    let value = default_on_stage(times, offset, default)?;
     let kept = samples_on_stage(alloc, times, offset, samples)?;
+    let value = default_on_stage(times, offset, default)?;
     let left_out = (default.is_some() && value.is_none()) || kept.lost;
     Ok(OnStage {
         default: value,

@@ -43,7 +43,7 @@ fn put(kept: &mut Samples, sample: Option<(TimeCode, Value)>) -> Result<bool, Al
 {
     match sample {
         Some((time, value)) => {
-            kept.insert(time, value)?;
+            drop(kept.insert(time, value)?);
             Ok(false)
         }
         None => Ok(true),

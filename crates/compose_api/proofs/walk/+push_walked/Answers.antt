@@ -14,22 +14,22 @@ returns-then-levels-eq0-clause-items g t c = let m = g.C.Composer in let e = wal
 pub returns-in-None : goal.returns-in-None
 returns-in-None g t c = let m = g.C.Composer in
     let rest = flat_map (walked m.entry_of m.listed (c.args.levels - 1) c.args.world.now) (take c.loop-i.i (m.listed c.args.place (m.entry_of c.args.world.now c.args.place))) in
-    let pushed : c.push.new.self ≡ c.args.items.now ++ (c.in_ok-copy.field-0, c.in_ok-entry.entry) ∷ [] = c.in_ok-push.ensures.ok in
-    let here = item_kept c.loop-i.items c.push.new.self c.args.items.now rest (c.in_ok-copy.field-0, c.in_ok-entry.entry) c.len-at.result c.len-at.ensures c.loop-i.invariant pushed in
+    let pushed : c.push.new.self ≡ c.args.items.now ++ (c.args.place, c.in_ok-entry.entry) ∷ [] = c.in_ok-push.ensures.ok in
+    let here = item_kept c.loop-i.items c.push.new.self c.args.items.now rest (c.args.place, c.in_ok-entry.entry) c.len-at.result c.len-at.ensures c.loop-i.invariant pushed in
     absurd (is_there _ _ here (sym c.get.ensures.value ∙ ap option_copied c.in-None.is))
 
 pub child_at-requires : goal.child_at-requires
 child_at-requires g t c = let m = g.C.Composer in
-    let first : g.row.C-Place.Denot × g.row.C-Entry.Denot = (c.in_ok-copy.field-0, c.in_ok-entry.entry) in
+    let first : g.row.C-Place.Denot × g.row.C-Entry.Denot = (c.args.place, c.in_ok-entry.entry) in
     let rest = flat_map (walked m.entry_of m.listed (c.args.levels - 1) c.args.world.now) (take c.loop-i.i (m.listed c.args.place (m.entry_of c.args.world.now c.args.place))) in
     let pushed : c.push.new.self ≡ c.args.items.now ++ first ∷ [] = c.in_ok-push.ensures.ok in
     let here = item_kept c.loop-i.items c.push.new.self c.args.items.now rest first c.len-at.result c.len-at.ensures c.loop-i.invariant pushed in
     let same = same_item _ c.in-Some.item.now first (sym (ap option_copied c.in-Some.is) ∙ c.get.ensures.value) here in
-    count_bounds m.listed c.args.place c.in-Some.item.now first c.loop-i.i c.child_count-count.result same (c.child_count-count.ensures c.args.place) c.loop-i-test.true
+    count_bounds m.listed c.in-Some.item.now first c.loop-i.i c.child_count-count.result same (c.child_count-count.ensures c.args.place) c.loop-i-test.true
 
 pub push_walked-requires-after_bounds : goal.push_walked-requires-after_bounds
 push_walked-requires-after_bounds g t c κs within = let m = g.C.Composer in
-    let first : g.row.C-Place.Denot × g.row.C-Entry.Denot = (c.in_ok-copy.field-0, c.in_ok-entry.entry) in
+    let first : g.row.C-Place.Denot × g.row.C-Entry.Denot = (c.args.place, c.in_ok-entry.entry) in
     let kids = m.listed c.args.place (m.entry_of c.args.world.now c.args.place) in
     let rest = flat_map (walked m.entry_of m.listed (c.args.levels - 1) c.args.world.now) (take c.loop-i.i kids) in
     let pushed : c.push.new.self ≡ c.args.items.now ++ first ∷ [] = c.in_ok-push.ensures.ok in
@@ -37,38 +37,37 @@ push_walked-requires-after_bounds g t c κs within = let m = g.C.Composer in
     let entry : first.1 ≡ m.entry_of c.args.world.now c.args.place = c.in_ok-entry.ensures in
     let laws = g.met.C.Composer g.world.𝓛 g.world.𝓜 g.world.𝓡 ((λ s x. x), (λ x. x), (λ x. x), λ x. x) in
     let same = same_item _ c.in-Some.item.now first (sym (ap option_copied c.in-Some.is) ∙ c.get.ensures.value) here in
-    let found = child_found m.listed c.args.place c.in_ok-child-in-Some.child c.in-Some.item.now first (m.entry_of c.args.world.now c.args.place) c.loop-i.i same entry c.in_ok-child-in-Some.ensures in
+    let found = child_found m.listed c.in_ok-child-in-Some.child c.in-Some.item.now first (m.entry_of c.args.world.now c.args.place) c.loop-i.i same entry c.in_ok-child-in-Some.ensures in
     let above = laws.listed_are_below c.args.world.now c.args.place c.in_ok-child-in-Some.child (child_is_listed kids c.loop-i.i c.in_ok-child-in-Some.child found) in
     parent_told (m.entry_of c.args.world.now) m.parent_of _ c.args.place c.in_ok-child-in-Some.child first here entry above.0
 
 pub loop-i-preserved : goal.loop-i-preserved
 loop-i-preserved g t c = let m = g.C.Composer in
     let f = walked m.entry_of m.listed (c.args.levels - 1) c.args.world.now in
-    let first : g.row.C-Place.Denot × g.row.C-Entry.Denot = (c.in_ok-copy.field-0, c.in_ok-entry.entry) in
+    let first : g.row.C-Place.Denot × g.row.C-Entry.Denot = (c.args.place, c.in_ok-entry.entry) in
     let kids = m.listed c.args.place (m.entry_of c.args.world.now c.args.place) in
     let rest = flat_map f (take c.loop-i.i kids) in
     let pushed : c.push.new.self ≡ c.args.items.now ++ first ∷ [] = c.in_ok-push.ensures.ok in
     let here = item_kept c.loop-i.items c.push.new.self c.args.items.now rest first c.len-at.result c.len-at.ensures c.loop-i.invariant pushed in
     let entry : first.1 ≡ m.entry_of c.args.world.now c.args.place = c.in_ok-entry.ensures in
     let same = same_item _ c.in-Some.item.now first (sym (ap option_copied c.in-Some.is) ∙ c.get.ensures.value) here in
-    let found = child_found m.listed c.args.place c.in_ok-child-in-Some.child c.in-Some.item.now first (m.entry_of c.args.world.now c.args.place) c.loop-i.i same entry c.in_ok-child-in-Some.ensures in
+    let found = child_found m.listed c.in_ok-child-in-Some.child c.in-Some.item.now first (m.entry_of c.args.world.now c.args.place) c.loop-i.i same entry c.in_ok-child-in-Some.ensures in
     let after : c.push_walked.new.items ≡ c.loop-i.items ++ f c.in_ok-child-in-Some.child = c.in_ok-push_walked.ensures.items in
     walk_goes_on f c.loop-i.items c.push.new.self c.push_walked.new.items kids c.loop-i.i c.in_ok-child-in-Some.child c.loop-i.invariant after found
 
 pub returns-clause-items : goal.returns-clause-items
 returns-clause-items g t c = let m = g.C.Composer in
     let f = walked m.entry_of m.listed (c.args.levels - 1) c.args.world.now in
-    let first : g.row.C-Place.Denot × g.row.C-Entry.Denot = (c.in_ok-copy.field-0, c.in_ok-entry.entry) in
+    let first : g.row.C-Place.Denot × g.row.C-Entry.Denot = (c.args.place, c.in_ok-entry.entry) in
     let kids = m.listed c.args.place (m.entry_of c.args.world.now c.args.place) in
     let entry : c.in_ok-entry.entry ≡ m.entry_of c.args.world.now c.args.place = c.in_ok-entry.ensures in
-    let place : c.in_ok-copy.field-0 ≡ c.args.place = c.in_ok-copy.ensures in
     let pushed : c.push.new.self ≡ c.args.items.now ++ first ∷ [] = c.in_ok-push.ensures.ok in
     let count = c.child_count-count.ensures c.args.place in
     let past = c.loop-i-test.false in
     let unfolds = walked-some m.entry_of m.listed c.args.levels c.args.world.now c.args.place c.if-levels-eq0.false in
     let all = all_listed kids c.child_count-count.result c.loop-i.i (count ∙ ap (λ e. length (m.listed c.args.place e)) entry) past in
     let ends = walk_ends f c.loop-i.items c.push.new.self c.args.items.now first kids c.loop-i.i c.loop-i.invariant pushed all in
-    let same : first ≡ (c.args.place, m.entry_of c.args.world.now c.args.place) = cc (place, entry) in
+    let same : first ≡ (c.args.place, m.entry_of c.args.world.now c.args.place) = ap (λ e. (c.args.place, e)) entry in
     ends ∙ (ap (λ x. c.args.items.now ++ x ∷ flat_map f kids) same ∙ sym (ap (λ x. c.args.items.now ++ x) unfolds))
 
 pub returns-then-len-most-clause-full : goal.returns-then-len-most-clause-full
@@ -82,16 +81,15 @@ returns-then-len-most-clause-full g t c = let m = g.C.Composer in
 pub returns-in_err-push_walked-clause-full : goal.returns-in_err-push_walked-clause-full
 returns-in_err-push_walked-clause-full g t c = let m = g.C.Composer in
     let f = walked m.entry_of m.listed (c.args.levels - 1) c.args.world.now in
-    let first : g.row.C-Place.Denot × g.row.C-Entry.Denot = (c.in_ok-copy.field-0, c.in_ok-entry.entry) in
+    let first : g.row.C-Place.Denot × g.row.C-Entry.Denot = (c.args.place, c.in_ok-entry.entry) in
     let kids = m.listed c.args.place (m.entry_of c.args.world.now c.args.place) in
     let rest = flat_map f (take c.loop-i.i kids) in
     let entry : c.in_ok-entry.entry ≡ m.entry_of c.args.world.now c.args.place = c.in_ok-entry.ensures in
-    let place : c.in_ok-copy.field-0 ≡ c.args.place = c.in_ok-copy.ensures in
     let pushed : c.push.new.self ≡ c.args.items.now ++ first ∷ [] = c.in_ok-push.ensures.ok in
     let here = item_kept c.loop-i.items c.push.new.self c.args.items.now rest first c.len-at.result c.len-at.ensures c.loop-i.invariant pushed in
     let same = same_item _ c.in-Some.item.now first (sym (ap option_copied c.in-Some.is) ∙ c.get.ensures.value) here in
-    let found = child_found m.listed c.args.place c.in_ok-child-in-Some.child c.in-Some.item.now first (m.entry_of c.args.world.now c.args.place) c.loop-i.i same entry c.in_ok-child-in-Some.ensures in
+    let found = child_found m.listed c.in_ok-child-in-Some.child c.in-Some.item.now first (m.entry_of c.args.world.now c.args.place) c.loop-i.i same entry c.in_ok-child-in-Some.ensures in
     let unfolds = walked-some m.entry_of m.listed c.args.levels c.args.world.now c.args.place c.if-levels-eq0.false in
-    let told : first ≡ (c.args.place, m.entry_of c.args.world.now c.args.place) = cc (place, entry) in
+    let told : first ≡ (c.args.place, m.entry_of c.args.world.now c.args.place) = ap (λ e. (c.args.place, e)) entry in
     let full : c.push_walked.result ≡ Err StageRefused.Full → c.args.most < length (c.loop-i.items ++ f c.in_ok-child-in-Some.child) = c.push_walked.ensures.full in
     λ e. rw unfolds (rw (← told) (too_long_below f c.loop-i.items c.push.new.self c.args.items.now first kids c.loop-i.i c.args.most c.in_ok-child-in-Some.child c.loop-i.invariant pushed found (full (search rules))))

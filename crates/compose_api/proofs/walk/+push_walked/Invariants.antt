@@ -8,4 +8,4 @@ decreases-push_walked g l = l.levels
 
 abbrev pub invariant-loop-i : goal.invariant-loop-i
 invariant-loop-i g l = let c = g.C.Composer in
-    l.items ≡ l.initial.items ++ flat_map (walked c.entry_of c.listed (l.levels - 1) l.world) (take l.i (c.listed l.place (c.entry_of l.world l.place)))
+    l.items ≡ l.initial.items ++ flat_map (walked c.entry_of c.listed (l.levels - 1) l.world) (take l.i (c.listed l.fn.place (c.entry_of l.world l.fn.place)))

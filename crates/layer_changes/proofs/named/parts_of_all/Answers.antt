@@ -1,6 +1,6 @@
 use Rattle.std.proofs.Common.{sym, subst, take, List}
 use Rattle.std.specs.List.{All, Contains}
-use Rattle.layer_edit.specs.declared.op.Op.{Op}
+use Rattle.edit_batches.specs.declared.op.Op.{Op}
 use Rattle.layer_changes.specs.Parts.{parts_of}
 use Rattle.layer_changes.specs.declared.part.Part.{Part}
 use Rattle.layer_changes.proofs.Walks.{more_hold, all_hold, ops_kept}

@@ -7,9 +7,9 @@ pub returns-in_ok-spec-in-Some : goal.returns-in_ok-spec-in-Some
 returns-in_ok-spec-in-Some c =
     if_done c.put_spec.result
     (changed_put c.args.path.now (spec_changed c.args.change) c.args.layer.now c.take_spec.new.layer c.put_spec.new.layer c.in-Some.spec c.in_ok-spec-in-Some.spec
-    (sym c.in-Some.is ∙ c.in_ok-spec.ensures.taken) c.in_ok-spec.ensures.left c.in_ok-spec.ensures.head c.in_ok-spec-in-Some.ensures)
+    (sym c.in-Some.is ∙ c.in-Ok.ensures.taken) c.in-Ok.ensures.left c.in-Ok.ensures.head c.in_ok-spec-in-Some.ensures)
     c.put_spec.ensures
 
 pub returns-in-None : goal.returns-in-None
 returns-in-None c =
-    unchanged c.args.path.now (spec_changed c.args.change) c.args.layer.now c.take_spec.new.layer (sym c.in-None.is ∙ c.in_ok-spec.ensures.taken) (c.in_ok-spec.ensures.none c.in-None.is)
+    unchanged c.args.path.now (spec_changed c.args.change) c.args.layer.now c.take_spec.new.layer (sym c.in-None.is ∙ c.in-Ok.ensures.taken) (c.in-Ok.ensures.none c.in-None.is)

@@ -1,4 +1,5 @@
 use Rattle.std.proofs.Common.{◌≡◌, ◌∙◌, sym, ap, refl, arith, ◌<◌, ◌+◌, ◌-◌, List, drop}
+use Rattle.prim_nodes.specs.declared.arcs.Branch.{Branch}
 use Rattle.composition.specs.Trees.{size, lifted_branches}
 use Rattle.prim_trees.specs.declared.tree.Child.{Child}
 use Rattle.composition.specs.Paths.{limits}
@@ -24,8 +25,8 @@ child_at-returns-then-depth-eq0 t c =
 pub child_at-returns : goal.child_at-returns
 child_at-returns t c =
     child_result limits (said limits (look_ups c.args.world.now)) (look_ups c.args.world.now) c.args.depth c.args.steps c.args.room 4096 c.path_length-count.result c.args.node.now
-    c.in_ok-target.target c.in_ok-child.child c.in_ok-above.above c.args.branch.now c.same_kind.result c.tree_at-2.result c.same_kind.ensures c.if-same_kind.false (omega arith) refl
-    c.in_ok-target.ensures c.path_length-count.ensures c.in_ok-above.ensures c.in_ok-child.ensures c.tree_at-2.ensures
+    c.in_ok-target.target c.in_ok-child.child c.in-Ok.above c.args.branch.now c.same_kind.result c.tree_at-2.result c.same_kind.ensures c.if-same_kind.false (omega arith) refl
+    c.in_ok-target.ensures c.path_length-count.ensures c.in-Ok.ensures c.in_ok-child.ensures c.tree_at-2.ensures
 
 pub frames_at-returns-then-count-eq0 : goal.frames_at-returns-then-count-eq0
 frames_at-returns-then-count-eq0 t c =
@@ -34,13 +35,13 @@ frames_at-returns-then-count-eq0 t c =
 pub frames_at-returns : goal.frames_at-returns
 frames_at-returns t c =
     frames_result limits (said limits (look_ups c.args.world.now)) c.args.depth c.args.count 16 (loads (look_ups c.args.world.now) c.args.payloads) c.args.node.now c.in_ok-there.there
-    c.in_ok-above.above c.in_ok-path.path c.first_frame-first.result c.in_ok-frame.frame c.in_ok-on.on c.with_first.result (omega arith) refl c.in_ok-above.ensures c.in_ok-path.ensures
-    c.in_ok-on.ensures c.first_frame-first.ensures c.in_ok-there.ensures c.in_ok-frame.ensures c.with_first.ensures
+    c.in_ok-above.above c.in_ok-path.path c.first_frame-first.result c.in-Ok.frame c.in_ok-on.on c.with_first.result (omega arith) refl c.in_ok-above.ensures c.in_ok-path.ensures
+    c.in_ok-on.ensures c.first_frame-first.ensures c.in_ok-there.ensures c.in-Ok.ensures c.with_first.ensures
 
 pub round_at-returns : goal.round_at-returns
 round_at-returns t c =
     round_result limits (said limits (look_ups c.args.world.now)) c.args.depth 4096 c.args.node.now c.in_ok-there.there c.args.above.now c.args.frame (meant c.in_ok-tree.tree)
-    c.next_frame.result refl c.in_ok-there.ensures c.in_ok-tree.ensures c.next_frame.ensures
+    c.next_frame-next.result refl c.in_ok-there.ensures c.in_ok-tree.ensures c.next_frame-next.ensures
 
 pub rounds_at-returns-then-rounds-eq0 : goal.rounds_at-returns-then-rounds-eq0
 rounds_at-returns-then-rounds-eq0 t c =
@@ -58,18 +59,27 @@ rounds_at-returns t c =
 
 pub tree_at-returns-then-steps-eq0 : goal.tree_at-returns-then-steps-eq0
 tree_at-returns-then-steps-eq0 t c =
-    tree_end limits (said limits (look_ups c.args.world.now)) c.args.depth c.args.steps c.args.room c.args.node c.in_ok-here.here (meant c.cut_tree.result) c.in_ok-here.ensures
+    tree_end limits (said limits (look_ups c.args.world.now)) c.args.depth c.args.steps c.args.room c.args.node c.in-Ok.here (meant c.cut_tree.result) c.in-Ok.ensures
     c.if-steps-eq0.true c.cut_tree.ensures
 
-pub tree_at-returns : goal.tree_at-returns
-tree_at-returns t c =
-    tree_made limits (said limits (look_ups c.args.world.now)) c.args.depth c.args.steps c.args.room c.saturating_sub.result c.in_ok-own.own.room c.args.node c.in_ok-here.here
-    (trees_of c.in_ok-own.own.children c.in_ok-own.own.is_cut) (trees_of c.in_ok-lifted.lifted.children c.in_ok-lifted.lifted.is_cut) c.as_slice.result.now c.as_slice-3.result.now
-    (meant c.joined_tree.result) (omega arith) c.in_ok-here.ensures c.saturating_sub.ensures (c.as_slice.ensures ∙ c.in_ok-arcs.ensures) c.in_ok-own.ensures.trees
-    c.in_ok-own.ensures.room
-    (c.as_slice-3.ensures ∙ c.in_ok-arcs-2.ensures c.in_ok-own.own.is_cut
-    ∙ ap (λ (cs : List Child). lifted_branches limits c.args.node (trees_of cs c.in_ok-own.own.is_cut)) c.as_slice-2.ensures)
-    c.in_ok-lifted.ensures.trees c.joined_tree.ensures
+pub tree_at-returns-in-Ok-grown_at : goal.tree_at-returns-in-Ok-grown_at
+tree_at-returns-in-Ok-grown_at t c =
+    let both = c.in-Ok-grown_at.grown in
+    tree_made limits (said limits (look_ups c.args.world.now)) c.args.depth c.args.steps c.args.room c.saturating_sub-room.result _ c.args.node c.in-Ok.here
+    (trees_of both.0.children both.0.is_cut) (trees_of both.1.children both.1.is_cut) _ _
+    (meant c.joined_tree.result) (omega arith) c.in-Ok.ensures c.saturating_sub-room.ensures refl c.in-Ok-grown_at.ensures.own refl refl c.in-Ok-grown_at.ensures.lifted c.joined_tree.ensures
+
+pub grown_at-returns-clause-own : goal.grown_at-returns-clause-own
+grown_at-returns-clause-own t c =
+    c.in_ok-own.ensures.trees
+    ∙ ap (λ (bs : List Branch). grown_below limits (said limits (look_ups c.args.world.now)) c.args.depth c.args.steps c.args.node.now c.args.room bs) (c.as_slice.ensures ∙ c.in_ok-arcs.ensures)
+
+pub grown_at-returns-clause-lifted : goal.grown_at-returns-clause-lifted
+grown_at-returns-clause-lifted t c =
+    let more = c.as_slice-3.ensures ∙ c.in_ok-arcs-2.ensures c.in_ok-own.own.is_cut
+    ∙ ap (λ (cs : List Child). lifted_branches limits c.args.node.now (trees_of cs c.in_ok-own.own.is_cut)) c.as_slice-2.ensures in
+    c.in_ok-lifted.ensures.trees
+    ∙ (λ i. grown_below limits (said limits (look_ups c.args.world.now)) c.args.depth c.args.steps c.args.node.now (c.in_ok-own.ensures.room i) (more i))
 
 pub children_at-returns-then-left-eq0-clause-trees : goal.children_at-returns-then-left-eq0-clause-trees
 children_at-returns-then-left-eq0-clause-trees t c =

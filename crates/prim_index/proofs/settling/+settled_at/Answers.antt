@@ -14,21 +14,21 @@ returns-then-rounds-eq0-clause-frame t c = rounds_end limits (said limits (look_
 pub returns-then-not-settled-clause-frame : goal.returns-then-not-settled-clause-frame
 returns-then-not-settled-clause-frame t c =
     IfOk-weaker c.settled_at.result _ _
-    (λ s goes. frame_moved limits (said limits (look_ups c.args.world.now)) 64 c.args.rounds 4096 c.choice_count-count.result c.args.node.now c.args.above.now c.args.frame c.in_ok-next.next s.frame
-    (meant c.in_ok-tree.tree) c.is_settled-settled.result (omega arith) refl c.in_ok-tree.ensures c.in_ok-next.ensures c.choice_count-count.ensures c.is_settled-settled.ensures c.if-not-settled.true goes)
+    (λ s goes. frame_moved limits (said limits (look_ups c.args.world.now)) 64 c.args.rounds 4096 c.choice_count-count.result c.args.node.now c.args.above.now c.args.frame c.in-Ok.next s.frame
+    (meant c.in_ok-tree.tree) c.is_settled-settled.result (omega arith) refl c.in_ok-tree.ensures c.in-Ok.ensures c.choice_count-count.ensures c.is_settled-settled.ensures c.if-not-settled.true goes)
     c.settled_at.ensures.frame
 
 pub returns-then-next-clause-frame : goal.returns-then-next-clause-frame
 returns-then-next-clause-frame t c =
-    frame_settled limits (said limits (look_ups c.args.world.now)) 64 c.args.rounds 4096 c.choice_count-count.result c.args.node.now c.args.above.now c.args.frame c.in_ok-next.next (meant c.in_ok-tree.tree)
-    c.is_settled-settled.result (omega arith) refl c.in_ok-tree.ensures c.in_ok-next.ensures c.choice_count-count.ensures c.is_settled-settled.ensures c.if-not-settled.false
+    frame_settled limits (said limits (look_ups c.args.world.now)) 64 c.args.rounds 4096 c.choice_count-count.result c.args.node.now c.args.above.now c.args.frame c.in-Ok.next (meant c.in_ok-tree.tree)
+    c.is_settled-settled.result (omega arith) refl c.in_ok-tree.ensures c.in-Ok.ensures c.choice_count-count.ensures c.is_settled-settled.ensures c.if-not-settled.false
 
 pub returns-clause-frame : goal.returns-clause-frame
 returns-clause-frame t c =
-    frame_settled limits (said limits (look_ups c.args.world.now)) 64 c.args.rounds 4096 c.choice_count-count.result c.args.node.now c.args.above.now c.args.frame c.in_ok-next.next (meant c.in_ok-tree.tree)
-    c.is_settled-settled.result (omega arith) refl c.in_ok-tree.ensures c.in_ok-next.ensures c.choice_count-count.ensures c.is_settled-settled.ensures c.if-not-settled.false
+    frame_settled limits (said limits (look_ups c.args.world.now)) 64 c.args.rounds 4096 c.choice_count-count.result c.args.node.now c.args.above.now c.args.frame c.in-Ok.next (meant c.in_ok-tree.tree)
+    c.is_settled-settled.result (omega arith) refl c.in_ok-tree.ensures c.in-Ok.ensures c.choice_count-count.ensures c.is_settled-settled.ensures c.if-not-settled.false
 
 pub returns-clause-tree : goal.returns-clause-tree
 returns-clause-tree t c =
-    settled_tree limits (said limits (look_ups c.args.world.now)) 64 4096 c.choice_count-count.result c.args.node.now c.args.above.now c.args.frame c.in_ok-next.next (meant c.in_ok-tree.tree)
-    c.is_settled-settled.result c.in_ok-tree.ensures c.in_ok-next.ensures c.choice_count-count.ensures c.is_settled-settled.ensures c.if-not-settled.false c.if-next.false
+    settled_tree limits (said limits (look_ups c.args.world.now)) 64 4096 c.choice_count-count.result c.args.node.now c.args.above.now c.args.frame c.in-Ok.next (meant c.in_ok-tree.tree)
+    c.is_settled-settled.result c.in_ok-tree.ensures c.in-Ok.ensures c.choice_count-count.ensures c.is_settled-settled.ensures c.if-not-settled.false c.if-next.false

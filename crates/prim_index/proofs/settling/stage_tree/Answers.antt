@@ -18,5 +18,5 @@ pub returns : goal.returns
 returns c =
     c.in_ok-tree-2.ensures
     ∙ ap (λ (n : Node). tree_below limits (said limits (look_ups c.args.world.now)) 64 4096 4096 n)
-    (stage_framed limits (look_ups c.args.world.now) c.args.place.now c.path_length-count.result 16 c.in_ok-begun.begun c.in_ok-above.above c.first_frame-first.result c.in_ok-settled.settled.frame
-    c.in_ok-on.on c.in_ok-begun.ensures c.path_length-count.ensures (omega arith) refl c.in_ok-above.ensures c.in_ok-on.ensures c.first_frame-first.ensures c.in_ok-settled.ensures.frame)
+    (stage_framed limits (look_ups c.args.world.now) c.args.place.now c.path_length-count.result 16 c.in_ok-begun.begun c.in-Ok.above c.first_frame-first.result c.in-Ok-settled_at.settled.frame
+    c.in-Ok-is_loaded.on c.in_ok-begun.ensures c.path_length-count.ensures (omega arith) refl c.in-Ok.ensures c.in-Ok-is_loaded.ensures c.first_frame-first.ensures c.in-Ok-settled_at.ensures.frame)

@@ -1,7 +1,7 @@
 use Rattle.std.proofs.Common.{◌≡◌, ◌∙◌, Bool, List, Result, subst, ap}
 use Rattle.std.specs.Result.{IfOk}
 use Rattle.list_ops.specs.ListEdits.{firsts}
-use Rattle.layer_edit.specs.declared.written.WrittenReference.{WrittenReference}
+use Rattle.edit_batches.specs.declared.written.WrittenReference.{WrittenReference}
 use Rattle.script_words.specs.Repeats.{reference_is, same_reference}
 use Rattle.script_words.proofs.repeats.first_references.Goals as goal
 

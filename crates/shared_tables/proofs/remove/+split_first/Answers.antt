@@ -1,4 +1,4 @@
-use Rattle.std.proofs.Common.{sym, ap, ◌∙◌}
+use Rattle.std.proofs.Common.{refl, sym, ap, ◌∙◌}
 use Rattle.shared_tables.specs.Trees.{entries, link_entries}
 use Rattle.shared_tables.proofs.Nodes.{node_is, first_here, first_below}
 use Rattle.shared_tables.proofs.remove.+split_first.Goals as goal
@@ -9,4 +9,4 @@ returns-in_ok-shared-in-None-2 g t c = first_here _ _ _ _ _ _ (node_is c.args.no
 pub returns-in_ok-tree-in-Some : goal.returns-in_ok-tree-in-Some
 returns-in_ok-tree-in-Some g t c =
     let below = ap link_entries c.in-Some.is ∙ ap entries (sym c.deref.ensures) ∙ c.in_ok-first-in-Some.ensures in
-    first_below _ _ _ _ _ _ _ _ _ (node_is c.args.node.now) below c.in_ok-middle-in-Some.ensures c.in_ok-after-in-Some.ensures c.in_ok-tree-in-Some.ensures
+    first_below _ _ _ _ _ _ _ _ _ (node_is c.args.node.now) below refl refl c.in_ok-tree-in-Some.ensures

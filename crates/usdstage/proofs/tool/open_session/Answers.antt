@@ -7,7 +7,7 @@ returns-in-Failed-clause-outcome g c = λ bytes held size script.
     let front = rw (c.deref.ensures.value, c.in-Ok.ensures.reply) at c.write_all.ensures.front in
     opened_cut held size c.args.world bytes script status.WriteFault front.0 _ _ tt c.in-Ok.ensures.few front.1
 
-pub returns-in-NoMemory-clause-outcome : goal.returns-in-NoMemory-clause-outcome
-returns-in-NoMemory-clause-outcome g c = λ bytes held size script.
+pub returns-clause-outcome : goal.returns-clause-outcome
+returns-clause-outcome g c = λ bytes held size script.
     let front = rw (c.deref.ensures.value, c.in-Ok.ensures.reply) at c.write_all.ensures.front in
     opened_cut held size c.args.world bytes script status.NoMemory front.0 _ _ tt c.in-Ok.ensures.few front.1

@@ -1,9 +1,9 @@
-use Rattle.std.proofs.Common.{◌∙◌, ap, arith, List, ◌++◌, take}
+use Rattle.std.proofs.Common.{◌∙◌, ap, refl, arith, List, ◌++◌, take}
 use Rattle.std.proofs.lemmas.List.{take_all}
 use Rattle.prim_view.specs.declared.fault.PrimFault.{PrimFault}
-use Rattle.composition.specs.Values.{Given}
+use Rattle.composition.specs.Values.{given}
 use Rattle.value_resolve.specs.declared.decision.Decision.{Decision}
-use Rattle.value_resolve.specs.Deciding.{gives, decided_next}
+use Rattle.value_resolve.specs.Deciding.{decided_next}
 use Rattle.value_resolve.specs.Resolving.{fault_if}
 use Rattle.value_resolve.proofs.Decided.{decided, none_decided, none_fault, decided_at, faults_at, default_decided, samples_decided}
 use Rattle.value_resolve.proofs.attr.resolve_attr_by.Goals as goal
@@ -13,14 +13,13 @@ loop-opinion-init c = record { decision = c.open-decision.ensures ∙ none_decid
 
 pub loop-opinion-preserved : goal.loop-opinion-preserved
 loop-opinion-preserved c = record {
-  decision = c.and_then-decision.ensures
-      ∙ (ap (λ (d : Decision). decided_next d (gives c.in_ok-given.given)) c.loop-opinion.invariant.decision
-      ∙ (ap (λ (g : Given). decided_next (decided (take c.loop-opinion.opinion-index c.args.specs.now)) g) c.in_ok-given.ensures
-      ∙ decided_at c.args.specs.now c.loop-opinion.opinion-index c.opinion-item.result c.loop-opinion-test.true c.opinion-item.is));
-  faults = c.in_ok-push_fault.ensures
-      ∙ (ap (λ (fs : List PrimFault). fs ++ fault_if c.args.name.now c.said.result.now c.in_ok-given.given.left_out) c.loop-opinion.invariant.faults
+  decision = c.in_ok-take_opinion.ensures.decision
+      ∙ (ap (λ (d : Decision). decided_next d (given c.opinion-item.result)) c.loop-opinion.invariant.decision
+      ∙ decided_at c.args.specs.now c.loop-opinion.opinion-index c.opinion-item.result c.loop-opinion-test.true c.opinion-item.is);
+  faults = c.in_ok-take_opinion.ensures.faults
+      ∙ (ap (λ (fs : List PrimFault). fs ++ fault_if c.args.name.now c.opinion-item.result.said (given c.opinion-item.result).left_out) c.loop-opinion.invariant.faults
       ∙ faults_at c.args.name.now c.args.specs.now c.loop-opinion.opinion-index c.opinion-item.result c.loop-opinion-test.true c.opinion-item.is
-      c.said.result.now c.in_ok-given.given.left_out c.said.ensures (ap (λ (g : Given). g.left_out) c.in_ok-given.ensures));
+      c.opinion-item.result.said (given c.opinion-item.result).left_out refl refl);
 }
 
 pub returns-clause-default : goal.returns-clause-default

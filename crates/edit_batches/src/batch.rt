@@ -15,8 +15,8 @@ pub struct Batch {
 impl Model for Batch {
     ghost use Rattle.std.specs.Prelude.{◌<◌, ◌^◌, length, List};
     ghost use Rattle.std.specs.Coded.{codes};
-    ghost use Rattle.layer_edit.specs.declared.op.Op.{Op};
-    ghost use Rattle.layer_edit.specs.contracts.op.Op as of_op;
+    ghost use Rattle.edit_batches.specs.declared.op.Op.{Op};
+    ghost use Rattle.edit_batches.specs.contracts.op.Op as of_op;
 
     ghost Value = { List Op };
 

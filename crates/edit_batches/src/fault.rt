@@ -54,7 +54,7 @@ pub enum OpRefused {
 
 impl From<AllocError> for OpRefused {
     ghost use Rattle.std.specs.Prelude.{◌≡◌};
-    ghost use Rattle.layer_edit.specs.declared.fault.OpRefused.TheVariants.{NoMemory};
+    ghost use Rattle.edit_batches.specs.declared.fault.OpRefused.TheVariants.{NoMemory};
 
     ghost from_gives = { λ _ e. e ≡ NoMemory };
 
@@ -65,7 +65,7 @@ impl From<AllocError> for OpRefused {
 
 impl<T: Drop> From<AllocFailed<T>> for OpRefused {
     ghost use Rattle.std.specs.Prelude.{◌≡◌};
-    ghost use Rattle.layer_edit.specs.declared.fault.OpRefused.TheVariants.{NoMemory};
+    ghost use Rattle.edit_batches.specs.declared.fault.OpRefused.TheVariants.{NoMemory};
 
     ghost from_gives = { λ _ e. e ≡ NoMemory };
 
@@ -87,7 +87,7 @@ pub enum EditRefused {
 
 impl From<AllocError> for EditRefused {
     ghost use Rattle.std.specs.Prelude.{◌≡◌};
-    ghost use Rattle.layer_edit.specs.declared.fault.EditRefused.TheVariants.{NoMemory};
+    ghost use Rattle.edit_batches.specs.declared.fault.EditRefused.TheVariants.{NoMemory};
 
     ghost from_gives = { λ _ e. e ≡ NoMemory };
 
@@ -98,7 +98,7 @@ impl From<AllocError> for EditRefused {
 
 impl<T: Drop> From<AllocFailed<T>> for EditRefused {
     ghost use Rattle.std.specs.Prelude.{◌≡◌};
-    ghost use Rattle.layer_edit.specs.declared.fault.EditRefused.TheVariants.{NoMemory};
+    ghost use Rattle.edit_batches.specs.declared.fault.EditRefused.TheVariants.{NoMemory};
 
     ghost from_gives = { λ _ e. e ≡ NoMemory };
 
