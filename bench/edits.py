@@ -207,10 +207,10 @@ TABLE = [
     ("batch, world alone", "operations", 25_000, 1),
 ]
 
-COLUMNS = [
-    ("ms a call", lambda seconds, peak, items, times: seconds * 1e3 / times),
-    ("ns an item", lambda seconds, peak, items, times: seconds * 1e9 / times / items),
-]
+
+def run(folder, table):
+    measure.compare(measure.build(folder, "edit_speed", USES, PROGRAM), table, "ns", 1e9)
+
 
 if __name__ == "__main__":
-    measure.compare_calls("edit_speed", USES, PROGRAM, TABLE, COLUMNS)
+    measure.calls(TABLE, run)

@@ -174,10 +174,10 @@ TABLE = [
     ("take_shape", "read_value", 250_000, 1),
 ]
 
-COLUMNS = [
-    ("us a call", lambda seconds, peak, items, times: seconds * 1e6 / items / times),
-    ("bytes/item", lambda seconds, peak, items, times: peak / items),
-]
+
+def run(folder, table):
+    measure.compare(measure.build(folder, "layer_speed", USES, PROGRAM), table, "us", 1e6)
+
 
 if __name__ == "__main__":
-    measure.compare_calls("layer_speed", USES, PROGRAM, TABLE, COLUMNS)
+    measure.calls(TABLE, run)

@@ -160,5 +160,10 @@ TABLE = [
     ("path", None, 1_024, 1),
 ]
 
+
+def run(folder, table):
+    measure.compare(measure.build(folder, "leaf_speed", USES, PROGRAM), table, "us", 1e6)
+
+
 if __name__ == "__main__":
-    measure.compare_calls("leaf_speed", USES, PROGRAM, TABLE, [])
+    measure.calls(TABLE, run)

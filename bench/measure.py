@@ -1,6 +1,7 @@
-"""What the scripts of this folder share: layers that they make, runs of a program with what they took, tables, and scratch repositories.
+"""What the scripts of this folder share: layers that they make, runs of a program with what they took, the table, and scratch repositories.
 
-A script that needs the built program alone has a list of cases, CASES, and calls `main`; `all.py` runs the cases of all of them.
+A script that needs the built program alone has a list of cases, CASES, and calls `main`. One that makes calls of crates has lines of
+calls, TABLE, and what runs them in a scratch repository, `run`, and calls `calls`. `all.py` runs them all.
 """
 import argparse
 import json
@@ -105,7 +106,23 @@ def measured(command, folder, script="", bound=0):
             return Took(*json.loads(said.stdout), f.read(), g.read())
 
 
-# Cases and their table
+# The table
+
+
+def heading():
+    print(f"{'input':54} {'bytes':>11} {'seconds':>9} {'MB/s':>8} {'growth':>8} {'peak MiB':>9} {'memory each':>11} {'status':>6}  written")
+
+
+def line(name, length, seconds, growth, took, count, more):
+    """Prints a line of the table: an input, its bytes where it has some, the seconds, how many times as long it takes as the input a
+    quarter as large where there is one, and the peak memory, whole and for each of so many."""
+    rate = "" if length is None else f"{length / 1e6 / max(seconds, 1e-3):.1f}"
+    times = "" if growth is None else f"{growth:.1f}"
+    print(f"{name:54} {'' if length is None else length:>11} {seconds:9.2f} {rate:>8} {times:>8} {took.peak / 2**20:9.1f} "
+          f"{took.peak / count:11.0f} {took.status:>6}  {more}", flush=True)
+
+
+# Cases
 
 
 class Case:
@@ -142,14 +159,12 @@ def run_case(program, case):
         took = run_once(program, layers, script)
         off = None if case.less is None else run_once(program, *case.less(layers, script)).seconds
         left = max(took.seconds - (off or 0), 0.0)
-        growth = f"{left / max(before[1], 1e-3):8.1f}" if before and 3.9 < size / before[0] < 4.5 else " " * 8
-        print(f"{f'{size:,} {case.name}':54} {length:>11} {left:9.2f} {length / 1e6 / max(left, 1e-3):8.1f} {growth} {took.peak / 2**20:9.1f} "
-              f"{took.peak / size:11.0f} {took.status:>6}  {told(took, took.seconds, off)}", flush=True)
+        growth = left / max(before[1], 1e-3) if before and 3.9 < size / before[0] < 4.5 else None
+        line(f"{size:,} {case.name}", length, left, growth, took, size, told(took, took.seconds, off))
         before = size, left
 
 
 def run_cases(program, cases, only):
-    print(f"{'input':54} {'bytes':>11} {'seconds':>9} {'MB/s':>8} {'growth':>8} {'peak MiB':>9} {'memory each':>11} {'status':>6}  written")
     for case in cases:
         if not only or case.word in only:
             run_case(program, case)
@@ -162,13 +177,20 @@ def program_of(path):
     return os.path.abspath(path)
 
 
-def main(cases):
-    """The command line of a script with cases."""
+def main(cases, scripts=()):
+    """The command line of a script with cases, and with scripts that make calls of crates, which run where no case is picked."""
     words = argparse.ArgumentParser()
     words.add_argument("program", nargs="?", default=PROGRAM)
     words.add_argument("--only", nargs="+", default=[], metavar="CASE", help=" ".join(sorted({case.word for case in cases})))
+    if scripts:
+        words.add_argument("--built", action="store_true", help="runs what needs the built program alone")
     given = words.parse_args()
+    heading()
     run_cases(program_of(given.program), cases, given.only)
+    if scripts and not given.only and not given.built:
+        for script in scripts:
+            with tempfile.TemporaryDirectory() as folder:
+                script.run(folder, script.TABLE)
 
 
 # Scratch repositories
@@ -296,7 +318,8 @@ def calls(table, run):
     words.add_argument("--in", dest="folder", metavar="FOLDER", help="where the scratch repository stays")
     words.add_argument("call", nargs="*", help=" ".join(line[0] for line in table))
     given = words.parse_args()
-    picked = [line for line in table if not given.call or line[0] in given.call]
+    picked = [entry for entry in table if not given.call or entry[0] in given.call]
+    heading()
     if given.folder:
         os.makedirs(given.folder, exist_ok=True)
         run(os.path.abspath(given.folder), picked)
@@ -305,22 +328,16 @@ def calls(table, run):
         run(folder, picked)
 
 
-def compare(program, lines, columns):
-    """Prints how long each call takes on so many items, and on four times as many. A line has the call, what comes before it and is taken
-    off, the number of items, and how often the call is made; a column a title and what stands in it, by the seconds, the peak memory in
-    bytes, the number of items, and how often the call is made."""
-    print(f"{'call':20} {'items':>10} {'seconds':>9} " + "".join(f"{title:>11}" for title, _ in columns) + f"{'peak MiB':>10} {'status':>6}")
-    for call, before, count, times in lines:
-        seconds = []
+def compare(program, table, unit, scale):
+    """Prints how long each call takes on so many items, and on four times as many. A line of the table has the call, what comes before it
+    and is taken off, the number of items, and how often the call is made on them; what one call takes is told in a unit, of which a second
+    has so many."""
+    for call, before, count, times in table:
+        shorter = None
         for items in (count, 4 * count):
             took = measured([program, call, str(items)], ".")
             first = measured([program, before, str(items)], ".").seconds if before else 0
-            seconds.append(max(took.seconds - first, 0))
-            told = "".join(f"{value(seconds[-1], took.peak, items, times):11.2f}" for _, value in columns)
-            print(f"{call:20} {items:>10} {seconds[-1]:9.2f} {told}{took.peak / 2**20:10.1f} {took.status:>6}", flush=True)
-        print(f"    4 times as much: {seconds[1] / max(seconds[0], 1e-9):.1f} times the time", flush=True)
-
-
-def compare_calls(name, uses, text, table, columns):
-    """The script of a program that makes calls on so many items."""
-    calls(table, lambda folder, lines: compare(build(folder, name, uses, text), lines, columns))
+            seconds = max(took.seconds - first, 0)
+            growth = None if shorter is None else seconds / max(shorter, 1e-3)
+            line(f"{items:,} items: {call}", None, seconds, growth, took, items, f"{seconds * scale / times / items:.2f} {unit} an item, {times} times")
+            shorter = seconds

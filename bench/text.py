@@ -144,24 +144,24 @@ def arrays(numbers):
     return "".join(out)
 
 
-def run(program, call, folder, name, size):
+def run_one(program, call, folder, name, text, before):
     took = measure.measured([program, call, name], folder)
-    print(f"{name:16} {call:8} {size:>10} {took.seconds:8.2f} {size / 1e6 / max(took.seconds, 1e-3):8.1f} {took.peak / 2**20:9.1f} "
-          f"{took.peak / size:8.1f} {took.status:>6}", flush=True)
+    growth = None if before is None else took.seconds / max(before, 1e-3)
+    measure.line(f"{call} of {name}", len(text), took.seconds, growth, took, len(text), took.out.decode().strip())
     return took.seconds
 
 
-def table(folder, lines):
-    texts = [("prims_15", prims(15_000_000)), ("prims_60", prims(60_000_000)), ("arrays_15", arrays(2_000_000)), ("arrays_60", arrays(8_000_000))]
+def run(folder, table):
+    texts = [("prims", prims(15_000_000), prims(60_000_000)), ("arrays", arrays(2_000_000), arrays(8_000_000))]
     program = measure.build(folder, "text_speed", USES, PROGRAM)
-    for name, text in texts:
-        with open(os.path.join(folder, name), "w") as f:
-            f.write(text)
-    print(f"{'text':16} {'call':8} {'bytes':>10} {'seconds':>8} {'MB/s':>8} {'peak MiB':>9} {'of text':>8} {'status':>6}")
-    for (call,) in lines:
-        times = [run(program, call, folder, name, len(text)) for name, text in texts]
-        print(f"    four times the bytes: {times[1] / max(times[0], 1e-3):.1f} and {times[3] / max(times[2], 1e-3):.1f} times the time", flush=True)
+    for (call,) in table:
+        for name, *sizes in texts:
+            before = None
+            for text in sizes:
+                with open(os.path.join(folder, name), "w") as f:
+                    f.write(text)
+                before = run_one(program, call, folder, name, text, before)
 
 
 if __name__ == "__main__":
-    measure.calls(TABLE, table)
+    measure.calls(TABLE, run)

@@ -7,6 +7,7 @@ import signal
 import subprocess
 import sys
 import tempfile
+import termios
 import tty
 
 TOP = os.path.dirname(os.path.dirname(os.path.abspath(__file__)))
@@ -135,6 +136,12 @@ LINES = [
     ("begin\nset @@ /A.x 2\n", "", "2: BadLine"),
     ("Publish\n", "", "1: BadLine"),
     ("value /A.x inf\n", "", "1: BadLine"),
+    ("value /A.x 1e13\n", "", "1: BadLine"),
+    ("value /A.x 1e-19\n", "", "1: BadLine"),
+    ("value /A 1\n", "", "1: BadLine"),
+    ("default /A\n", "", "1: BadLine"),
+    ("samples /A\n", "", "1: BadLine"),
+    ("targets /A\n", "", "1: BadLine"),
     ("publish\nnonsense", "published 1: batches 0, prims 1\n", "2: BadLine"),
     ("publish\nnonsense\npublish\n", "published 1: batches 0, prims 1\n", "2: BadLine"),
     (b"publish\n# \xff\n", "published 1: batches 0, prims 1\n", "2: BadLine"),
@@ -207,6 +214,20 @@ class Runs:
             os.close(near)
         self.compare(f"torn off behind {script!r}", (got.returncode, got.stdout.decode(), got.stderr.decode()), (status, written, said))
 
+    def expect_at_an_ended_terminal(self, script, ends, written):
+        """A session on one prim whose script is typed at a terminal, and ended there; one more line is typed behind the end."""
+        with tempfile.TemporaryDirectory() as folder:
+            layers_in(folder, ONE_PRIM)
+            near, far = pty.openpty()
+            modes = termios.tcgetattr(far)
+            modes[3] &= ~termios.ECHO
+            termios.tcsetattr(far, termios.TCSANOW, modes)
+            os.write(near, (script + ends + "publish\n").encode())
+            got = subprocess.run([PROGRAM, "session", "root.usda"], cwd=folder, stdin=far, capture_output=True, timeout=600)
+            os.close(far)
+            os.close(near)
+        self.compare(f"typed {script!r} and ended", (got.returncode, got.stdout.decode(), got.stderr.decode()), (0, written, ""))
+
     def expect_in_bytes(self, command, layers, script, room, status, written, said):
         """A run whose output is a file that takes so many bytes."""
         def limit():
@@ -248,6 +269,9 @@ def faults(runs):
     for script, written in (("", OPENING), ("publish\n", ONE), ("publish\npublish", ONE), ("publish\npublish\n", TWO)):
         runs.expect_at_a_terminal(script, written, READING, 3)
     runs.expect_at_a_terminal("publish\nnonsense\npublish\n", ONE, "usdstage: script line 2: BadLine\n", 6)
+    # a script that is ended at a terminal ends there: it is not read once more. Behind a line without its feed a terminal is ended twice
+    for script, ends in (("publish\n", "\x04"), ("publish", "\x04\x04")):
+        runs.expect_at_an_ended_terminal(script, ends, ONE)
 
 
 def limits(runs):

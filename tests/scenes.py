@@ -9,6 +9,8 @@ import tempfile
 TOP = os.path.dirname(os.path.dirname(os.path.abspath(__file__)))
 FIRST = "#usda 1.0\n"
 CHAIN = "".join(f'def "c{i}" (references = </c{i + 1}>) {{}}\n' for i in range(64))
+CLASSES = "".join(f'class "c{i}" (inherits = </c{i + 1}>) {{}}\n' for i in range(12)) + 'class "c12" {}\n'
+LONG = "v" * 4090
 MANY = "(subLayers = [" + ", ".join(f"@s{i}.usda@" for i in range(4095)) + "])"
 
 # name, layers, script, number of prims at the opening, what is written behind the reply to the opening
@@ -54,6 +56,18 @@ SCENES = [
     ("a chain of sixty-four references", {"root": CHAIN + 'def "c64" {}'}, "faults /c0\n", 65, "faults /c0: 0\n"),
     ("a chain of sixty-five references", {"root": CHAIN + 'def "c64" (references = </c65>) {} def "c65" {}'}, "faults /c0\nfaults /c1\n", 66,
      "faults /c0: 1\n  TooDeep @root.usda@</c64> references </c65>\nfaults /c1: 0\n"),
+    # the first of thirteen classes in a chain has 4,096 nodes, and what inherits from it has more; so has each listing on the way to /B
+    ("a target below a prim that is overgrown", {"root": CLASSES + 'def "A" (inherits = </c0>) { def "k" {} } def "B" (references = </A/k>) {}'},
+     "faults /c0\nfaults /A\nfaults /B\nsites /B\nchildren /A\n", 15,
+     "faults /c0: 0\nfaults /A: 1\n  Overgrown\nfaults /B: 1\n  Overgrown\nsites /B: 0\nchildren /A: []\n"),
+    # the variant's path has 4,096 bytes, and below it no path has room: the variant gives nothing there, and no fault
+    ("a variant whose children have no room", {"root": f'def "A" (variantSets = "s" variants = {{ string s = "{LONG}" }}) {{ def "k" {{ int x = 1 }} variantSet "s" = {{ "{LONG}" {{ int y = 2 }} }} }}'},
+     "default /A.y\nsites /A/k\nfaults /A/k\n", 2,
+     "default /A.y: 2\nsites /A/k: 1\n  @root.usda@ /A/k\nfaults /A/k: 0\n"),
+    # the class is visited for /N, and lifted for /M and for /A: a lifted visit yields to one of the same class behind it
+    ("a class behind two references of one layer", {"root": 'class "_c" {} def "N" (inherits = </_c>) {} def "M" (references = </N>) {} def "A" (references = </M>) {}'},
+     "sites /A\n", 4,
+     "sites /A: 4\n  @root.usda@ /A\n  @root.usda@ /M\n  @root.usda@ /N\n  @root.usda@ /_c\n"),
     ("sublayers that are none", {"root": "(subLayers = [@root.usda@, @no.usda@])"}, "faults /\n", 0,
      "faults /: 2\n  SublayerCycle @root.usda@ @root.usda@\n  SublayerMissing @root.usda@ @no.usda@\n"),
     ("a new layer whose text is refused, and an empty batch", {"root": 'def "A" { int x = 1 }'},

@@ -10,7 +10,7 @@ use asset_names::AssetId;
 use layer_set::{Key, World};
 use layer_stack::LayerStack;
 use path_maps::ArcKind;
-use plain_data::{Items, copy};
+use plain_data::{Items, copy_three, copy_two};
 use prim_nodes::{Authored, Outcome};
 use prim_view::{ArcFault, FaultItem, PrimFault, StackName};
 use sdf_paths::Path;
@@ -46,13 +46,22 @@ fn arc_of(one: &Authored) -> Result<Option<ArcItem>, AllocError>
     ensures { IfOk result (λ arc. arc ≡ arc_of one.now) }
 {
     match &one.outcome {
-        Outcome::Leads(lead) => Ok(Some(ArcItem {
-            stack: copy(&lead.stack)?,
-            target: copy(&lead.target)?,
-            offset: lead.offset,
-            author: copy(&one.author)?,
-            item: copy(&one.item)?,
-        })),
+        Outcome::Leads(lead) => {
+            let (stack, target) = copy_two(&lead.stack, &lead.target)?;
+            match copy_two(&one.author, &one.item) {
+                Ok((author, item)) => Ok(Some(ArcItem {
+                    stack,
+                    target,
+                    offset: lead.offset,
+                    author,
+                    item,
+                })),
+                Err(error) => {
+                    drop((stack, target));
+                    Err(error)
+                }
+            }
+        }
         Outcome::GivesNoArc(_) => Ok(None),
     }
 }
@@ -76,13 +85,16 @@ fn fault_of(at: &Path, kind: ArcKind, one: &Authored) -> Result<Option<PrimFault
 {
     match &one.outcome {
         Outcome::Leads(_) => Ok(None),
-        Outcome::GivesNoArc(reason) => Ok(Some(PrimFault::Arc(ArcFault {
-            reason: *reason,
-            layer: copy(&one.author)?,
-            site: copy(at)?,
-            kind,
-            item: copy(&one.item)?,
-        }))),
+        Outcome::GivesNoArc(reason) => {
+            let (layer, site, item) = copy_three(&one.author, at, &one.item)?;
+            Ok(Some(PrimFault::Arc(ArcFault {
+                reason: *reason,
+                layer,
+                site,
+                kind,
+                item,
+            })))
+        }
     }
 }
 
@@ -104,7 +116,8 @@ fn faults(
     Ok(faults)
 }
 
-/// The arcs of a kind that the layers of a stack author at a path, the faults of items that are none, and the keys that were read.
+/// The arcs of a kind that the layers of a stack author at a path, the faults of items that are none, and the keys that were read beyond
+/// the heads of the names that the stack itself asks.
 ///
 /// # Errors
 ///

@@ -17,7 +17,7 @@ use layer_set::World;
 use layer_stack::LayerStack;
 use list_ops::ListOp;
 use path_maps::ArcKind;
-use plain_data::{Items, Text, copy};
+use plain_data::{Items, Text, copy, copy_two};
 use prim_nodes::Authored;
 use sdf_paths::Path;
 use sdf_specs::Selections;
@@ -39,11 +39,18 @@ fn authored_item(
     let Some(layer) = authors.get(item) else {
         unreachable!()
     };
-    Ok(Authored {
-        item: copy(&item.item)?,
-        author: copy(layer)?,
-        outcome: outcome(alloc, world, stack, &item.item)?,
-    })
+    let outcome = outcome(alloc, world, stack, &item.item)?;
+    match copy_two(&item.item, layer) {
+        Ok((item, author)) => Ok(Authored {
+            item,
+            author,
+            outcome,
+        }),
+        Err(error) => {
+            drop(outcome);
+            Err(error)
+        }
+    }
 }
 
 /// Items with their authors and outcomes.

@@ -1,5 +1,5 @@
 // The list edits of a kind that the layers of a stack make, and the items that come of them.
-ghost use Rattle.std.specs.Prelude.{◌≡◌, IfOk, map, reverse};
+ghost use Rattle.std.specs.Prelude.{◌≡◌, ◌++◌, ◌∷◌, [], IfOk, OnOk, map, reverse};
 ghost use Rattle.composition.specs.Arcs.{items_of};
 ghost use Rattle.list_ops.specs.ListEdits.{folded};
 ghost use Rattle.arc_expand.specs.Authoring.{edits, folded_items};
@@ -32,6 +32,18 @@ fn item_edit(
     }
 }
 
+/// Appends an edit with a copy of its layer. It knows no fields of theirs, so that to let one go is a call.
+fn push_edit<L: ExactClone + Drop, E: Drop>(
+    all: &mut Items<(L, E)>,
+    layer: &L,
+    edit: E,
+) -> Result<(), AllocError>
+    ensures { OnOk result (all.new ≡ all.old ++ (layer.now, edit) ∷ []) }
+{
+    all.push((copy(layer)?, edit))?;
+    Ok(())
+}
+
 /// The edits of the layers, the strongest first, each with its layer.
 pub fn edits(
     alloc: Global,
@@ -43,7 +55,7 @@ pub fn edits(
     let mut all = Items::new(alloc);
     for opinion in opinions {
         if let Some(edit) = item_edit(alloc, kind, opinion)? {
-            all.push((copy(opinion.layer)?, edit))?;
+            push_edit(&mut all, opinion.layer, edit)?;
         }
     }
     Ok(all)

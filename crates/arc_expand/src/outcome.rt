@@ -94,7 +94,9 @@ pub fn outcome(
         }
         ItemSource::Named(name) => {
             let stack = stack_of(alloc, world, &StackName::Asset(copy(name)?))?;
-            outcome_within(alloc, world, &stack, item, world.held(name))
+            let outcome = outcome_within(alloc, world, &stack, item, world.held(name));
+            drop(stack);
+            outcome
         }
         ItemSource::Unanchored(_) => Ok(Outcome::GivesNoArc(ArcReason::BadTarget)),
     }

@@ -35,8 +35,9 @@ fn asked_below(alloc: Global, world: &World, name: &AssetId) -> Result<Items<Ass
     match world.held(name) {
         Held::Present(_) => {
             let stack = stack_of(alloc, world, &StackName::Asset(copy(name)?))?;
-            let names = copy(&stack.asked)?;
-            Ok(names)
+            let names = copy(&stack.asked);
+            drop(stack);
+            names
         }
         Held::Absent => Ok(Items::new(alloc)),
         Held::Broken(_) => Ok(Items::new(alloc)),

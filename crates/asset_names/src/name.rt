@@ -63,13 +63,15 @@ impl Model for AssetId {
 }
 
 impl AssetId {
-    ghost use Rattle.asset_names.specs.Anchoring.{normal_name, anchored_name, kind_of, IsBad};
+    ghost use Rattle.asset_names.specs.Anchoring.{normal_name, anchored_name, kind_of, IsBad, IsClean};
 
     /// The name that a text gives by itself.
     pub fn of_word(alloc: Global, word: &str) -> Result<AssetId, AssetFault>
         ensures name { IfOk result (λ id. id ≡ normal_name word.now) }
         ensures good { IsOk result → (at : ℕ) → IsBad word.now (normal_name word.now) at → ⊥ }
         ensures bad { (at : ℕ) → result ≡ Err (AssetFault.BadAsset at) → IsBad word.now (normal_name word.now) at }
+        // A character below space and an empty text are told before memory is asked for.
+        ensures memory { result ≡ Err AssetFault.NoMemory → IsClean word.now }
     {
         match first_fault(word) {
             Some(at) => Err(AssetFault::BadAsset { at }),
@@ -83,6 +85,8 @@ impl AssetId {
         ensures name { IfOk result (λ id. id ≡ anchored_name layer.now asset.now) }
         ensures good { IsOk result → (at : ℕ) → IsBad asset.now (anchored_name layer.now asset.now) at → ⊥ }
         ensures bad { (at : ℕ) → result ≡ Err (AssetFault.BadAsset at) → IsBad asset.now (anchored_name layer.now asset.now) at }
+        // A character below space and an empty text are told before memory is asked for.
+        ensures memory { result ≡ Err AssetFault.NoMemory → IsClean asset.now }
     {
         match first_fault(asset) {
             Some(at) => Err(AssetFault::BadAsset { at }),

@@ -40,7 +40,8 @@ impl<C: Composer> Core<C> {
     ghost use Rattle.change_core.specs.Cores.{AnswersEdit, NotesEdit, world_of};
     ghost use Rattle.change_core.specs.Publishes.{NotesPublish};
 
-    /// A core on a world that was just opened, with an empty history. It composes so many places at the same time as are named, at least one.
+    /// A core on a world that was just opened, with an empty history. `_flights` is how many places it may compose at the same time, at
+    /// least one; this core composes one after the other.
     pub fn new(
         alloc: Global,
         composer: C,
@@ -68,6 +69,8 @@ impl<C: Composer> Core<C> {
     /// A core whose history has 65,536 edit calls notes no more. After want of memory all is as before.
     pub fn edit(&mut self, seat: u64, batch: C::Batch) -> Result<EditReply<C::Fault>, AllocError>
         ensures answer { IfOk result (λ reply. AnswersEdit C.applied self.old self.new seat batch reply) }
+        // That the history is full is told before memory is asked for.
+        ensures full { edit_count self.old.history ≡ 65536 → result ≡ Ok EditReply.JournalFull }
         ensures refused { OnErr result (self.new ≡ self.old) }
     {
         if self.edits == MOST_EDITS {

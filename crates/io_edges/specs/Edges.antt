@@ -1,5 +1,5 @@
 -- What the calls on files, sources and sinks do.
-use Rattle.std.specs.Prelude.{◌≡◌, ◌⊎◌, ℕ, ◌+◌, ◌<◌, ◌≤◌, List, [], ◌∷◌, ◌++◌, length, take, Option, Some, None}
+use Rattle.std.specs.Prelude.{◌≡◌, ◌⊎◌, ℕ, ◌+◌, ◌<◌, ◌≤◌, List, [], ◌∷◌, ◌++◌, length, take, min, Option, Some, None}
 use Rattle.std.specs.Io.{StartsWith}
 use Rattle.std.specs.Io.KnownBytes.{Appends, Consumes, Keeps, IsAtEnd}
 use Rattle.io_edges.specs.declared.Fetched.{Fetched}
@@ -55,17 +55,17 @@ WriteTakes (put.Took n) old new piece = (0 < n) × (n ≤ length piece) × Appen
 WriteTakes put.Failed old new piece = Keeps old new
 WriteTakes put.NoMemory old new piece = Keeps old new
 
--- a read moves at most so many bytes
-abbrev pub ReadsFew : ℕ → Got → Type 0
-ReadsFew step (got.Bytes n) = n ≤ step
-ReadsFew step got.End = Unit {0}
-ReadsFew step got.Failed = Unit {0}
+-- a read moves as many bytes as a step, what is left and the buffer's room allow
+abbrev pub ReadsStep : ℕ → List ℕ → ℕ → Got → Type 0
+ReadsStep step left room (got.Bytes n) = n ≡ min (min (length left) step) room
+ReadsStep step left room got.End = Unit {0}
+ReadsStep step left room got.Failed = Unit {0}
 
--- a write takes at most so many bytes
-abbrev pub WritesFew : ℕ → Put → Type 0
-WritesFew step (put.Took n) = n ≤ step
-WritesFew step put.Failed = Unit {0}
-WritesFew step put.NoMemory = Unit {0}
+-- a write takes as many bytes as a step and the piece allow
+abbrev pub WritesStep : ℕ → List ℕ → Put → Type 0
+WritesStep step piece (put.Took n) = n ≡ min (length piece) step
+WritesStep step piece put.Failed = Unit {0}
+WritesStep step piece put.NoMemory = Unit {0}
 
 -- Whatever a reader tells of what it has left, what was added to the buffer is what it gave. Where that is less than is
 -- taken of one file, it is all that the reader had.

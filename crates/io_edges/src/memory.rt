@@ -1,9 +1,9 @@
 //! Files, sources and sinks in memory: the ones that never fail, and the same with faults at calls of given numbers.
 
-ghost use Rattle.std.specs.Prelude.{◌≡◌, ◌+◌, ◌++◌, ◌∷◌, ◌<◌, ◌≤◌, ◌↔◌, [], None, Some, length, take, drop, map, OnOk, OnErr, IfSome, Contains, string_bytes};
+ghost use Rattle.std.specs.Prelude.{◌≡◌, ◌+◌, ◌++◌, ◌∷◌, ◌<◌, ◌≤◌, ◌↔◌, [], None, Some, length, take, drop, min, map, OnOk, OnErr, IfSome, Contains, string_bytes};
 ghost use Rattle.std.specs.Option.{option_copied};
 ghost use Rattle.io_edges.specs.Causes.{one_more, IsCounted};
-ghost use Rattle.io_edges.specs.Edges.{most, FetchAsks, FetchTells, FetchLeaves, ReadTakes, ReadsFew, WriteTakes, WritesFew};
+ghost use Rattle.io_edges.specs.Edges.{most, FetchAsks, FetchTells, FetchLeaves, ReadTakes, ReadsStep, WriteTakes, WritesStep};
 ghost use Rattle.io_edges.specs.Plans.{IsCalled};
 ghost use Rattle.io_edges.specs.Stores.{entry_of, file_named};
 
@@ -200,7 +200,7 @@ fn rest_of(bytes: &[u8], at: usize) -> &[u8]
 fn give(text: &[u8], step: usize, into: &mut [u8]) -> usize
     ensures within { result ≤ length text.now }
     ensures room { result ≤ length into.new }
-    ensures few { result ≤ step }
+    ensures count { result ≡ min (min (length text.now) step) (length into.old) }
     ensures front { take result into.new ≡ take result text.now }
     ensures some { 0 < step → 0 < length text.now → 0 < length into.old → 0 < result }
 {
@@ -217,7 +217,7 @@ impl Source for SureSource {
     fn read(&mut self, into: &mut [u8]) -> Got
         requires { 0 < length into.old }
         ensures takes { ReadTakes result (Some self.old.left) (Some self.new.left) into.new }
-        ensures few { ReadsFew self.old.step result }
+        ensures all { ReadsStep self.old.step self.old.left (length into.old) result }
         ensures step { self.new.step ≡ self.old.step }
         ensures counted { IsCounted (result ≡ Got.Failed) 0 0 }
         ensures sure { result ≡ Got.Failed → ⊥ }
@@ -270,7 +270,7 @@ impl Source for MemorySource {
     fn read(&mut self, into: &mut [u8]) -> Got
         requires { 0 < length into.old }
         ensures takes { ReadTakes result (Some self.old.stream.left) (Some self.new.stream.left) into.new }
-        ensures few { ReadsFew self.old.stream.step result }
+        ensures all { ReadsStep self.old.stream.step self.old.stream.left (length into.old) result }
         ensures step { self.new.stream.step ≡ self.old.stream.step }
         ensures counted { IsCounted (result ≡ Got.Failed) self.old.plan.faults self.new.plan.faults }
         ensures planned { IsCalled self.old.plan self.new.plan (result ≡ Got.Failed) }
@@ -326,7 +326,7 @@ fn keep(bytes: &mut Vec<u8>, step: usize, piece: &[u8]) -> Put
     requires moves { 0 < step }
     ensures takes { WriteTakes result (Some bytes.old.items) (Some bytes.new.items) piece.now }
     ensures sure { result ≡ Put.Failed → ⊥ }
-    ensures few { WritesFew step result }
+    ensures all { WritesStep step piece.now result }
 {
     let len = piece.len().min(step);
     match bytes.extend_from_slice(&piece[..len]) {
@@ -343,7 +343,7 @@ impl Sink for SureSink {
     fn write(&mut self, piece: &[u8]) -> Put
         requires { 0 < length piece.now }
         ensures takes { WriteTakes result (Some self.old.taken) (Some self.new.taken) piece.now }
-        ensures few { WritesFew self.old.step result }
+        ensures all { WritesStep self.old.step piece.now result }
         ensures step { self.new.step ≡ self.old.step }
         ensures counted { IsCounted (result ≡ Put.Failed) 0 0 }
         ensures sure { result ≡ Put.Failed → ⊥ }
@@ -397,7 +397,7 @@ impl Sink for MemorySink {
     fn write(&mut self, piece: &[u8]) -> Put
         requires { 0 < length piece.now }
         ensures takes { WriteTakes result (Some self.old.store.taken) (Some self.new.store.taken) piece.now }
-        ensures few { WritesFew self.old.store.step result }
+        ensures all { WritesStep self.old.store.step piece.now result }
         ensures step { self.new.store.step ≡ self.old.store.step }
         ensures counted { IsCounted (result ≡ Put.Failed) self.old.plan.faults self.new.plan.faults }
         ensures planned { IsCalled self.old.plan self.new.plan (result ≡ Put.Failed) }

@@ -16,7 +16,7 @@ use crate::rules::Rules;
 use crate::same::{arcs_of, body_of, same_heading, same_part, same_roots};
 use crate::shared::Shared;
 use asset_names::AssetId;
-use plain_data::{ExactClone, copy, same};
+use plain_data::{copy_two, same};
 use sdf_paths::Path;
 use sdf_specs::{Layer, Spec};
 use spec_tables::OrderedTable;
@@ -64,16 +64,6 @@ fn layer_of(held: Held) -> Option<Layer>
         Held::Absent => None,
         Held::Broken(_) => None,
     }
-}
-
-/// Copies of two parts. It knows no fields of theirs, so that to let one go is a call.
-fn copied<A: ExactClone + Drop, B: ExactClone + Drop>(
-    first: &A,
-    second: &B,
-) -> Result<(A, B), AllocError>
-    ensures { IfOk result (λ copies. copies ≡ (first.now, second.now)) }
-{
-    Ok((copy(first)?, copy(second)?))
 }
 
 impl World {
@@ -206,8 +196,8 @@ impl World {
     pub fn copy(&self) -> Result<World, AllocError>
         ensures { IfOk result (λ w. w ≡ self.now) }
     {
-        let (root, session) = copied(&self.root, &self.session)?;
-        match copied(&self.layers, &self.rules) {
+        let (root, session) = copy_two(&self.root, &self.session)?;
+        match copy_two(&self.layers, &self.rules) {
             Ok((layers, rules)) => Ok(World {
                 root,
                 session,

@@ -120,6 +120,28 @@ pub fn copy<T: ExactClone>(value: &T) -> Result<T, AllocError>
     value.clone()
 }
 
+/// Copies of two values that are the values themselves. What calls it need not let the first go by its fields where memory runs out
+/// for the second.
+pub fn copy_two<A: ExactClone + Drop, B: ExactClone + Drop>(
+    first: &A,
+    second: &B,
+) -> Result<(A, B), AllocError>
+    ensures { IfOk result (λ copies. copies ≡ (first.now, second.now)) }
+{
+    Ok((copy(first)?, copy(second)?))
+}
+
+/// The same of three values.
+pub fn copy_three<A: ExactClone + Drop, B: ExactClone + Drop, C: ExactClone + Drop>(
+    first: &A,
+    second: &B,
+    third: &C,
+) -> Result<(A, B, C), AllocError>
+    ensures { IfOk result (λ copies. copies ≡ (first.now, second.now, third.now)) }
+{
+    Ok((copy(first)?, copy(second)?, copy(third)?))
+}
+
 /// Whether two values are one.
 pub fn same<T: ExactEq>(a: &T, b: &T) -> bool
     ensures { IsTrue result ↔ (a.now ≡ b.now) }

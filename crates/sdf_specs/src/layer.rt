@@ -108,7 +108,7 @@ impl Layer {
         self.specs.is_empty()
     }
 
-    /// The paths and specs in the order of paths, from either end.
+    /// The paths and specs in the order of paths.
     pub fn iter(&self) -> Entries<'_, Path, Spec>
         ensures rest { result ≡ self.now.specs }
         ensures runs { ShowsInOrder (deref_pair {K = Path} {X = Spec}) }

@@ -1,5 +1,5 @@
 -- The lines that a script took, whatever lines follow them.
-use Rattle.std.proofs.Common.{◌≡◌, ℕ, ◌+◌, ◌≤◌, false, List, [], ◌∷◌, ◌++◌, length, take, drop, Option, Some, None, Result, Ok, Err, refl, ap, sym, ◌∙◌, arith, append_assoc}
+use Rattle.std.proofs.Common.{◌≡◌, ℕ, ◌+◌, ◌≤◌, Bool, false, List, [], ◌∷◌, ◌++◌, length, take, drop, Option, Some, None, Result, Ok, Err, refl, ap, sym, subst, ◌∙◌, arith, append_assoc}
 use Rattle.std.specs.Prelude.{nat_lt}
 use Rattle.std.specs.List.{concat}
 use Rattle.std.proofs.lemmas.Bool.{le-ltb}
@@ -112,10 +112,10 @@ passed_step len s first loop mid new x y z unrefused passed f (some, within, sho
       counts_on len (mid.lines + 1) None m.0 first mid new within m.4 e,
     )
 
--- a fault of the source
+-- a fault of the source, or want of memory
 pub passed_fault : (e : ScriptFault) (first loop mid : State) (x y z : Option (List ℕ)) → Passed first loop x y → Feeds loop mid y z → has_feed mid.held ≡ false → mid.ended ≡ false → mid.taken + length mid.held ≤ 16777216 → Passes (Err e) first mid x z
 passed_fault (Refused n kind) first loop mid x y z passed f none yet few = tt
-passed_fault NoMemory first loop mid x y z passed f none yet few = tt
+passed_fault NoMemory first loop mid x y z passed f none yet few = passed_fed first loop mid x y z passed f
 passed_fault ReadFault first loop mid x y z passed f none yet few = let m = passed_fed first loop mid x y z passed f in (m.0, m.1, m.2, m.3, m.4, yet, none, few)
 
 -- what is no step and no fault of the source tells nothing of lines
@@ -126,7 +126,10 @@ end_passes (Err (Refused n kind)) s first new x z e = tt
 end_passes (Err ReadFault) s first new x z e = absurd e
 end_passes (Err NoMemory) s first new x z e = absurd e
 
-pub refusal_passes : (r : Result (Option Step) ScriptFault) (e : ScriptFault) (len : ℕ) (m : Move) (mid first new : State) (x z : Option (List ℕ)) → r ≡ Err e → TakesLine (Err e) len mid new m → Passes r first new x z
-refusal_passes r (Refused n kind) len m mid first new x z is t = rw is tt
-refusal_passes r ReadFault len m mid first new x z is t = absurd t
-refusal_passes r NoMemory len m mid first new x z is t = rw is tt
+-- a line that is refused, or for which memory ran out: then it is not taken
+pub refusal_passes : (r : Result (Option Step) ScriptFault) (e : ScriptFault) (len : ℕ) (m : Move) (first loop mid new : State) (x y : Option (List ℕ)) (heard : Bool → Option (List ℕ)) → Passed first loop x y
+    → Feeds loop mid y (heard mid.ended) → r ≡ Err e → TakesLine (Err e) len mid new m → Passes r first new x (heard new.ended)
+refusal_passes r (Refused n kind) len m first loop mid new x y heard passed f is t = rw is tt
+refusal_passes r ReadFault len m first loop mid new x y heard passed f is t = absurd t
+refusal_passes r NoMemory len m first loop mid new x y heard passed f is t =
+    rw is (subst (λ (s : State). Passed first s x (heard s.ended)) (sym t) (passed_fed first loop mid x y (heard mid.ended) passed f))

@@ -101,8 +101,8 @@ AreTaken ls old new before after = BothTold before after (λ a b. lines_of (old.
 abbrev pub AreWhole : List (List ℕ) → State → State → Type 0
 AreWhole ls old new = new.ended ≡ false → (old.ended ≡ false) × AreFed ls
 
--- The lines that a call took: whatever lines follow them, these are their steps. At a fault of the source, which has not told its end,
--- all whole lines were taken.
+-- The lines that a call took: whatever lines follow them, these are their steps. Up to want of memory they have none, and the next call
+-- goes on behind them. At a fault of the source, which has not told its end, all whole lines were taken.
 abbrev pub Passes : Result (Option Step) ScriptFault → State → State → Option (List ℕ) → Option (List ℕ) → Type 0
 Passes (Ok (Some s)) old new before after = (ls : List (List ℕ)) × AreTaken ls old new before after × ((rs : List (List ℕ)) → steps_behind old (ls ++ rs) ≡ step new.line s (steps_behind new rs)) × AreWhole ls old new
     × (new.taken ≡ old.taken + length (concat ls))
@@ -110,7 +110,8 @@ Passes (Ok None) old new before after = Unit {0}
 Passes (Err (Refused n kind)) old new before after = Unit {0}
 Passes (Err ReadFault) old new before after = (ls : List (List ℕ)) × AreTaken ls old new before after × ((rs : List (List ℕ)) → steps_behind old (ls ++ rs) ≡ steps_behind new rs) × AreWhole ls old new
     × (new.taken ≡ old.taken + length (concat ls)) × (new.ended ≡ false) × (has_feed new.held ≡ false) × (new.taken + length new.held ≤ 16777216)
-Passes (Err NoMemory) old new before after = Unit {0}
+Passes (Err NoMemory) old new before after = (ls : List (List ℕ)) × AreTaken ls old new before after × ((rs : List (List ℕ)) → steps_behind old (ls ++ rs) ≡ steps_behind new rs) × AreWhole ls old new
+    × (new.taken ≡ old.taken + length (concat ls))
 
 -- how the counts of a script go on: only a step has a line, and each takes bytes
 abbrev pub Counts : Result (Option Step) ScriptFault → State → State → Type 0

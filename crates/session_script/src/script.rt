@@ -158,7 +158,7 @@ impl Script {
     pub fn next<S: Source>(&mut self, source: &mut S) -> Result<Option<Step>, ScriptFault>
         // The answer is the first of the steps that were left, and the others are left after it: however the source cuts the bytes, they are the steps of all its bytes.
         ensures answer { BothTold (coming self.old.ended (S.left source.old)) (coming self.new.ended (S.left source.new)) (λ a b. AnswersNext result self.new.line (steps_left self.old a) (steps_left self.new b)) }
-        // The lines that it took for a step, or up to a fault of the source, whatever follows them.
+        // The lines that it took for a step, or up to a fault of the source or want of memory, whatever follows them.
         ensures lines { Passes result self.old self.new (coming self.old.ended (S.left source.old)) (coming self.new.ended (S.left source.new)) }
         // A script ends only where its source told its end. Then nothing is left of the source, and it is not read again.
         ensures end { result ≡ Ok None → self.new.ended ≡ true }

@@ -1,4 +1,4 @@
-ghost use Rattle.std.specs.Prelude.{◌≡◌, ◌↔◌, ◌<◌, ◌+◌, ◌^◌, [], cond, length, is_some, IfOk, IfErr, OnOk, OnErr, IsTrue};
+ghost use Rattle.std.specs.Prelude.{◌≡◌, ◌↔◌, ◌<◌, ◌+◌, ◌^◌, [], cond, length, is_some, false, Ok, None, IfOk, IfErr, OnOk, OnErr, IsTrue};
 ghost use Rattle.std.specs.Option.{option_copied, option_map};
 ghost use Rattle.std.specs.Map.Iter.{ShowsInOrder, deref_pair};
 ghost use Rattle.spec_tables.specs.Tables.{IsTable, at_key, with_key, without_key, with_value, entries_from};
@@ -152,6 +152,8 @@ impl<K: Ord + Drop, V: Drop> SharedTable<K, V> {
     /// stay as they were. After want of memory the table is as before.
     pub fn remove(&mut self, key: &K) -> Result<bool, AllocError>
         ensures there { IfOk result (λ there. there ≡ is_some (at_key K.cmp key.now self.old)) }
+        // Where the key is not there no memory is asked for.
+        ensures absent { at_key K.cmp key.now self.old ≡ None → result ≡ Ok false }
         ensures ok { OnOk result (self.new ≡ without_key K.cmp key.now self.old) }
         ensures err { OnErr result (self.new ≡ self.old) }
     {

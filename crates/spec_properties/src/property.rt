@@ -1,9 +1,9 @@
-ghost use Rattle.std.specs.Prelude.{◌≡◌, ◌↔◌, IsTrue, IfOk};
+ghost use Rattle.std.specs.Prelude.{◌≡◌, ◌↔◌, IsTrue};
 ghost use Rattle.spec_properties.specs.Properties.{property_name, blank_relationship};
 
 use crate::small::{Meta, Samples};
 use list_ops::ListOp;
-use plain_data::{ExactClone, ExactEq, Text, copy, same};
+use plain_data::{ExactClone, ExactEq, Text, copy_three, same};
 use sdf_paths::Path;
 use sdf_values::{TypeName, Value};
 use spec_tables::OrderedTable;
@@ -56,17 +56,6 @@ impl Property {
     }
 }
 
-/// Copies of three parts. It knows no fields of theirs, so that to let one go is a call.
-fn copied<A: ExactClone + Drop, B: ExactClone + Drop, C: ExactClone + Drop>(
-    first: &A,
-    second: &B,
-    third: &C,
-) -> Result<(A, B, C), AllocError>
-    ensures { IfOk result (λ copies. copies ≡ (first.now, second.now, third.now)) }
-{
-    Ok((copy(first)?, copy(second)?, copy(third)?))
-}
-
 impl Clone for Property {
     ghost use Rattle.std.specs.Prelude.{◌≡◌};
 
@@ -84,8 +73,8 @@ impl Clone for Property {
                 connections,
                 meta,
             } => {
-                let (name, default, samples) = copied(name, default, samples)?;
-                match copied(ty, connections, meta) {
+                let (name, default, samples) = copy_three(name, default, samples)?;
+                match copy_three(ty, connections, meta) {
                     Ok((ty, connections, meta)) => Ok(Property::Attr {
                         name,
                         ty,
@@ -108,7 +97,7 @@ impl Clone for Property {
                 targets,
                 meta,
             } => {
-                let (name, targets, meta) = copied(name, targets, meta)?;
+                let (name, targets, meta) = copy_three(name, targets, meta)?;
                 Ok(Property::Rel {
                     name,
                     custom: *custom,

@@ -3,7 +3,7 @@ ghost use Rattle.std.specs.Prelude.{◌≡◌, List, ℕ, OnOk};
 ghost use Rattle.list_ops.specs.declared.op.ListOp.{ListOp};
 ghost use Rattle.sdf_paths.specs.declared.element.Element.{Element};
 ghost use Rattle.spec_parts.specs.declared.items.RefItem.{RefItem};
-ghost use Rattle.usda_lists.specs.Acts.{Does};
+ghost use Rattle.usda_lists.specs.Acts.{AsksNoMemory, Does};
 ghost use Rattle.usda_lists.specs.Lists.{push_item};
 ghost use Rattle.usda_fields.specs.Fields.{paths_at, with_paths, items_at, with_items, texts_at, with_texts, given_at, with_given_at, open_field, field_act, path_act, text_act, asset_act, lone_path_act, item_path_act, item_number_act, close_field};
 
@@ -162,7 +162,8 @@ impl OwnerDraft {
         field: ListField,
         edit: ListEdit,
     ) -> Result<(), ActFault>
-        ensures { Does result self.new (field_act field edit self.old) }
+        ensures answer { Does result self.new (field_act field edit self.old) }
+        ensures sure { AsksNoMemory result }
     {
         let mut given = self.given.given_at(field);
         if let Err(fault) = given.give(edit) {

@@ -1,7 +1,7 @@
 //! The keys of metadata: what each expects, and where its value goes.
-ghost use Rattle.std.specs.Prelude.{◌≡◌, Some, IfOk};
+ghost use Rattle.std.specs.Prelude.{◌≡◌, Some, IfOk, OnErr};
 ghost use Rattle.sdf_values.specs.Conforms.{one};
-ghost use Rattle.usda_lists.specs.Acts.{Does, Gives};
+ghost use Rattle.usda_lists.specs.Acts.{AsksNoMemory, Does, Gives};
 ghost use Rattle.usda_fields.specs.Keys.{is_boolean_key, key_rule, rule_shape, is_prim_path, is_default_prim, judged_prim, judged, unless_taken, key_act, value_act, comment_act};
 
 use crate::names::text_of;
@@ -121,7 +121,8 @@ fn judged(alloc: Global, rule: KeyRule, value: Value) -> Result<Value, ActFault>
 }
 
 fn unless_taken(taken: bool, rule: KeyRule) -> Result<KeyRule, ActFault>
-    ensures { Gives result (unless_taken taken rule) }
+    ensures answer { Gives result (unless_taken taken rule) }
+    ensures sure { AsksNoMemory result }
 {
     match rule {
         KeyRule::Relocates => Err(ActFault::Refused(RefusalKind::Relocates)),
@@ -135,16 +136,19 @@ fn unless_taken(taken: bool, rule: KeyRule) -> Result<KeyRule, ActFault>
     }
 }
 
-/// What a key expects, before its value is read. `DuplicateSpec` where it is there already, `Relocates` for the key of that name.
+/// What a key expects, before its value is read. `DuplicateSpec` where it is there already, `Relocates` for the key of that name. Takes
+/// no memory.
 pub fn judge_key(meta: &Meta, key: &Text) -> Result<KeyRule, ActFault>
-    ensures { Gives result (key_act key.now meta.now) }
+    ensures answer { Gives result (key_act key.now meta.now) }
+    ensures sure { AsksNoMemory result }
 {
     unless_taken(meta.has(key), KeyRule::of_key(key.as_str()))
 }
 
-/// Puts the whole value of a key. `ValueShape` where the key does not take it.
+/// Puts the whole value of a key. `ValueShape` where the key does not take it. After a fault the metadata is as before.
 pub fn put_value(alloc: Global, meta: &mut Meta, key: Text, value: Value) -> Result<(), ActFault>
-    ensures { Does result meta.new (value_act key value meta.old) }
+    ensures answer { Does result meta.new (value_act key value meta.old) }
+    ensures kept { OnErr result (meta.new ≡ meta.old) }
 {
     match judged(alloc, KeyRule::of_key(key.as_str()), value) {
         Ok(value) => {
@@ -156,9 +160,10 @@ pub fn put_value(alloc: Global, meta: &mut Meta, key: Text, value: Value) -> Res
 }
 
 /// Puts a string token that stands alone, which is the value of the key `comment`. `NotUtf8` where its escapes make bytes that are not
-/// UTF-8, `DuplicateSpec` where the key is there already.
+/// UTF-8, `DuplicateSpec` where the key is there already. After a fault the metadata is as before.
 pub fn put_comment(alloc: Global, meta: &mut Meta, token: &str) -> Result<(), ActFault>
-    ensures { Does result meta.new (comment_act token.now meta.old) }
+    ensures answer { Does result meta.new (comment_act token.now meta.old) }
+    ensures kept { OnErr result (meta.new ≡ meta.old) }
 {
     let text = match text_of(alloc, token) {
         Ok(text) => text,

@@ -1,6 +1,6 @@
 //! What a prim or a variant says, as far as it is read.
 ghost use Rattle.std.specs.Prelude.{◌≡◌, IfOk, OnOk};
-ghost use Rattle.usda_lists.specs.Acts.{Does, Gives};
+ghost use Rattle.usda_lists.specs.Acts.{AsksNoMemory, Does, Gives};
 ghost use Rattle.usda_fields.specs.Owners.{no_marks, owner_at, key_act, value_act, comment_act, order_word, order_act, push_ordered, ordered_act};
 ghost use Rattle.usda_fields.specs.Variants.{variants_act, selections_act};
 
@@ -105,7 +105,8 @@ impl OwnerDraft {
     /// What a key of metadata expects, before its value is read. `DuplicateSpec` where it is there already, `Relocates` for the key of
     /// that name.
     pub fn judge_key(&self, key: &Text) -> Result<KeyRule, ActFault>
-        ensures { Gives result (key_act key.now self.now) }
+        ensures answer { Gives result (key_act key.now self.now) }
+        ensures sure { AsksNoMemory result }
     {
         judge_key(&self.spec.body.meta, key)
     }
@@ -133,7 +134,8 @@ impl OwnerDraft {
 
     /// Takes the word of an order of names. `DuplicateSpec` where there was a statement of this word before.
     pub fn give_order(&mut self, word: OrderWord) -> Result<(), ActFault>
-        ensures { Does result self.new (order_act word self.old) }
+        ensures answer { Does result self.new (order_act word self.old) }
+        ensures sure { AsksNoMemory result }
     {
         match word {
             OrderWord::NameChildren => {
@@ -182,7 +184,8 @@ impl OwnerDraft {
 
     /// Takes the word `variants`. `DuplicateSpec` where it stood before.
     pub fn give_variants(&mut self) -> Result<(), ActFault>
-        ensures { Does result self.new (variants_act self.old) }
+        ensures answer { Does result self.new (variants_act self.old) }
+        ensures sure { AsksNoMemory result }
     {
         if self.given.variants {
             return Err(ActFault::Refused(RefusalKind::DuplicateSpec));

@@ -16,6 +16,12 @@ Gives (Ok a) act = act ≡ Ok a
 Gives (Err (Refused k)) act = act ≡ Err k
 Gives (Err NoMemory) act = Unit {0}
 
+-- memory did not run out: the call asks for none
+abbrev pub AsksNoMemory : {A : Type 0} → Result A ActFault → Type 0
+AsksNoMemory (Ok a) = Unit {0}
+AsksNoMemory (Err (Refused k)) = Unit {0}
+AsksNoMemory (Err NoMemory) = ⊥
+
 -- one act, and then another on what it gives
 abbrev pub and_then : {A B : Type 0} → Result A RefusalKind → (A → Result B RefusalKind) → Result B RefusalKind
 and_then (Ok a) more = more a

@@ -1,6 +1,6 @@
 //! The lists of one field: an explicit one, or one for each edit word.
-ghost use Rattle.std.specs.Prelude.{◌≡◌};
-ghost use Rattle.usda_lists.specs.Acts.{Does};
+ghost use Rattle.std.specs.Prelude.{◌≡◌, OnErr};
+ghost use Rattle.usda_lists.specs.Acts.{AsksNoMemory, Does};
 ghost use Rattle.usda_lists.specs.Edits.{edit_of, none_given, has_edits, clashes, is_given, with_given, give};
 
 use sdf_values::RefusalKind;
@@ -66,9 +66,11 @@ impl GivenLists {
     }
 
     /// Notes that a list is given, which may be empty. `Syntax` where an explicit list and edits meet, `DuplicateSpec` where
-    /// this list was given before.
+    /// this list was given before; then nothing is noted. Takes no memory.
     pub fn give(&mut self, edit: ListEdit) -> Result<(), ActFault>
-        ensures { Does result self.new (give edit self.old) }
+        ensures answer { Does result self.new (give edit self.old) }
+        ensures kept { OnErr result (self.new ≡ self.old) }
+        ensures sure { AsksNoMemory result }
     {
         if self.clashes(edit) {
             return Err(ActFault::Refused(RefusalKind::Syntax));

@@ -49,7 +49,7 @@ pub fn open_list<T: Drop>(op: &mut ListOp<T>, edit: ListEdit)
     put_list(op, edit, empty);
 }
 
-/// Adds an item at the end of the list of an edit.
+/// Adds an item at the end of the list of an edit. After want of memory the list is of no use.
 pub fn push_item<T: Drop>(op: &mut ListOp<T>, edit: ListEdit, item: T) -> Result<(), AllocError>
     ensures { OnOk result (op.new ≡ push_item edit item op.old) }
 {

@@ -1,7 +1,7 @@
 //! Offset and scale of a reference, a payload or a sublayer.
 ghost use Rattle.std.specs.Prelude.{◌≡◌};
 ghost use Rattle.usda_lexer.specs.Meanings.{number_of};
-ghost use Rattle.usda_lists.specs.Acts.{Does, Gives};
+ghost use Rattle.usda_lists.specs.Acts.{AsksNoMemory, Gives};
 ghost use Rattle.usda_lists.specs.Offsets.{identity, offset_key, whole_number, with_offset, with_scale, with_part, offset_act};
 
 use sdf_values::{LayerOffset, Num, RefusalKind};
@@ -27,9 +27,10 @@ pub fn identity() -> LayerOffset
     }
 }
 
-/// The key that a word is. `ReferenceData` where it is neither `offset` nor `scale`.
+/// The key that a word is. `ReferenceData` where it is neither `offset` nor `scale`. Takes no memory.
 pub fn offset_key(word: &str) -> Result<OffsetKey, ActFault>
-    ensures { Gives result (offset_key word.now) }
+    ensures answer { Gives result (offset_key word.now) }
+    ensures sure { AsksNoMemory result }
 {
     match word {
         "offset" => Ok(OffsetKey::Offset),
@@ -48,7 +49,8 @@ fn whole_number(x: Num) -> Option<i128>
 }
 
 fn with_offset(n: i128, o: LayerOffset) -> Result<LayerOffset, ActFault>
-    ensures { Gives result (with_offset n o) }
+    ensures answer { Gives result (with_offset n o) }
+    ensures sure { AsksNoMemory result }
 {
     if n.unsigned_abs() > 1_000_000_000 {
         return Err(ActFault::Refused(RefusalKind::OffsetRange));
@@ -60,7 +62,8 @@ fn with_offset(n: i128, o: LayerOffset) -> Result<LayerOffset, ActFault>
 }
 
 fn with_scale(n: i128, o: LayerOffset) -> Result<LayerOffset, ActFault>
-    ensures { Gives result (with_scale n o) }
+    ensures answer { Gives result (with_scale n o) }
+    ensures sure { AsksNoMemory result }
 {
     if n < 1 || n > 1_000_000 {
         return Err(ActFault::Refused(RefusalKind::OffsetRange));
@@ -72,7 +75,8 @@ fn with_scale(n: i128, o: LayerOffset) -> Result<LayerOffset, ActFault>
 }
 
 fn with_part(key: OffsetKey, n: Option<i128>, o: LayerOffset) -> Result<LayerOffset, ActFault>
-    ensures { Gives result (with_part key n o) }
+    ensures answer { Gives result (with_part key n o) }
+    ensures sure { AsksNoMemory result }
 {
     match (key, n) {
         (_, None) => Err(ActFault::Refused(RefusalKind::OffsetRange)),
@@ -82,9 +86,10 @@ fn with_part(key: OffsetKey, n: Option<i128>, o: LayerOffset) -> Result<LayerOff
 }
 
 /// An offset with the number token of a key. `OffsetRange` where an offset is not whole and within 1,000,000,000 of 0, or a scale not
-/// whole and from 1 to 1,000,000; `NumberTooLong` where the text is no number that is kept.
+/// whole and from 1 to 1,000,000; `NumberTooLong` where the text is no number that is kept. Takes no memory.
 pub fn set_offset(key: OffsetKey, text: &str, o: LayerOffset) -> Result<LayerOffset, ActFault>
-    ensures { Gives result (offset_act key text.now o) }
+    ensures answer { Gives result (offset_act key text.now o) }
+    ensures sure { AsksNoMemory result }
 {
     match number_of(text) {
         None => Err(ActFault::Refused(RefusalKind::NumberTooLong)),

@@ -126,7 +126,8 @@ fn amend_offset(key: OffsetKey, text: &str, items: &mut Items<RefItem>) -> Resul
     }
 }
 
-/// Gives the last item of a list the path of the token behind its asset; `<>` is no path. `Syntax` where the token is no path.
+/// Gives the last item of a list the path of the token behind its asset; `<>` is no path. `Syntax` where the token is no path. After a
+/// fault the list is of no use.
 pub fn set_last_path(
     alloc: Global,
     op: &mut ListOp<RefItem>,
@@ -149,7 +150,8 @@ pub fn set_last_path(
     }
 }
 
-/// Gives the last item of a list an offset or a scale, by the number token of the key: `OffsetRange` where it is out of its bounds.
+/// Gives the last item of a list an offset or a scale, by the number token of the key: `OffsetRange` where it is out of its bounds. After
+/// a fault the list is of no use.
 pub fn set_last_offset(
     op: &mut ListOp<RefItem>,
     edit: ListEdit,
@@ -195,7 +197,8 @@ fn sublayer_number(key: OffsetKey, text: &str, sublayer: SubLayer) -> Result<Sub
     }
 }
 
-/// Gives the last sublayer an offset or a scale, by the number token of the key: `OffsetRange` where it is out of its bounds.
+/// Gives the last sublayer an offset or a scale, by the number token of the key: `OffsetRange` where it is out of its bounds. After a fault
+/// the list is of no use.
 pub fn set_sublayer_offset(
     sublayers: &mut Items<SubLayer>,
     key: OffsetKey,

@@ -1,5 +1,5 @@
 -- What the run of the machine has to do with the grammar, whatever the words mean.
-use Rattle.std.specs.Prelude.{◌≡◌, List, [], ◌∷◌, ◌++◌, Option, Result, Ok, Err}
+use Rattle.std.specs.Prelude.{◌≡◌, Bool, true, false, List, [], ◌∷◌, ◌++◌, Option, Some, Result, Ok, Err}
 use Rattle.usda_grammar.specs.declared.kinds.TokenKind.{TokenKind}
 use Rattle.usda_grammar.specs.declared.symbols.Symbol.{Symbol}
 use Rattle.usda_grammar.specs.Table.{layer}
@@ -15,10 +15,10 @@ module _ {Word Draft Refusal : Type 0} (kind : Word → TokenKind) (act : Symbol
     pub exact : (ws : List Word) (r : Refusal) → HaveFirstRefusal kind act refused_as blank ws r → run kind act refused_as layer blank ws ≡ Err r
     pub one : (ws : List Word) → HaveOneAnswer kind act refused_as blank ws
 
--- words that are their own kinds, and a draft that keeps them
-abbrev pub kept : Symbol → TokenKind → List TokenKind → Result (List TokenKind) (Option TokenKind)
-kept s k ks = Ok (ks ++ k ∷ [])
+-- words that are their own kinds, and a draft that keeps them, but for those that an act refuses
+abbrev pub kept_unless : (Symbol → TokenKind → List TokenKind → Bool) → Symbol → TokenKind → List TokenKind → Result (List TokenKind) (Option TokenKind)
+kept_unless refuses s k ks = elim (refuses s k ks) [ true ↦ Err (Some k) | false ↦ Ok (ks ++ k ∷ []) ]
 
--- the run over words that are mere kinds
+-- the run over words that are mere kinds, whichever of them the acts refuse
 abbrev pub KindsAreExact : Type 0
-KindsAreExact = RunIsExact (λ k. k) kept (λ k. k) []
+KindsAreExact = (refuses : Symbol → TokenKind → List TokenKind → Bool) → RunIsExact (λ k. k) (kept_unless refuses) (λ k. k) []

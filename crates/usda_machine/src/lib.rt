@@ -53,8 +53,8 @@ pub fn is_done(stack: &mut Items<Symbol>) -> bool
     true
 }
 
-/// A run over mere kinds of tokens gives exactly what the grammar makes of them, or their first refusal. The crates above state
-/// the same law for what their words mean.
+/// A run over mere kinds of tokens gives exactly what the grammar makes of them, or their first refusal, whichever of them are refused
+/// where they are taken. The crates above state the same law for what their words mean.
 pub fn kinds_are_exact()
     ensures { KindsAreExact }
 {}

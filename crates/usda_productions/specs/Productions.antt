@@ -1,5 +1,5 @@
 -- The table of the grammar has the texts of the productions, by which words make the same and are refused the same.
-use Rattle.std.specs.Prelude.{List, [], ◌∷◌, ◌++◌, Option, Result, Ok}
+use Rattle.std.specs.Prelude.{Bool, true, false, List, [], ◌∷◌, ◌++◌, Option, Some, Result, Ok, Err}
 use Rattle.usda_grammar.specs.declared.kinds.TokenKind.{TokenKind}
 use Rattle.usda_grammar.specs.declared.symbols.Symbol.{Symbol}
 use Rattle.usda_grammar.specs.Table.{layer}
@@ -22,10 +22,12 @@ module _ {Word Draft Refusal : Type 0} (kind : Word → TokenKind) (act : Symbol
     pub refused : (ws : List Word) (r : Refusal) → table.HaveFirstRefusal kind act refused_as blank ws r → HaveFirstRefusal kind act refused_as blank ws r
     pub refuses : (ws : List Word) (r : Refusal) → HaveFirstRefusal kind act refused_as blank ws r → table.HaveFirstRefusal kind act refused_as blank ws r
 
--- words that are their own kinds, and a draft that keeps them with the symbols by which they are acted on
-abbrev pub kept : Symbol → TokenKind → List (Symbol × TokenKind) → Result (List (Symbol × TokenKind)) (Option TokenKind)
-kept s k ks = Ok (ks ++ (s, k) ∷ [])
+-- words that are their own kinds, and a draft that keeps them with the symbols by which they are acted on, but for those that an act
+-- refuses
+abbrev pub kept_unless : (Symbol → TokenKind → List (Symbol × TokenKind) → Bool) → Symbol → TokenKind → List (Symbol × TokenKind) → Result (List (Symbol × TokenKind)) (Option TokenKind)
+kept_unless refuses s k ks = elim (refuses s k ks) [ true ↦ Err (Some k) | false ↦ Ok (ks ++ (s, k) ∷ []) ]
 
--- by the productions each word is acted on by the symbol that takes it in the table
+-- By the productions each word is acted on by the symbol that takes it in the table, and the first that an act refuses is the same,
+-- whichever these are.
 abbrev pub KindsAreMadeTheSame : Type 0
-KindsAreMadeTheSame = ProductionsMakeTheSame (λ k. k) kept (λ k. k) []
+KindsAreMadeTheSame = (refuses : Symbol → TokenKind → List (Symbol × TokenKind) → Bool) → ProductionsMakeTheSame (λ k. k) (kept_unless refuses) (λ k. k) []

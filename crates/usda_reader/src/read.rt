@@ -1,5 +1,5 @@
 //! The layer that a text says, or its first refusal.
-ghost use Rattle.std.specs.Prelude.{◌≡◌, length, true, None};
+ghost use Rattle.std.specs.Prelude.{◌≡◌, length, true, Some, None, Err};
 ghost use Rattle.std.specs.Str.{is_utf8};
 ghost use Rattle.sdf_specs.specs.Layers.{LayerTable};
 ghost use Rattle.spec_parts.specs.declared.items.Refusal.{Refusal as SaidRefusal};
@@ -9,7 +9,8 @@ ghost use Rattle.usda_grammar.specs.Table.{layer};
 ghost use Rattle.usda_words.specs.Words.{words_of};
 ghost use Rattle.usda_reader.specs.Checks.{first_check};
 ghost use Rattle.usda_reader.specs.Reading.{run_from, draft_of, layer_in, read, Gives, Reads, IsRead, IsRefused};
-ghost use Rattle.usda_reader.specs.Texts.{IsText, IsRefusedFirst};
+ghost use Rattle.usda_drafts.specs.declared.fault.Refused.{Refused};
+ghost use Rattle.usda_reader.specs.Texts.{IsText, IsRefusedFirst, refusal_at};
 
 use crate::checks::first_check;
 use crate::fault::{LayerFault, placed, refusal_at};
@@ -60,7 +61,8 @@ fn read_passed(alloc: Global, bytes: &[u8]) -> Result<Layer, LayerFault>
 
 // The layer or the first refusal, as the function of the bytes that they are.
 fn read(alloc: Global, bytes: &[u8]) -> Result<Layer, LayerFault>
-    ensures { Gives result (read bytes.now) }
+    ensures answer { Gives result (read bytes.now) }
+    ensures checked { (r : Refused) → first_check bytes.now ≡ Some r → result ≡ Err (LayerFault.Refused (refusal_at bytes.now r)) }
 {
     match first_check(bytes) {
         Some(refused) => Err(LayerFault::Refused(refusal_at(bytes, refused))),
@@ -78,6 +80,8 @@ pub fn read_layer(alloc: Global, bytes: &[u8]) -> Result<Layer, LayerFault>
     ensures only { (layer : LayerTable) → IsText bytes.now layer → IsRead result layer }
     // The first refusal of a text is told, unless memory runs out.
     ensures exact { (refusal : SaidRefusal) → IsRefusedFirst bytes.now refusal → IsRefused result refusal }
+    // What is judged before the first word is told before memory is asked for.
+    ensures checked { (r : Refused) → first_check bytes.now ≡ Some r → result ≡ Err (LayerFault.Refused (refusal_at bytes.now r)) }
 {
     read(alloc, bytes)
 }

@@ -1,6 +1,6 @@
 //! What the words before a property's name say.
 ghost use Rattle.std.specs.Prelude.{◌≡◌, Ok};
-ghost use Rattle.usda_lists.specs.Acts.{Does};
+ghost use Rattle.usda_lists.specs.Acts.{AsksNoMemory, Does};
 ghost use Rattle.usda_statements.specs.Headings.{begun, with_custom, with_variability, as_relationship, with_type, with_brackets};
 
 use sdf_values::{ELEMENTS, RefusalKind, TypeName};
@@ -56,7 +56,8 @@ impl Heading {
 
     /// Takes the word of an attribute's type.
     pub fn set_type(&mut self, word: &str) -> Result<(), ActFault>
-        ensures { Does result self.new (with_type word.now self.old) }
+        ensures answer { Does result self.new (with_type word.now self.old) }
+        ensures sure { AsksNoMemory result }
     {
         match find_element(&ELEMENTS, word) {
             Some(element) => {

@@ -1,6 +1,6 @@
 //! A property to which statements add.
 ghost use Rattle.std.specs.Prelude.{◌≡◌, OnOk};
-ghost use Rattle.usda_lists.specs.Acts.{Does, Gives};
+ghost use Rattle.usda_lists.specs.Acts.{AsksNoMemory, Does, Gives};
 ghost use Rattle.usda_statements.specs.PropertyDrafts.{no_marks, no_property, new_property, same_type, is_attribute_of, joined_to, joined, property_of, default_act, with_default, samples_act, with_sample, list_act, with_path, path_act, with_list_closed, meta_comment_act, meta_key_act, meta_act, is_in_hand};
 
 use crate::heading::Heading;
@@ -119,7 +119,8 @@ impl PropertyDraft {
         marks: PropertyMarks,
         property: Property,
     ) -> Result<PropertyDraft, ActFault>
-        ensures { Gives result (joined_to heading marks property) }
+        ensures answer { Gives result (joined_to heading marks property) }
+        ensures sure { AsksNoMemory result }
     {
         match property {
             Property::Attr {
@@ -184,7 +185,8 @@ impl PropertyDraft {
         marks: PropertyMarks,
         property: Option<Property>,
     ) -> Result<PropertyDraft, ActFault>
-        ensures { Gives result (joined heading name marks property) }
+        ensures answer { Gives result (joined heading name marks property) }
+        ensures sure { AsksNoMemory result }
     {
         match property {
             None => Ok(PropertyDraft::first(alloc, heading, name)),
@@ -232,7 +234,8 @@ impl PropertyDraft {
 
     /// Takes the `=` of a default, which may stand once.
     pub fn start_default(&mut self) -> Result<(), ActFault>
-        ensures { Does result self.new (default_act self.old) }
+        ensures answer { Does result self.new (default_act self.old) }
+        ensures sure { AsksNoMemory result }
     {
         if self.default.is_some() {
             return Err(ActFault::Refused(RefusalKind::DuplicateSpec));
@@ -249,7 +252,8 @@ impl PropertyDraft {
 
     /// Takes the word `timeSamples`, which may stand once.
     pub fn start_samples(&mut self) -> Result<(), ActFault>
-        ensures { Does result self.new (samples_act self.old) }
+        ensures answer { Does result self.new (samples_act self.old) }
+        ensures sure { AsksNoMemory result }
     {
         if self.marks.sampled {
             return Err(ActFault::Refused(RefusalKind::DuplicateSpec));
@@ -268,7 +272,8 @@ impl PropertyDraft {
 
     /// Opens the list of targets or connections of the statement's edit word.
     pub fn start_list(&mut self) -> Result<(), ActFault>
-        ensures { Does result self.new (list_act self.old) }
+        ensures answer { Does result self.new (list_act self.old) }
+        ensures sure { AsksNoMemory result }
     {
         match self.marks.lists.give(self.edit) {
             Ok(()) => {
@@ -316,7 +321,8 @@ impl PropertyDraft {
 
     /// What a key of metadata expects, before its value is read.
     pub fn judge_key(&self, key: &Text) -> Result<KeyRule, ActFault>
-        ensures { Gives result (meta_key_act key.now self.now) }
+        ensures answer { Gives result (meta_key_act key.now self.now) }
+        ensures sure { AsksNoMemory result }
     {
         judge_key(&self.meta, key)
     }

@@ -15,7 +15,8 @@ use usda_lexer::{LexFault, Tokens};
 ///
 /// A number that is too long is `NumberTooLong` where a value may stand, and `Syntax` elsewhere, as behind a member.
 pub fn read_value(alloc: Global, tokens: &mut Tokens<'_>) -> Result<Value, ValueFault>
-    ensures { AnswersRead result (draft_of Place.Value Shape.Untyped) tokens.old tokens.new }
+    ensures answer { AnswersRead result (draft_of Place.Value Shape.Untyped) tokens.old tokens.new }
+    ensures source { tokens.new.source ≡ tokens.old.source }
 {
     read(ValueDraft::new(alloc, Shape::Untyped), tokens)
 }
@@ -26,21 +27,24 @@ pub fn read_shaped(
     shape: Shape,
     tokens: &mut Tokens<'_>,
 ) -> Result<Value, ValueFault>
-    ensures { AnswersRead result (draft_of Place.Value shape) tokens.old tokens.new }
+    ensures answer { AnswersRead result (draft_of Place.Value shape) tokens.old tokens.new }
+    ensures source { tokens.new.source ≡ tokens.old.source }
 {
     read(ValueDraft::new(alloc, shape), tokens)
 }
 
 /// Reads a dictionary. After a refusal the tokens stand at the one that was refused.
 pub fn read_dict(alloc: Global, tokens: &mut Tokens<'_>) -> Result<Value, ValueFault>
-    ensures { AnswersRead result (draft_of Place.Dictionary Shape.Dictionary) tokens.old tokens.new }
+    ensures answer { AnswersRead result (draft_of Place.Dictionary Shape.Dictionary) tokens.old tokens.new }
+    ensures source { tokens.new.source ≡ tokens.old.source }
 {
     read(ValueDraft::dictionary(alloc), tokens)
 }
 
 // The value that the tokens complete.
 fn read(draft: ValueDraft, tokens: &mut Tokens<'_>) -> Result<Value, ValueFault>
-    ensures { AnswersRead result draft tokens.old tokens.new }
+    ensures answer { AnswersRead result draft tokens.old tokens.new }
+    ensures source { tokens.new.source ≡ tokens.old.source }
 {
     let mut draft = draft;
     loop {
@@ -57,7 +61,8 @@ fn read(draft: ValueDraft, tokens: &mut Tokens<'_>) -> Result<Value, ValueFault>
 
 // One token more; whether the value is complete.
 fn step(draft: &mut ValueDraft, tokens: &mut Tokens<'_>) -> Result<bool, ValueFault>
-    ensures { AnswersStep result draft.old draft.new tokens.old tokens.new }
+    ensures answer { AnswersStep result draft.old draft.new tokens.old tokens.new }
+    ensures source { tokens.new.source ≡ tokens.old.source }
 {
     match tokens.peek() {
         Ok(Some(token)) => match draft.give(token.kind, token.text) {

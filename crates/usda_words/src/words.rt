@@ -96,6 +96,8 @@ impl<'s> Words<'s> {
     pub fn next(&mut self) -> Option<Word<'s>>
         ensures answer { Takes result self.old self.new }
         ensures place { StandsIn result self.old }
+        // The words are of one source, the one of `new`.
+        ensures source { self.new.tokens.source ≡ self.old.tokens.source }
     {
         if self.is_over {
             return None;

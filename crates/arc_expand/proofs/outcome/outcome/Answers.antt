@@ -20,14 +20,14 @@ returns-in-Own c =
 
 pub returns-in_ok-stack-in-Named : goal.returns-in_ok-stack-in-Named
 returns-in_ok-stack-in-Named c =
-    IfOk-weaker c.outcome_within-in-Named.result _ _
+    IfOk-weaker c.outcome_within-outcome.result _ _
     (λ o is.
     is
     ∙ (ap (λ (h : Held). outcome_within (look_ups c.args.world.now) c.in_ok-stack-in-Named.stack.name c.args.item.now (heading_of h)) c.held.ensures
     ∙ (ap (λ (s : StackName). outcome_within (look_ups c.args.world.now) s c.args.item.now ((look_ups c.args.world.now).heading c.in-Named.name))
     (c.in_ok-stack-in-Named.ensures.name ∙ ap (λ (n : Text). stack_of (look_ups c.args.world.now) n) c.in_ok-copy-in-Named.ensures)
     ∙ named_outcome (look_ups c.args.world.now) c.args.stack.now.name c.args.item.now c.in-Named.name c.in-Named.is)))
-    c.outcome_within-in-Named.ensures
+    c.outcome_within-outcome.ensures
 
 pub returns-in-Unanchored : goal.returns-in-Unanchored
 returns-in-Unanchored c = unanchored_outcome (look_ups c.args.world.now) c.args.stack.now.name c.args.item.now c.in-Unanchored.field-0 c.in-Unanchored.is

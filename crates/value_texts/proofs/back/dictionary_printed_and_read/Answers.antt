@@ -9,7 +9,7 @@ pub returns-in-Ok : goal.returns-in-Ok
 returns-in-Ok c =
     let text : c.as_bytes.result.now ≡ print c.args.value.now 0 = search rules in
     let lexer : c.in-Ok.tokens ≡ record { source = print c.args.value.now 0; at = 0 } = (c.in-Ok.ensures {u = tt}).1 ∙ ap (λ (t : List ℕ). record { source = t; at = 0 }) text in
-    reading_dict_back c.read_dict.result c.args.value.now c.in-Ok.tokens c.read_dict.new.tokens c.requires.writable c.requires.readable c.requires.levels lexer c.read_dict.ensures
+    reading_dict_back c.read_dict.result c.args.value.now c.in-Ok.tokens c.read_dict.new.tokens c.requires.writable c.requires.readable c.requires.levels lexer c.read_dict.ensures.answer
 
 pub returns : goal.returns
 returns c =

@@ -81,7 +81,8 @@ returns-in_err-next_front-clause-lines g c =
 pub returns-in_err-step-in-Line-clause-lines : goal.returns-in_err-step-in-Line-clause-lines
 returns-in_err-step-in-Line-clause-lines g c =
     let p = err_from_is_err_and c.from_residual-in_err-step-in-Line.result c.from_residual-in_err-step-in-Line.ensures.1 in
-    refusal_passes c.from_residual-in_err-step-in-Line.result c.in_err-step-in-Line.field-0.0 c.in-Line.len _ c.next_front.new.self c.args.self.now c.take_front.new.self _ _ (p.1 ∙ ap Err p.2) c.in_err-step-in-Line.ensures
+    refusal_passes c.from_residual-in_err-step-in-Line.result c.in_err-step-in-Line.field-0.0 c.in-Line.len _ c.args.self.now c.loop-self.self c.next_front.new.self c.take_front.new.self _ _
+    (λ (e : Bool). coming e (g.S.Source.left c.next_front.new.source)) c.loop-self.invariant.passed c.in_ok-next_front.ensures.feeds (p.1 ∙ ap Err p.2) c.in_err-step-in-Line.ensures
 
 pub returns-in-Some-2-clause-lines : goal.returns-in-Some-2-clause-lines
 returns-in-Some-2-clause-lines g c =
