@@ -5,8 +5,9 @@
 
 Each case is a root with so many layers, as files in a folder of their own, which `usdstage session` opens, composes and publishes
 before it reads its empty script. Where the layers are named only by deleted references nothing is composed of them, so that the time
-is that of the opening and of one small prim for each name; the cases `sublayers` and `references` compose what they open. Seconds are
-the processor's, and peak memory is that of the process. Four times the layers should take little more than four times the time.
+is that of the opening and of one small prim for each name; the cases `sublayers`, `layered` and `references` compose what they open.
+Seconds are the processor's, and peak memory is that of the process. Four times the layers should take little more than four times the
+time; where each of them brings a prim (`layered`) they take the square of that, as each prim is composed from all of them.
 """
 from measure import Case, listed, main, no_lines
 
@@ -32,6 +33,11 @@ def deletions(count):
 def sublayers(count):
     """Layers without prims: a stage composes each of its prims from all layers of the root's stack."""
     return {"root": f"(subLayers = {listed(map(named, range(count)))})\n", **{name(i): f'(doc = "layer {i}")\n' for i in range(count)}}
+
+
+def layered(count):
+    """Layers of one prim each: a stage has as many prims as layers, and composes each prim from all of them."""
+    return {"root": f"(subLayers = {listed(map(named, range(count)))})\n", **{name(i): small(i) for i in range(count)}}
 
 
 def references(count):
@@ -76,6 +82,7 @@ CASES = [
     Case("crossed", "layers that name fifty others each", (1_000, 4_000), crossed, no_lines),
     Case("absent", "names without files", (1_000, 4_000), absent, no_lines),
     Case("sublayers", "sublayers without prims", (1_000, 4_000), sublayers, no_lines),
+    Case("layered", "sublayers with one prim each", (250, 1_000), layered, no_lines),
     Case("references", "layers that are referenced", (1_000, 4_000), references, no_lines),
     Case("large", "layers of 130 KB", (25, 100), large, no_lines),
 ]

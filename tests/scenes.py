@@ -1,5 +1,10 @@
 #!/usr/bin/env python3
-"""Runs the built program over small scenes, each with the answers that the rules of composition and of sessions give it."""
+"""Runs the built program over small scenes, each with the answers that the rules of composition and of sessions give it.
+
+Scenes stand below, and each folder of tests/worlds is one: its layers, the words behind the program's name a line each (`words`), the
+script, and what is written (`expected`). tools/world_equations.py makes equations of the same folders. Answers are worked out from the
+rules, and never taken from what was written.
+"""
 import os
 import resource
 import subprocess
@@ -92,6 +97,26 @@ def run(folder, words, script=""):
     return subprocess.run([os.path.join(TOP, "usdstage")] + words, cwd=folder, input=script.encode(), capture_output=True, timeout=600)
 
 
+def is_answered(name, got, wanted):
+    """A run ended well and wrote this; what differs is told."""
+    if (got.returncode, got.stdout, got.stderr) == (0, wanted, b""):
+        return True
+    print(f"{name}: status {got.returncode} {got.stderr.decode()}\n{got.stdout.decode()}")
+    return False
+
+
+def check_worlds():
+    """Runs the script of each folder of tests/worlds on its layers: how many folders there are, and how many differ."""
+    worlds = os.path.join(TOP, "tests", "worlds")
+    names = sorted(os.listdir(worlds))
+    failed = 0
+    for name in names:
+        words, script, wanted = (open(os.path.join(worlds, name, part), encoding="utf-8").read() for part in ("words", "script", "expected"))
+        got = run(os.path.join(worlds, name), words.split("\n")[:-1], script)
+        failed += not is_answered(name, got, wanted.encode())
+    return len(names), failed
+
+
 def write(folder, layers):
     for name, text in layers.items():
         with open(os.path.join(folder, name + ".usda"), "w") as file:
@@ -180,15 +205,14 @@ def main():
         with tempfile.TemporaryDirectory() as folder:
             write(folder, layers)
             got = run(folder, ["session", "root.usda"], script)
-        output = f"published 0: batches 0, prims {prims}\n{wanted}".encode()
-        if got.returncode != 0 or got.stdout != output or got.stderr:
-            failed += 1
-            print(f"{name}: status {got.returncode} {got.stderr.decode()}\n{got.stdout.decode()}")
+        failed += not is_answered(name, got, f"published 0: batches 0, prims {prims}\n{wanted}".encode())
+    worlds, differing = check_worlds()
+    failed += differing
     with tempfile.TemporaryDirectory() as folder:
         found = check_limits(folder)
     print("".join(f"{difference}\n" for difference in found), end="")
     failed += len(found)
-    print(f"scenes: {len(SCENES) + 12 - failed} passed, {failed} failed")
+    print(f"scenes: {len(SCENES) + worlds + 12 - failed} passed, {failed} failed")
     sys.exit(1 if failed else 0)
 
 

@@ -769,7 +769,7 @@ def main():
             continue
         with open(os.path.join(crate, "specs", title(number_) + ".antt"), "w", encoding="utf-8") as f:
             f.write(world_file(name, "A world of " + str(len(held)) + " layers.", root, session, held))
-        uses = ("// What composition makes of a small world, as closed equations.\n"
+        uses = ("//! What composition makes of a small world, as closed equations.\n"
                 "ghost use Rattle.std.specs.Prelude.{◌≡◌, codes, pos, negsuc, [], ◌∷◌};\n"
                 "ghost use Rattle.sdf_paths.specs.declared.element.Element.TheVariants.{Prim, Property};\n"
                 "ghost use Rattle.std.specs.Prelude.{true, false, Some, None};\n"

@@ -62,6 +62,6 @@ HasTarget (headed h) = ForSome h.default_prim IsDefaultPrim
 HasTarget no_layer = Unit {0}
 HasTarget (refused r) = Unit {0}
 
--- what a layer has as its default prim is the name of a root prim, or the text of a path
+-- what a layer has as its default prim is an identifier, or the text of a path, whether the prim is there or not
 pub record HasTargets (w : World) : Type 0 where
   pub each : (name : Text) → HasTarget (w.heading name)

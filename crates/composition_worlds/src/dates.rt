@@ -1,4 +1,4 @@
-// Since when prims of small worlds are as they are.
+//! Since when prims of small worlds are as they are.
 ghost use Rattle.std.specs.Prelude.{codes, pos, [], ◌∷◌};
 ghost use Rattle.composition.specs.Dates.{IsSince};
 ghost use Rattle.composition.specs.Paths.{limits};

@@ -1,4 +1,4 @@
-// Specifiers, types, metadata, lists of schemas and properties of prims, as closed equations.
+//! Specifiers, types, metadata, lists of schemas and properties of prims, as closed equations.
 ghost use Rattle.std.specs.Prelude.{◌≡◌, codes, pos, true, false, [], ◌∷◌, Some, None};
 ghost use Rattle.spec_parts.specs.declared.items.Specifier.TheVariants.{Def, Over, Class};
 ghost use Rattle.sdf_values.specs.declared.value.Value.TheVariants as value;

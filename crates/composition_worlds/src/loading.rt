@@ -1,4 +1,4 @@
-// Load rules, and the stages of small worlds, as closed equations.
+//! Load rules, and the stages of small worlds, as closed equations.
 ghost use Rattle.std.specs.Prelude.{◌≡◌, codes, true, false, [], ◌∷◌};
 ghost use Rattle.composition.specs.Paths.{limits};
 ghost use Rattle.composition.specs.Keys.{reads, same_keys, load, head, arcs, body};

@@ -1,4 +1,4 @@
-// The keys that a prim reads, as closed equations.
+//! The keys that a prim reads, as closed equations.
 ghost use Rattle.std.specs.Prelude.{◌≡◌, codes, true, [], ◌∷◌};
 ghost use Rattle.sdf_paths.specs.declared.element.Element.TheVariants.{Prim, Property, Selection};
 ghost use Rattle.composition.specs.Paths.{limits};

@@ -1,4 +1,4 @@
-// Arcs whose offset is out of range, and one without a target, as closed equations.
+//! Arcs whose offset is out of range, and one without a target, as closed equations.
 ghost use Rattle.std.specs.Prelude.{◌≡◌, codes, [], ◌∷◌};
 ghost use Rattle.composition_worlds.specs.Replies.{replies, sites, faults};
 ghost use Rattle.composition_worlds.specs.Short.{prims};

@@ -1,4 +1,4 @@
-// What composition makes of a small world, as closed equations.
+//! What composition makes of a small world, as closed equations.
 ghost use Rattle.std.specs.Prelude.{◌≡◌, codes, pos, negsuc, [], ◌∷◌};
 ghost use Rattle.sdf_paths.specs.declared.element.Element.TheVariants.{Prim, Property};
 ghost use Rattle.std.specs.Prelude.{true, false, Some, None};

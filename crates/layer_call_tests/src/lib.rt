@@ -1,4 +1,4 @@
-//! Calls of words, values, specs and layers, each once with ample memory and with answers from the rules; no part of the program.
+//! Calls of properties, specs and layers, each once with ample memory and with answers from the rules; no part of the program.
 #![tactic(auto)]
 
 #[cfg(test)]
@@ -7,7 +7,3 @@ mod layers;
 mod parts;
 #[cfg(test)]
 mod properties;
-#[cfg(test)]
-mod shapes;
-#[cfg(test)]
-mod words;

@@ -77,7 +77,8 @@ impl Path {
     ///
     /// A name directly after a selection may be written with its `/` or without it. `Bad` comes
     /// exactly where the text is no path, at the first byte with which none goes on; past 4,096 bytes
-    /// at byte 4,096, and past 64 names of prims where the name too many begins with its `/`.
+    /// at byte 4,096, and past 64 names of prims where the name too many begins, with its `/` where
+    /// one stands.
     pub fn parse(alloc: Global, text: &str) -> Result<Path, PathFault>
         ensures ok { IfOk result (λ path. IsReadAs text.now path) }
         ensures read { (path : List Element) → IsReadAs text.now path → (result ≡ Ok path) ⊎ (result ≡ Err PathFault.NoMemory) }

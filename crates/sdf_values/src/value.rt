@@ -20,7 +20,7 @@ pub enum Value {
     Tuple(Items<Value>),
     Array(Items<Value>),
     Dict(Items<DictItem>),
-    /// `None`: the attribute has no value.
+    /// `None`: what is said is that there is no value, over all weaker values.
     Block,
 }
 

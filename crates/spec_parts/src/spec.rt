@@ -14,7 +14,7 @@ use std::alloc::Global;
 pub struct Head {
     /// The layers below this one, the strongest first.
     pub sublayers: Items<SubLayer>,
-    /// The prim that a reference without a path means: a name of a root prim or an absolute path, as written.
+    /// The prim that a reference without a path means: an identifier or an absolute path, as written, whether the prim is there or not.
     pub default_prim: Option<Text>,
     /// The other metadata.
     pub meta: Meta,

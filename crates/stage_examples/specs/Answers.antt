@@ -59,7 +59,7 @@ pub record PrimsAreTold : Type 0 where
   pub selection : children_answer (Prim (codes "A") ∷ Selection (codes "s") (codes "x") ∷ []) stage ≡ NoPrim
   pub view : view_answer a_k stage ≡ Is (blank_view Def)
   pub no_view : view_answer b stage ≡ NoPrim
-  -- a stage without prims has no `/` either
+  -- a list without items has no view of `/` either
   pub nothing : view_answer [] [] ≡ NoPrim
 
 pub record DefaultsAreTold : Type 0 where

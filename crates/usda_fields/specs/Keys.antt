@@ -57,11 +57,11 @@ abbrev pub is_prim_path : Option (List Element) → Bool
 is_prim_path None = false
 is_prim_path (Some path) = ends_in_prim (slice_get path (length path - 1))
 
--- the name of a root prim, or the path of a prim from the root down
+-- an identifier, or the path of a prim from the root down, whether the prim is there or not
 abbrev pub is_default_prim : List ℕ → Bool
 is_default_prim text = is_identifier text || is_prim_path (path_of text)
 
--- the value of `defaultPrim`; a text that is neither the name of a root prim nor the path of a prim is refused
+-- the value of `defaultPrim`; a text that is neither an identifier nor the path of a prim from the root down is refused
 abbrev pub judged_prim : List ℕ → Result Value RefusalKind
 judged_prim text = if is_default_prim text then Ok (value.Text text) else Err refusal.ValueShape
 

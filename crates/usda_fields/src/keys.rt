@@ -23,7 +23,7 @@ pub enum KeyRule {
     Comment,
     /// `true`, `false`, 1 or 0.
     Boolean,
-    /// A string that is the name of a root prim or the path of a prim from the root down.
+    /// A string that is an identifier or the path of a prim from the root down, whether the prim is there or not.
     DefaultPrim,
     /// Any value.
     Free,

@@ -61,7 +61,7 @@ pub record AreProperFields (spec : Spec) : Type 0 where
   pub child_order : AreAll IsText spec.body.child_order
   pub property_order : AreAll IsText spec.body.property_order
 
--- the name of a root prim, or the path of a prim from the root down
+-- an identifier, or the path of a prim from the root down, whether the prim is there or not
 pub record IsPrimText (text : List ℕ) : Type 0 where
   pub utf8 : is_utf8 text ≡ true
   pub prim : is_default_prim text ≡ true

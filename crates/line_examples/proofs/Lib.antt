@@ -1,0 +1,5 @@
+mod Computing
+mod Lines
+mod Questions
+mod Operations
+mod Scripts

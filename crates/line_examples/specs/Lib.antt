@@ -1,0 +1,4 @@
+pub mod Lines
+pub mod Questions
+pub mod Operations
+pub mod Scripts
