@@ -258,7 +258,7 @@ def token(kind):
 
 
 def rust(kind):
-    return f"TokenKind::Word(Keyword::{kind})" if kind in WORDS else f"TokenKind::{kind}"
+    return f"WordKind::Word(Keyword::{kind})" if kind in WORDS else f"WordKind::{kind}"
 
 
 def grouped(rows):
@@ -280,7 +280,7 @@ def antt_head(about, *uses):
 
 
 DECLARED = "Rattle.usda_grammar.specs.declared."
-ENUMS = [DECLARED + "kinds.TokenKind.{TokenKind}", DECLARED + "kinds.TokenKind.TheVariants as token",
+ENUMS = [DECLARED + "kinds.WordKind.{WordKind}", DECLARED + "kinds.WordKind.TheVariants as token",
          DECLARED + "kinds.Keyword.TheVariants as word", DECLARED + "symbols.Symbol.{Symbol}", DECLARED + "symbols.Symbol.TheVariants as symbol"]
 
 
@@ -291,14 +291,14 @@ def specs_of(part):
         if where != part:
             continue
         text = about[0].lower() + about[1:].rstrip(".")
-        out += f"-- {text}\nabbrev pub {snake(name)} : TokenKind → Option (List Symbol)\n"
+        out += f"-- {text}\nabbrev pub {snake(name)} : WordKind → Option (List Symbol)\n"
         for kind, after in grouped(rows):
             pattern = "(token.Word w)" if kind == "any word" else token(kind)
             out += f"{snake(name)} {pattern} = Some ({listed('symbol.' + x for x in after)})\n"
         if len(rows) < len(KINDS):
             out += f"{snake(name)} k = None\n"
         out += "\n"
-    out += f"-- the symbols of this part\nabbrev pub {part.lower()}_starts : Symbol → TokenKind → Option (List Symbol)\n"
+    out += f"-- the symbols of this part\nabbrev pub {part.lower()}_starts : Symbol → WordKind → Option (List Symbol)\n"
     out += "".join(f"{part.lower()}_starts symbol.{name} k = {snake(name)} k\n" for where, name, _, _, _ in SYMBOLS if where == part)
     return out + f"{part.lower()}_starts s k = None\n"
 
@@ -314,7 +314,7 @@ some_of (Some after) rest = Some after
 some_of None rest = rest
 
 -- what follows a token that is the first of a symbol, where it may be the first
-abbrev pub starts : Symbol → TokenKind → Option (List Symbol)
+abbrev pub starts : Symbol → WordKind → Option (List Symbol)
 """
     out += "starts s k = some_of (layers_starts s k) (some_of (prims_starts s k) (some_of (properties_starts s k) (values_starts s k)))\n"
     out += "\n-- nothing may stand for the symbol\nabbrev pub may_be_absent : Symbol → Bool\n"
@@ -327,17 +327,17 @@ def code_of(part):
     out = f"// {MODULES[part]} Written by tools/grammar.py.\n"
     out += "ghost use Rattle.std.specs.Option.{option_map};\nghost use Rattle.std.specs.Prelude.{◌≡◌, List};\n"
     out += f"ghost use Rattle.usda_grammar.specs.{part}.{{{', '.join(snake(n) for n in names)}, {part.lower()}_starts}};\n\n"
-    out += "use crate::kinds::{Keyword, TokenKind};\nuse crate::symbols::Symbol;\n\nconst NONE: &[Symbol] = &[];\n\n"
+    out += "use crate::kinds::{Keyword, WordKind};\nuse crate::symbols::Symbol;\n\nconst NONE: &[Symbol] = &[];\n\n"
     for where, name, about, rows, _ in SYMBOLS:
         if where != part:
             continue
-        out += f"/// {about if about.endswith('.') else about + '.'}\nfn {snake(name)}(kind: TokenKind) -> Option<&'static [Symbol]>\n"
+        out += f"/// {about if about.endswith('.') else about + '.'}\nfn {snake(name)}(kind: WordKind) -> Option<&'static [Symbol]>\n"
         out += f"    ensures {{ option_map (λ s. s.now) result ≡ {snake(name)} kind }}\n{{\n    match kind {{\n"
         for kind, after in grouped(rows):
-            pattern = "TokenKind::Word(_)" if kind == "any word" else rust(kind)
+            pattern = "WordKind::Word(_)" if kind == "any word" else rust(kind)
             out += f"        {pattern} => Some({'&[' + ', '.join('Symbol::' + x for x in after) + ']' if after else 'NONE'}),\n"
         out += ("        _ => None,\n" if len(rows) < len(KINDS) else "") + "    }\n}\n\n"
-    out += f"/// What follows a token that is the first of a symbol of this part, where it may be the first.\npub fn starts(symbol: Symbol, kind: TokenKind) -> Option<&'static [Symbol]>\n"
+    out += f"/// What follows a token that is the first of a symbol of this part, where it may be the first.\npub fn starts(symbol: Symbol, kind: WordKind) -> Option<&'static [Symbol]>\n"
     out += f"    ensures {{ option_map (λ s. s.now) result ≡ {part.lower()}_starts symbol kind }}\n{{\n    match symbol {{\n"
     return out + "".join(f"        Symbol::{name} => {snake(name)}(kind),\n" for name in names) + "        _ => None,\n    }\n}\n"
 
@@ -353,10 +353,10 @@ def code_symbols():
 def code_table():
     out = "// The table: what each symbol may begin with, and which symbols may be absent. Written by tools/grammar.py.\n"
     out += "ghost use Rattle.std.specs.Option.{option_map};\nghost use Rattle.std.specs.Prelude.{◌≡◌, List};\n"
-    out += "ghost use Rattle.usda_grammar.specs.Table.{starts, may_be_absent, layer};\n\nuse crate::kinds::TokenKind;\nuse crate::symbols::Symbol;\n"
+    out += "ghost use Rattle.usda_grammar.specs.Table.{starts, may_be_absent, layer};\n\nuse crate::kinds::WordKind;\nuse crate::symbols::Symbol;\n"
     out += "use crate::{layers, prims, properties, values};\n\n/// A layer: its head and its root prims.\npub fn layer() -> &'static [Symbol]\n    ensures { result.now ≡ layer }\n{\n"
     out += f"    &[{', '.join('Symbol::' + x for x in START)}]\n}}\n\n"
-    out += "/// What follows a token that is the first of a symbol, where it may be the first.\npub fn starts(symbol: Symbol, kind: TokenKind) -> Option<&'static [Symbol]>\n"
+    out += "/// What follows a token that is the first of a symbol, where it may be the first.\npub fn starts(symbol: Symbol, kind: WordKind) -> Option<&'static [Symbol]>\n"
     out += """    ensures { option_map (λ s. s.now) result ≡ starts symbol kind }
 {
     if let Some(after) = layers::starts(symbol, kind) {
@@ -379,8 +379,8 @@ def code_table():
 def proofs_kinds():
     out = antt_head("What holds of each kind of token holds of all.",
                     "Rattle.std.proofs.Common.{◌≡◌, ℕ, zero, suc, Bool, true, false, ◌&&◌, List, [], ◌∷◌, Option, Some, None, refl, ap, sym, ◌∙◌}", *ENUMS[:3])
-    out += "abbrev pub kinds : List TokenKind\nkinds =\n    " + " ∷ ".join([token(kind) for kind in KINDS] + ["[]"]) + "\n\n"
-    out += """abbrev pub all : (TokenKind → Bool) → List TokenKind → Bool
+    out += "abbrev pub kinds : List WordKind\nkinds =\n    " + " ∷ ".join([token(kind) for kind in KINDS] + ["[]"]) + "\n\n"
+    out += """abbrev pub all : (WordKind → Bool) → List WordKind → Bool
 all p [] = true
 all p (k ∷ ks) = p k && all p ks
 
@@ -392,21 +392,21 @@ pub back : (a b : Bool) → (a && b) ≡ true → b ≡ true
 back true b e = e
 back false b e = absurd cc
 
-abbrev at : List TokenKind → ℕ → Option TokenKind
+abbrev at : List WordKind → ℕ → Option WordKind
 at [] n = None
 at (k ∷ ks) zero = Some k
 at (k ∷ ks) (suc n) = at ks n
 
-all-at : (p : TokenKind → Bool) (ks : List TokenKind) → all p ks ≡ true → (n : ℕ) (k : TokenKind) → at ks n ≡ Some k → p k ≡ true
+all-at : (p : WordKind → Bool) (ks : List WordKind) → all p ks ≡ true → (n : ℕ) (k : WordKind) → at ks n ≡ Some k → p k ≡ true
 all-at p [] e n k same = absurd cc
 all-at p (x ∷ ks) e zero k same = let f : x ≡ k = cc in ap p (sym f) ∙ front (p x) (all p ks) e
 all-at p (x ∷ ks) e (suc n) k same = all-at p ks (back (p x) (all p ks) e) n k same
 
 -- a test that each kind passes
-pub all_kinds-at : (p : TokenKind → Bool) → all p kinds ≡ true → (k : TokenKind) → p k ≡ true
+pub all_kinds-at : (p : WordKind → Bool) → all p kinds ≡ true → (k : WordKind) → p k ≡ true
 """
     out += "".join(f"all_kinds-at p e {token(kind)} = all-at p kinds e {n} {token(kind)} refl\n" for n, kind in enumerate(KINDS))
-    out += "\n-- a fact that each kind has\npub by_kind : (P : TokenKind → Type 0) → " + " → ".join(f"P {token(kind)}" for kind in KINDS) + " → (k : TokenKind) → P k\n"
+    out += "\n-- a fact that each kind has\npub by_kind : (P : WordKind → Type 0) → " + " → ".join(f"P {token(kind)}" for kind in KINDS) + " → (k : WordKind) → P k\n"
     names = [f"h{n}" for n in range(len(KINDS))]
     out += "".join(f"by_kind P {' '.join(names)} {token(kind)} = h{n}\n" for n, kind in enumerate(KINDS))
     return out
@@ -415,7 +415,7 @@ pub all_kinds-at : (p : TokenKind → Bool) → all p kinds ≡ true → (k : To
 def proofs_follow():
     out = antt_head("The tokens that may follow a symbol that may be absent, or at whose end one stands; any token, where it does not matter.",
                     "Rattle.std.specs.Prelude.{Bool, true, false}", *ENUMS)
-    out += "abbrev pub may_follow : Symbol → TokenKind → Bool\n"
+    out += "abbrev pub may_follow : Symbol → WordKind → Bool\n"
     for name in needs_follow():
         all_words = all(word in FOLLOW[name] for word in WORDS)
         if all_words:
@@ -447,9 +447,9 @@ def proofs_shortest():
         d, h = derived(after + names[1:])
         return f"(takes {d})", f"({listed('symbol.' + x for x in after)}, refl, {h})"
 
-    out += "abbrev pub shortest : Symbol → List TokenKind\n"
+    out += "abbrev pub shortest : Symbol → List WordKind\n"
     out += "".join(f"shortest symbol.{name} = {listed(text(name))}\n" for name in NAMES if name not in ABSENT) + "shortest s = []\n\n"
-    out += "-- what stands behind a symbol, with the symbol's text before it\npub with_shortest : (s : Symbol) (stack : List Symbol) (ks : List TokenKind) → AreText stack ks → AreText (s ∷ stack) (shortest s ++ ks)\n"
+    out += "-- what stands behind a symbol, with the symbol's text before it\npub with_shortest : (s : Symbol) (stack : List Symbol) (ks : List WordKind) → AreText stack ks → AreText (s ∷ stack) (shortest s ++ ks)\n"
     for name in NAMES:
         d, h = derived([name])
         out += f"with_shortest symbol.{name} stack ks (d, h) = ({d}, {h})\n"
@@ -467,7 +467,7 @@ def proofs_agree():
     out = antt_head("Each row of the table is the one way on of what its symbol stands for.",
                     "Rattle.std.proofs.Common.{◌≡◌, refl}", *ENUMS[:1], *ENUMS[3:], "Rattle.usda_grammar.specs.Table.{may_be_absent}",
                     "Rattle.usda_grammar.proofs.AllKinds.{by_kind}", "Rattle.usda_productions.proofs.Shapes.{form}", "Rattle.usda_productions.proofs.Ways.{absent, Agrees}")
-    out += "pub table : (s : Symbol) (k : TokenKind) → Agrees s k\n"
+    out += "pub table : (s : Symbol) (k : WordKind) → Agrees s k\n"
     out += "".join(f"table symbol.{name} = by_kind (Agrees symbol.{name}) {' '.join(['refl'] * len(KINDS))}\n" for name in NAMES)
     out += "\npub absent_same : (s : Symbol) → absent (form s) ≡ may_be_absent s\n"
     return out + "".join(f"absent_same symbol.{name} = refl\n" for name in NAMES)

@@ -1,8 +1,6 @@
 -- Names that are asked, each once: the names of a stack may be taken each once first.
 use Rattle.std.proofs.Common.{◌≡◌, ◌∙◌, sym, ap, refl, Bool, true, false, ◌||◌, List, [], ◌∷◌, ◌++◌}
 use Rattle.std.specs.Prelude.{fold, flat_map}
-use Rattle.std.specs.List.{list_any}
-use Rattle.std.proofs.lemmas.List.Folds.{list_any-append}
 use Rattle.std.proofs.lemmas.List.Sums.{fold-append}
 use Rattle.path_maps.specs.declared.kind.ArcKind.{ArcKind}
 use Rattle.path_maps.specs.declared.kind.ArcKind.TheVariants.{Inherits, Variant, Reference, Payload, Specializes}
@@ -12,38 +10,16 @@ use Rattle.composition.specs.World.{World, Heading, headed, no_layer, refused, S
 use Rattle.composition.specs.Arcs.{Source, own, named, unanchored, Authored}
 use Rattle.composition.specs.Keys.{asked_by_source, asked_if_present}
 use Rattle.layer_stack.specs.Meant.{noted, each_once, defined_stack}
-use Rattle.layer_stack.proofs.Names.{same_text_same, same_itself}
-use Rattle.layer_stack.proofs.Noting.{noted_new, noted_old}
+use Rattle.layer_stack.proofs.Noting.{noted_new, noted_old, has, noted_there, noted_kept}
 use Rattle.arc_expand.specs.Arcs.{asked_below, asked_by, asked_in_turn, asked_for}
-
-abbrev has : Text → List Text → Bool
-has n names = list_any (same_text n) names
+use Rattle.composition.proofs.Same.{same_text_same}
 
 abbrev more : List Text → List Text → List Text
 more names ys = fold noted names ys
 
-there_noted : (n : Text) (names : List Text) (y : Text) → has n names ≡ true → has n (noted names y) ≡ true
-there_noted n names y h = by_test (has y names) refl
-  where
-    by_test : (b : Bool) → has y names ≡ b → has n (noted names y) ≡ true
-    by_test true is = ap (λ (l : List Text). has n l) (noted_old names y is) ∙ h
-    by_test false is =
-        ap (λ (l : List Text). has n l) (noted_new names y is)
-        ∙ (list_any-append (same_text n) names (y ∷ []) ∙ ap (λ (b : Bool). b || has n (y ∷ [])) h)
-
-noted_itself : (names : List Text) (y : Text) → has y (noted names y) ≡ true
-noted_itself names y = by_test (has y names) refl
-  where
-    by_test : (b : Bool) → has y names ≡ b → has y (noted names y) ≡ true
-    by_test true is = ap (λ (l : List Text). has y l) (noted_old names y is) ∙ is
-    by_test false is =
-        ap (λ (l : List Text). has y l) (noted_new names y is)
-        ∙ (list_any-append (same_text y) names (y ∷ [])
-        ∙ (ap (λ (b : Bool). b || (same_text y y || false)) is ∙ ap (λ (b : Bool). b || false) (same_itself y)))
-
 there_all : (n : Text) (names ys : List Text) → has n names ≡ true → has n (more names ys) ≡ true
 there_all n names [] h = h
-there_all n names (y ∷ ys) h = there_all n (noted names y) ys (there_noted n names y h)
+there_all n names (y ∷ ys) h = there_all n (noted names y) ys (noted_kept names y n h)
 
 noted_all : (n : Text) (names ys : List Text) → has n ys ≡ true → has n (more names ys) ≡ true
 noted_all n names [] h = absurd cc
@@ -51,7 +27,7 @@ noted_all n names (y ∷ ys) h = by_first (same_text n y) refl h (noted_all n (n
   where
     by_first : (b : Bool) → same_text n y ≡ b → (b || has n ys) ≡ true → (has n ys ≡ true → has n (more (noted names y) ys) ≡ true) → has n (more (noted names y) ys) ≡ true
     by_first true is h rest =
-        there_all n (noted names y) ys (ap (λ (x : Text). has x (noted names y)) (same_text_same n y is) ∙ noted_itself names y)
+        there_all n (noted names y) ys (ap (λ (x : Text). has x (noted names y)) (same_text_same n y is) ∙ noted_there names y)
     by_first false is h rest = rest h
 
 one_step : (names ts : List Text) (y : Text) → more names (noted ts y) ≡ noted (more names ts) y

@@ -1,9 +1,10 @@
 -- Each item that edits make of the empty list comes of an edit.
-use Rattle.std.proofs.Common.{◌≡◌, ◌∙◌, sym, ap, refl, subst, arith, ℕ, ◌<◌, ◌-◌, Bool, true, false, not, ◌||◌, List, [], ◌∷◌, ◌++◌, length, map, reverse, Option, Some, None, get_or}
+use Rattle.std.proofs.Common.{◌≡◌, ◌∙◌, sym, ap, subst, arith, ℕ, ◌<◌, ◌-◌, Bool, true, false, not, ◌||◌, List, [], ◌∷◌, ◌++◌, length, map, reverse, Option, Some, None, get_or}
 use Rattle.std.specs.List.{All, flat_map, list_any}
 use Rattle.std.proofs.lemmas.List.{length-reverse, get_or-reverse}
 use Rattle.std.proofs.lemmas.List.Elements.{All-nil, All-cons, All-head, All-tail, All-append, All-filter, All-weaker}
 use Rattle.std.proofs.lemmas.List.Folds.{list_any-append}
+use Rattle.std.proofs.lemmas.Bool.{or_right, or_left}
 use Rattle.list_ops.specs.ListEdits.{contains, without, firsts, until_listed, group_of, grouped, with_deleted, with_added, with_prepended, with_appended, edited, applied, all_applied, folded}
 use Rattle.list_ops.specs.declared.op.ListOp.{ListOp}
 use Rattle.composition.specs.Texts.{Text}
@@ -84,13 +85,6 @@ all_reversed P xs h k d within =
     let inside : k < length xs = omega (arith, within, length-reverse xs) in
     let other : length xs - 1 - k < length xs = omega (arith, inside) in
     subst P (sym (get_or-reverse xs k d inside)) (h (length xs - 1 - k) d other)
-
-or_left : (a b : Bool) → a ≡ true → (a || b) ≡ true
-or_left a b h = ap (λ (x : Bool). x || b) h
-
-or_right : (a b : Bool) → b ≡ true → (a || b) ≡ true
-or_right true b h = refl
-or_right false b h = h
 
 module _ {T : Type 0} (same : T → T → Bool) (itself : (x : T) → same x x ≡ true) where
   contains_each : (ys : List T) → All (λ x. contains same ys x ≡ true) ys

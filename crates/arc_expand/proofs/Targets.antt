@@ -4,17 +4,14 @@ use Rattle.std.specs.Str.{chars, IsUtf8}
 use Rattle.std.proofs.lemmas.Bool.Decides.{nat_tests}
 use Rattle.std.proofs.lemmas.Str.{encodes-chars, encodes_same}
 use Rattle.sdf_paths.specs.Paths.{IsReadAs}
-use Rattle.sdf_paths.specs.Reader.{after, after_all, start, finish, RunsTo}
+use Rattle.sdf_paths.specs.Reader.{after, after_all, start}
 use Rattle.sdf_paths.specs.declared.element.Element.{Element}
-use Rattle.sdf_paths.specs.declared.reader.Reader.{Reader}
 use Rattle.sdf_paths.proofs.Complete.{reads, RunsOver}
 use Rattle.sdf_paths.proofs.ParseExact.{is_read}
-use Rattle.composition.specs.Paths.{Path, read_path, finished}
+use Rattle.sdf_paths.proofs.PathOf.{done, ran_to}
+use Rattle.composition.specs.Paths.{Path, read_path}
 use Rattle.composition.specs.World.{is_absolute}
 use Rattle.arc_expand.specs.Outcomes.{path_of, target_of}
-
-done : (r : Option Reader) (last : Reader) (path : List Element) → r ≡ Some last → finish last ≡ Some path → finished r ≡ Some path
-done r last path e f = ap finished e ∙ f
 
 -- a text that is read as a path gives it
 pub path_is : (text : List ℕ) (path : List Element) → IsUtf8 text → IsReadAs text path → path_of text ≡ Some path
@@ -25,10 +22,6 @@ path_is text path utf8 read =
     let ran : after (chars text) ≡ Some run.last = ap (λ cs. after_all cs (Some start)) (sym same) ∙ run.ran in
     let short : nat_le (length text) 4096 ≡ true = (let s : length text ≤ 4096 = read.short in grind (arith, nat_tests)) in
     ap (λ (b : Bool). elim b as (λ _. Option Path) [ true ↦ read_path text | false ↦ None ]) short ∙ done (after (chars text)) run.last path ran run.finishes
-
-ran_to : (text : List ℕ) (r : Option Reader) (path : List Element) → after (chars text) ≡ r → length text ≤ 4096 → finished r ≡ Some path → RunsTo text path
-ran_to text None path e short h = absurd cc
-ran_to text (Some last) path e short h = record { last = last; ran = e; done = h; short = short }
 
 -- a text that is read as no path gives none
 pub no_path : (text : List ℕ) → IsUtf8 text → ((path : List Element) → IsReadAs text path → ⊥) → path_of text ≡ None

@@ -1,7 +1,7 @@
 -- An order of items: by their layer, their path and their offset.
-use Rattle.std.specs.Prelude.{◌≡◌, ℕ, Bool, true, false, List, []}
+use Rattle.std.specs.Prelude.{◌≡◌, ℕ, List, [], Bool, false}
 use Rattle.std.proofs.Common.{refl, sym, ap, ◌∙◌, subst, arith}
-use Rattle.std.specs.Cmp.{IsTotalOrder, IsEquivalence, then_total, on_total, nat_cmp_total, int_cmp_total, tied_itself}
+use Rattle.std.specs.Cmp.{IsTotalOrder, IsEquivalence, then_total, on_total, nat_cmp_total, int_cmp_total, tied_itself, Equal-is}
 use Rattle.std.specs.Cmp.Lexicographic.{slice_cmp, nat_list_cmp_total, lists_total, options_total}
 use Rattle.std.specs.Option.{option_cmp}
 use Rattle.std.specs.Ordering.{nat_cmp, int_cmp, on, then_cmp, ordering_then, is_eq}
@@ -15,7 +15,8 @@ use Rattle.sdf_paths.specs.declared.element.Element.{Element}
 use Rattle.sdf_paths.specs.declared.element.Element.TheVariants.{Prim, Property, Selection}
 use Rattle.sdf_paths.specs.contracts.path.PathOrd.TheImpl.{ghosts as path_order}
 use Rattle.composition.specs.Arcs.{Source, Item, own, named, unanchored, same_item}
-use Rattle.arc_expand.specs.SameItems.{item_same, item_itself, both_ways}
+use Rattle.arc_expand.specs.SameItems.{item_same, item_itself, one_is_same}
+use Rattle.composition.proofs.Tests.{one_answer}
 
 -- items that lead to their own stack, those that name a layer, and those that cannot be anchored
 abbrev pub rank : Source → ℕ
@@ -118,25 +119,17 @@ item_tie x y h =
     let scale = exact_signed x.offset.scale y.offset.scale fourth.1 in
     λ i. record { source = source i; path = path i; offset = record { offset = offset i; scale = scale i } }
 
-tied : (o : Ordering) → is_eq o ≡ true → o ≡ Equal
-tied Less h = absurd cc
-tied Equal h = refl
-tied Greater h = absurd cc
-
-one_is_same : (a b : Item) → a ≡ b → same_item a b ≡ true
-one_is_same a b is = ap (λ (x : Item). same_item a x) (sym is) ∙ item_itself a
-
 -- the test of items holds exactly where the order does not part them
 pub item_ties : (x y : Item) → same_item x y ≡ is_eq (item_cmp x y)
 item_ties x y =
-    both_ways (same_item x y) (is_eq (item_cmp x y))
-    (λ h. ap (λ (z : Item). is_eq (item_cmp x z)) (sym (item_same x y h)) ∙ ap is_eq (tied_itself item_total x))
-    (λ h. one_is_same x y (item_tie x y (tied (item_cmp x y) h)))
+    one_answer (same_item x y) (is_eq (item_cmp x y)) (item_same x y, one_is_same x y)
+    (λ h. item_tie x y ((Equal-is (item_cmp x y)).0 h))
+    (λ is. ap (λ (z : Item). is_eq (item_cmp x z)) (sym is) ∙ ap is_eq (tied_itself item_total x))
 
 -- the test of items is an equivalence
 pub item_equiv : IsEquivalence same_item
 item_equiv = record {
   refl = item_itself;
-  symm = λ x y. both_ways (same_item x y) (same_item y x) (λ h. one_is_same y x (sym (item_same x y h))) (λ h. one_is_same x y (sym (item_same y x h)));
+  symm = λ x y. one_answer (same_item x y) (same_item y x) (item_same x y, one_is_same x y) (λ h. sym (item_same y x h)) (λ is. one_is_same y x (sym is));
   congr = λ x y z h. ap (λ (w : Item). same_item w z) (item_same x y h);
 }

@@ -1,45 +1,15 @@
 -- The test of items tells every two apart.
-use Rattle.std.proofs.Common.{◌≡◌, ◌∙◌, sym, ap, refl, arith, ℕ, ◌≤◌, Bool, true, false, ◌&&◌, IsTrue, ◌↔◌, List, [], ◌∷◌, Option, Some, None}
-use Rattle.std.specs.Prelude.{◌==◌, ℤ, pos, negsuc, int_le, nat_le}
-use Rattle.std.specs.Str.{bytes_eq}
-use Rattle.std.specs.Cmp.Lexicographic.{bytes_decides}
+use Rattle.std.proofs.Common.{◌≡◌, ◌∙◌, sym, ap, refl, arith, ℕ, Bool, true, false, IsTrue, ◌↔◌, List, [], ◌∷◌, Option, Some, None, ◌≤◌}
+use Rattle.std.specs.Prelude.{ℤ, pos, negsuc, nat_le, int_le}
 use Rattle.std.proofs.lemmas.Bool.Decides.{nat_tests}
-use Rattle.plain_data.specs.Exact.{both_true, text_same}
 use Rattle.sdf_paths.specs.Paths.{same_element}
-use Rattle.sdf_paths.specs.declared.element.Element.{Element}
-use Rattle.sdf_paths.specs.declared.element.Element.TheVariants.{Prim, Property, Selection}
 use Rattle.sdf_values.specs.Scales.{Offset}
-use Rattle.composition.specs.Texts.{Text, same_list, same_text, same_option, both}
-use Rattle.composition.specs.Paths.{Path, same_path}
+use Rattle.composition.specs.Texts.{same_list, same_option, both}
+use Rattle.composition.specs.Paths.{same_path, Path}
 use Rattle.composition.specs.World.{same_number, same_offset}
 use Rattle.composition.specs.Arcs.{Source, Item, own, named, unanchored, same_source, same_item}
-
-parts : (a b : Bool) → both a b ≡ true → (a ≡ true) × (b ≡ true)
-parts true b h = (refl, h)
-parts false b h = absurd cc
-
-hold : (a b : Bool) → a ≡ true → b ≡ true → both a b ≡ true
-hold a b h k = ap (λ (x : Bool). both x b) h ∙ k
-
--- ---- texts
-
--- the test of texts is that of their bytes, text by text
-pub same_is_bytes : (a b : Text) → same_text a b ≡ bytes_eq a b
-same_is_bytes [] [] = refl
-same_is_bytes [] (y ∷ ys) = refl
-same_is_bytes (x ∷ xs) [] = refl
-same_is_bytes (x ∷ xs) (y ∷ ys) =
-    elim (x == y) as (λ b. (elim b as (λ _. Bool) [ true ↦ same_text xs ys | false ↦ false ]) ≡ (b && bytes_eq xs ys)) [ true ↦ same_is_bytes xs ys | false ↦ refl ]
-
-text_exact : (a b : Text) → same_text a b ≡ true → a ≡ b
-text_exact a b h = text_same a b (sym (same_is_bytes a b) ∙ h)
-
-text_itself : (a : Text) → same_text a a ≡ true
-text_itself a = same_is_bytes a a ∙ (bytes_decides a a).1 refl
-
--- the test of texts is that of their bytes
-pub text_tests_are : ◌≡◌ {A = Text → Text → Bool} bytes_eq same_text
-text_tests_are = λ i. λ a b. sym (same_is_bytes a b) i
+use Rattle.composition.proofs.Same.{same_text_same, same_itself, element_same, element_itself}
+use Rattle.composition.proofs.Tests.{both_hold, both_parts, one_answer}
 
 -- ---- numbers and offsets
 
@@ -50,49 +20,26 @@ least : (n : ℕ) → nat_le n n ≡ true
 least n = grind (arith, nat_tests)
 
 number_same : (a b : ℤ) → same_number a b ≡ true → a ≡ b
-number_same (pos m) (pos n) h = let both = parts (nat_le m n) (nat_le n m) h in ap pos (same_nat m n both.0 both.1)
+number_same (pos m) (pos n) h = let both = both_parts (nat_le m n) (nat_le n m) h in ap pos (same_nat m n both.0 both.1)
 number_same (pos m) (negsuc n) h = absurd cc
 number_same (negsuc m) (pos n) h = absurd cc
-number_same (negsuc m) (negsuc n) h = let both = parts (nat_le n m) (nat_le m n) h in ap negsuc (same_nat m n both.1 both.0)
+number_same (negsuc m) (negsuc n) h = let both = both_parts (nat_le n m) (nat_le m n) h in ap negsuc (same_nat m n both.1 both.0)
 
 number_itself : (a : ℤ) → same_number a a ≡ true
-number_itself (pos n) = hold (nat_le n n) (nat_le n n) (least n) (least n)
-number_itself (negsuc n) = hold (nat_le n n) (nat_le n n) (least n) (least n)
+number_itself (pos n) = both_hold (nat_le n n) (nat_le n n) (least n) (least n)
+number_itself (negsuc n) = both_hold (nat_le n n) (nat_le n n) (least n) (least n)
 
 offset_same : (a b : Offset) → same_offset a b ≡ true → a ≡ b
 offset_same a b h =
-    let both = parts (same_number a.offset b.offset) (same_number a.scale b.scale) h in
+    let both = both_parts (same_number a.offset b.offset) (same_number a.scale b.scale) h in
     let offset = number_same a.offset b.offset both.0 in
     let scale = number_same a.scale b.scale both.1 in
     λ i. record { offset = offset i; scale = scale i }
 
 offset_itself : (a : Offset) → same_offset a a ≡ true
-offset_itself a = hold (same_number a.offset a.offset) (same_number a.scale a.scale) (number_itself a.offset) (number_itself a.scale)
+offset_itself a = both_hold (same_number a.offset a.offset) (same_number a.scale a.scale) (number_itself a.offset) (number_itself a.scale)
 
--- ---- paths
-
-element_same : (a b : Element) → same_element a b ≡ true → a ≡ b
-element_same (Prim a) (Prim b) h = ap Prim (text_same a b h)
-element_same (Property a) (Property b) h = ap Property (text_same a b h)
-element_same (Selection s v) (Selection t w) h =
-    let both = both_true (bytes_eq s t) (bytes_eq v w) h in
-    let sets = text_same s t both.0 in
-    let variants = text_same v w both.1 in
-    cc
-element_same (Prim a) (Property b) h = absurd cc
-element_same (Prim a) (Selection t w) h = absurd cc
-element_same (Property a) (Prim b) h = absurd cc
-element_same (Property a) (Selection t w) h = absurd cc
-element_same (Selection s v) (Prim b) h = absurd cc
-element_same (Selection s v) (Property b) h = absurd cc
-
-bytes_itself : (a : Text) → bytes_eq a a ≡ true
-bytes_itself a = (bytes_decides a a).1 refl
-
-element_itself : (a : Element) → same_element a a ≡ true
-element_itself (Prim a) = bytes_itself a
-element_itself (Property a) = bytes_itself a
-element_itself (Selection s v) = ap (λ (b : Bool). b && bytes_eq v v) (bytes_itself s) ∙ bytes_itself v
+-- ---- lists
 
 module _ {T : Type 0} (same : T → T → Bool) where
   list_same : ((x y : T) → same x y ≡ true → x ≡ y) → (xs ys : List T) → same_list same xs ys ≡ true → xs ≡ ys
@@ -127,8 +74,8 @@ module _ {T : Type 0} (same : T → T → Bool) where
 
 source_same : (a b : Source) → same_source a b ≡ true → a ≡ b
 source_same own own h = refl
-source_same (named a) (named b) h = ap named (text_exact a b h)
-source_same (unanchored a) (unanchored b) h = ap unanchored (text_exact a b h)
+source_same (named a) (named b) h = ap named (same_text_same a b h)
+source_same (unanchored a) (unanchored b) h = ap unanchored (same_text_same a b h)
 source_same own (named b) h = absurd cc
 source_same own (unanchored b) h = absurd cc
 source_same (named a) own h = absurd cc
@@ -138,14 +85,14 @@ source_same (unanchored a) (named b) h = absurd cc
 
 source_itself : (a : Source) → same_source a a ≡ true
 source_itself own = refl
-source_itself (named a) = text_itself a
-source_itself (unanchored a) = text_itself a
+source_itself (named a) = same_itself a
+source_itself (unanchored a) = same_itself a
 
 -- items that pass the test are one
 pub item_same : (a b : Item) → same_item a b ≡ true → a ≡ b
 item_same a b h =
-    let first = parts (same_source a.source b.source) (both (same_option same_path a.path b.path) (same_offset a.offset b.offset)) h in
-    let second = parts (same_option same_path a.path b.path) (same_offset a.offset b.offset) first.1 in
+    let first = both_parts (same_source a.source b.source) (both (same_option same_path a.path b.path) (same_offset a.offset b.offset)) h in
+    let second = both_parts (same_option same_path a.path b.path) (same_offset a.offset b.offset) first.1 in
     let source = source_same a.source b.source first.0 in
     let path = option_same same_path (list_same same_element element_same) a.path b.path second.0 in
     let offset = offset_same a.offset b.offset second.1 in
@@ -154,19 +101,14 @@ item_same a b h =
 -- each item passes the test with itself
 pub item_itself : (a : Item) → same_item a a ≡ true
 item_itself a =
-    hold (same_source a.source a.source) (both (same_option same_path a.path a.path) (same_offset a.offset a.offset)) (source_itself a.source)
-    (hold (same_option same_path a.path a.path) (same_offset a.offset a.offset)
+    both_hold (same_source a.source a.source) (both (same_option same_path a.path a.path) (same_offset a.offset a.offset)) (source_itself a.source)
+    (both_hold (same_option same_path a.path a.path) (same_offset a.offset a.offset)
     (option_itself same_path (list_itself same_element element_itself) a.path) (offset_itself a.offset))
 
--- two answers of which each gives the other are one
-pub both_ways : (a b : Bool) → (a ≡ true → b ≡ true) → (b ≡ true → a ≡ true) → a ≡ b
-both_ways true b f g = sym (f refl)
-both_ways false true f g = g refl
-both_ways false false f g = refl
-
-one_is_same : (a b : Item) → a ≡ b → same_item a b ≡ true
+-- items that are one pass the test
+pub one_is_same : (a b : Item) → a ≡ b → same_item a b ≡ true
 one_is_same a b is = ap (λ (x : Item). same_item a x) (sym is) ∙ item_itself a
 
 -- an answer that tells whether two items are one
 pub item_told : (a b : Item) (r : Bool) → IsTrue r ↔ (a ≡ b) → r ≡ same_item a b
-item_told a b r told = both_ways r (same_item a b) (λ h. one_is_same a b (told.0 h)) (λ h. told.1 (item_same a b h))
+item_told a b r told = one_answer r (same_item a b) told (item_same a b) (one_is_same a b)

@@ -20,7 +20,9 @@ use std::alloc::{AllocError, Global};
 /// An arc.
 #[derive(Debug, Drop)]
 pub struct ArcItem {
+    /// The layer stack to which it leads.
     pub stack: StackName,
+    /// The path in that stack.
     pub target: Path,
     /// How times of the target's stack become those of the author's.
     pub offset: LayerOffset,

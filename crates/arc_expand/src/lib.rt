@@ -16,8 +16,7 @@ mod target;
 
 pub use arcs::{ArcItem, ArcsHere, arcs_at};
 pub use authored::{
-    authored_at, authored_in, has_spec_at, selections_at, selections_in, variant_sets_at,
-    variant_sets_in,
+    authored_in, has_spec_at, selections_at, selections_in, variant_sets_at, variant_sets_in,
 };
 pub use opinion::{LayerOpinion, opinions};
 pub use stacks::stack_of;

@@ -16,9 +16,11 @@ use std::marker::Model;
 /// What one layer of a stack says at a path.
 #[derive(Drop)]
 pub struct LayerOpinion<'w> {
+    /// The layer.
     pub layer: &'w AssetId,
     /// How times of the layer become those of the stack.
     pub offset: LayerOffset,
+    /// What it says at the path.
     pub spec: &'w Spec,
 }
 

@@ -12,6 +12,7 @@ use std::marker::Model;
 /// An item with an order, by which it is looked up. Contracts see the item.
 #[derive(Drop)]
 pub struct OrderedItem {
+    /// The item.
     pub item: FaultItem,
 }
 

@@ -3,21 +3,8 @@ use Rattle.std.proofs.Common.{ℕ, zero, suc, add-one, ◌≡◌, ◌∙◌, ◌
 use Rattle.std.specs.Prelude.{◌==◌}
 use Rattle.std.proofs.lemmas.List.{take_more, length-drop, get_or-drop, take_all, drop_all}
 use Rattle.std.proofs.lemmas.Bool.Decides.{nat_tests}
+use Rattle.plain_data.proofs.Pieces.{rest_of, no_bytes, one_more}
 use Rattle.asset_names.specs.Anchoring.{segments_from, walk, step, has_inside, begins_with, IsBad, IsClean, control, empty, long}
-
--- a text from a byte on
-rest_of : (t : List ℕ) (i b : ℕ) → i < length t → b ≡ get_or t i 0 → drop i t ≡ b ∷ drop (i + 1) t
-rest_of t i b h is = rw (add-one) (drop-cons t i 0 h ∙ ap (λ c. c ∷ drop (suc i) t) (sym is))
-
-no_bytes : (n : ℕ) (l : List ℕ) → n ≡ 0 → take n l ≡ []
-no_bytes zero l h = refl
-no_bytes (suc n) l h = absurd (omega (arith, h))
-
-one_more : (t : List ℕ) (start i b : ℕ) → i < length t → b ≡ get_or t i 0 → start ≤ i → take (i + 1 - start) (drop start t) ≡ take (i - start) (drop start t) ++ b ∷ []
-one_more t start i b h is within =
-    ap (λ n. take n (drop start t)) (let e : i + 1 - start ≡ i - start + 1 = omega (arith, within) in e)
-    ∙ take_more (drop start t) (i - start) 0 (omega (arith, length-drop start t, within, h))
-    ∙ ap (λ c. take (i - start) (drop start t) ++ c ∷ []) (get_or-drop start t (i - start) 0 ∙ ap (λ k. get_or t k 0) (let e : start + (i - start) ≡ i = omega (arith, within) in e) ∙ sym is)
 
 -- the segments from a byte on, by whether it is a slash
 parts : List ℕ → ℕ → List ℕ → Bool → List (List ℕ)
@@ -38,7 +25,7 @@ at_other begun c t = refl
 is_slash : (c : ℕ) → c ≡ 47 → (c == 47) ≡ true
 is_slash c h = grind (arith, nat_tests)
 
-no_slash : (c : ℕ) → (c ≡ 47 → ⊥) → (c == 47) ≡ false
+pub no_slash : (c : ℕ) → (c ≡ 47 → ⊥) → (c == 47) ≡ false
 no_slash c h = grind (arith, nat_tests)
 
 pub slash_step : (absolute : Bool) (t : List ℕ) (start i b : ℕ) (folders next goal : List (List ℕ)) → i < length t → b ≡ get_or t i 0 → b ≡ 47

@@ -77,7 +77,7 @@ abbrev pub all_but_first : List (List ℕ) → List (List ℕ)
 all_but_first [] = []
 all_but_first (s ∷ ss) = ss
 
--- a name that gives itself, of at most 4,096 bytes
+-- a name that gives itself, of at most 4,096 bytes; what such a name is, is said by `IsNormalised`
 pub record IsNormal (name : List ℕ) : Type 0 where
   pub stays : normal_name name ≡ name
   pub short : length name ≤ 4096

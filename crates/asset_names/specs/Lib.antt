@@ -1,1 +1,2 @@
 pub mod Anchoring
+pub mod Normalised

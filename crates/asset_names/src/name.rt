@@ -9,7 +9,7 @@ use std::marker::Model;
 use thiserror::Error;
 
 /// What kind of layer a name is for.
-#[derive(Clone, Copy, Debug, PartialEq, Eq, PartialOrd, Ord)]
+#[derive(Clone, Copy, Debug, PartialEq, Eq)]
 pub enum NameKind {
     /// A text layer.
     Plain,
@@ -43,8 +43,8 @@ impl From<AllocError> for AssetFault {
 
 /// The normalised name of a layer.
 ///
-/// It has no empty segment and no `.`, and `..` only at the start of a relative name.
-#[derive(Clone, Debug, Drop, PartialEq, Eq, PartialOrd, Ord, Hash)]
+/// It has no empty segment and no `.`, and `..` only at the start of a relative name: `normalised_names_stay`.
+#[derive(Clone, Debug, Drop, PartialEq, Eq, PartialOrd, Ord)]
 pub struct AssetId {
     name: Text,
 }

@@ -1,14 +1,14 @@
 // Each call once.
 use std::test::Fail;
 use usda_grammar::{
-    Keyword, Symbol, TokenKind, accepted_is_text, examples_are_told, keyword_of, kind_of_word,
+    Keyword, Symbol, WordKind, accepted_is_text, examples_are_told, keyword_of, kind_of_word,
     layer, may_be_absent, refused_has_no_text, starts, taken_has_text, text_has_one_derivation,
 };
 
 #[test]
 fn the_table_is_told(rt: HostRuntime) -> Result<(), Fail> {
     assert!(rt;
-        kind_of_word("def") == TokenKind::Word(Keyword::Specifier)
+        kind_of_word("def") == WordKind::Word(Keyword::Specifier)
             && keyword_of("payload") == Keyword::ReferenceField
             && keyword_of("defs") == Keyword::Other
             && layer().len() == 2
@@ -21,8 +21,8 @@ fn the_table_is_told(rt: HostRuntime) -> Result<(), Fail> {
 #[test]
 fn a_value_may_start_with_a_number_and_with_no_comma(rt: HostRuntime) -> Result<(), Fail> {
     assert!(rt;
-        starts(Symbol::Value, TokenKind::Number) == Some([].as_slice())
-            && starts(Symbol::Value, TokenKind::Comma).is_none()
+        starts(Symbol::Value, WordKind::Number) == Some([].as_slice())
+            && starts(Symbol::Value, WordKind::Comma).is_none()
     );
     Ok(())
 }

@@ -10,6 +10,8 @@ mod edges;
 #[cfg(test)]
 mod editions;
 #[cfg(test)]
+mod fault_texts;
+#[cfg(test)]
 mod grammar;
 #[cfg(test)]
 mod lists;

@@ -4,7 +4,7 @@ ghost use Rattle.std.specs.Prelude.{◌≡◌, [], ◌<◌, ◌≤◌, ◌+◌, 
 ghost use Rattle.compose_api.specs.Stage.{stage_of};
 ghost use Rattle.change_core.specs.History.{edit_count, batch_count};
 
-use crate::history::{EditReply, HistoryEntry, MOST_EDITS};
+use crate::history::{EditReply, HistoryEntry, MAX_EDITS};
 use crate::publish::{Items, PublishReply};
 use compose_api::{ApplyRefused, Composer, StageRefused, stage_items, stage_items_within};
 use plain_data::copy;
@@ -73,7 +73,7 @@ impl<C: Composer> Core<C> {
         ensures full { edit_count self.old.history ≡ 65536 → result ≡ Ok EditReply.JournalFull }
         ensures refused { OnErr result (self.new ≡ self.old) }
     {
-        if self.edits == MOST_EDITS {
+        if self.edits == MAX_EDITS {
             return Ok(EditReply::JournalFull);
         }
         match self.composer.apply(&self.world, &batch) {

@@ -1,7 +1,7 @@
 //! What is noted of the calls on a core.
 
 /// As many edit calls as a history has at most.
-pub const MOST_EDITS: usize = 65_536;
+pub const MAX_EDITS: usize = 65_536;
 
 /// What an edit call answers.
 #[derive(Debug, Drop)]

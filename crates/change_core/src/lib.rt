@@ -6,5 +6,5 @@ mod history;
 mod publish;
 
 pub use core_state::Core;
-pub use history::{EditReply, HistoryEntry, MOST_EDITS};
+pub use history::{EditReply, HistoryEntry, MAX_EDITS};
 pub use publish::{Items, PublishReply};

@@ -5,8 +5,11 @@ use compose_api::Composer;
 /// A published stage: its version, the number of batches accepted before it, and its places with their entries, depth first from the root place.
 #[derive(Drop)]
 pub struct Items<C: Composer> {
+    /// The version of the stage.
     pub version: u64,
+    /// How many batches were accepted before it.
     pub batches: u64,
+    /// The places with their entries, each place before those below it.
     pub items: plain_data::Items<(C::Place, C::Entry)>,
 }
 

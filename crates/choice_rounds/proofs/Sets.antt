@@ -1,51 +1,23 @@
 -- The sets that a round decides, and the first opinions on them, told in both ways.
-use Rattle.std.proofs.Common.{◌≡◌, ◌==◌, Bool, true, false, cond, not, ◌&&◌, ◌||◌, List, [], ◌∷◌, ◌++◌, map, filter, Option, Some, None, refl, sym, ap, ◌∙◌}
+use Rattle.std.proofs.Common.{◌≡◌, Bool, true, false, cond, not, ◌||◌, List, [], ◌∷◌, ◌++◌, map, filter, Option, Some, None, refl, sym, ap, ◌∙◌}
 use Rattle.std.specs.List.{filter_map, cons_option}
 use Rattle.std.specs.Option.{option_or, option_map}
-use Rattle.std.specs.Str.{bytes_eq}
-use Rattle.std.proofs.lemmas.Bool.{eq-eqb, eqb-true}
 use Rattle.std.proofs.lemmas.Map.Text.{is_eq-slice_cmp}
+use Rattle.std.proofs.Math.Bool.{or-true}
 use Rattle.variant_select.specs.Rounds.{same_name, is_decided, if_new, new_sets, opinion_on, first_opinion, choice_of, decided as decided_of}
 use Rattle.list_ops.specs.ListEdits.{contains, without, firsts}
 use Rattle.composition.specs.Texts.{Text, same_text}
 use Rattle.composition.specs.Nodes.{Choices}
 use Rattle.choice_rounds.specs.Met.{met_with}
+use Rattle.composition.proofs.Same.{same_is_bytes, same_text_same, same_itself}
 
 -- ---- names
 
-byte_by_byte : (a b : Text) → bytes_eq a b ≡ same_text a b
-byte_by_byte [] [] = refl
-byte_by_byte [] (y ∷ b) = refl
-byte_by_byte (x ∷ a) [] = refl
-byte_by_byte (x ∷ a) (y ∷ b) = by_first (x == y) (byte_by_byte a b)
-  where
-    by_first : (t : Bool) → bytes_eq a b ≡ same_text a b → (t && bytes_eq a b) ≡ (elim t as (λ _. Bool) [ true ↦ same_text a b | false ↦ false ])
-    by_first true rest = rest
-    by_first false rest = refl
-
 -- names are compared by one test
 pub one_test : (a b : Text) → same_name a b ≡ same_text a b
-one_test a b = is_eq-slice_cmp a b ∙ byte_by_byte a b
-
-text_same : (a b : Text) → same_text a b ≡ true → a ≡ b
-text_same [] [] h = refl
-text_same [] (y ∷ b) h = absurd cc
-text_same (x ∷ a) [] h = absurd cc
-text_same (x ∷ a) (y ∷ b) h = by_first (x == y) refl h (text_same a b)
-  where
-    by_first : (t : Bool) → (x == y) ≡ t → (elim t as (λ _. Bool) [ true ↦ same_text a b | false ↦ false ]) ≡ true → (same_text a b ≡ true → a ≡ b) → (x ∷ a) ≡ (y ∷ b)
-    by_first true is rest then = let head = eqb-true x y is in let tail = then rest in cc
-    by_first false is rest then = absurd cc
-
-pub text_itself : (a : Text) → same_text a a ≡ true
-text_itself [] = refl
-text_itself (x ∷ a) = ap (λ (t : Bool). elim t as (λ _. Bool) [ true ↦ same_text a a | false ↦ false ]) (eq-eqb x x refl) ∙ text_itself a
+one_test a b = is_eq-slice_cmp a b ∙ sym (same_is_bytes a b)
 
 -- ---- tests
-
-pub or_true : (a : Bool) → (a || true) ≡ true
-or_true true = refl
-or_true false = refl
 
 twice : (b : Bool) → cond b b false ≡ b
 twice true = refl
@@ -97,7 +69,7 @@ without_refused : (p : Text → Bool) (x : Text) → p x ≡ false → (xs : Lis
 without_refused p x out xs = kept_by_both p (differs x) p (λ s. gone s (same_text x s) refl) xs
   where
     gone : (s : Text) (t : Bool) → same_text x s ≡ t → cond (not (t || false)) (p s) false ≡ p s
-    gone s true h = sym (ap p (sym (text_same x s h)) ∙ out)
+    gone s true h = sym (ap p (sym (same_text_same x s h)) ∙ out)
     gone s false h = refl
 
 -- the first of each item that a test keeps
@@ -142,8 +114,8 @@ firsts_were (y ∷ ys) x h =
 pub given_alike : (g h : Text → Option (Text × Text)) (xs : List Text) → ((x : Text) → contains same_text xs x ≡ true → g x ≡ h x) → filter_map g xs ≡ filter_map h xs
 given_alike g h [] same = refl
 given_alike g h (x ∷ xs) same =
-    ap (λ (o : Option (Text × Text)). cons_option o (filter_map g xs)) (same x (ap (λ (b : Bool). b || contains same_text xs x) (text_itself x)))
-    ∙ ap (λ (l : List (Text × Text)). cons_option (h x) l) (given_alike g h xs (λ y there. same y (ap (λ (b : Bool). same_text x y || b) there ∙ or_true (same_text x y))))
+    ap (λ (o : Option (Text × Text)). cons_option o (filter_map g xs)) (same x (ap (λ (b : Bool). b || contains same_text xs x) (same_itself x)))
+    ∙ ap (λ (l : List (Text × Text)). cons_option (h x) l) (given_alike g h xs (λ y there. same y (ap (λ (b : Bool). same_text x y || b) there ∙ or-true (same_text x y))))
 
 -- ---- the sets that are met, and the opinions on them
 
@@ -198,7 +170,7 @@ pub first_is : (o : Text → Option Text) (xs : List Text) (set : Text) → firs
 first_is o [] set = refl
 first_is o (x ∷ xs) set =
     ap (λ (r : Option Text). option_or (opinion_on set (met_with o x)) r) (first_is o xs set)
-    ∙ first_or (same_name x set) (same_text x set) (contains same_text xs set) (o x) (o set) (one_test x set) (λ same. ap o (text_same x set same))
+    ∙ first_or (same_name x set) (same_text x set) (contains same_text xs set) (o x) (o set) (one_test x set) (λ same. ap o (same_text_same x set same))
 
 pub first_of_met : (o : Text → Option Text) (xs : List Text) (set : Text) → contains same_text xs set ≡ true → first_opinion (map (met_with o) xs) set ≡ o set
 first_of_met o xs set there = first_is o xs set ∙ ap (λ (b : Bool). cond b (o set) None) there

@@ -3,6 +3,8 @@ use Rattle.std.proofs.Common.{◌≡◌, Bool, true, false, cond, ◌&&◌, ◌|
 use Rattle.std.specs.List.{list_all, filter_map}
 use Rattle.std.specs.Option.{option_or}
 use Rattle.std.proofs.lemmas.List.Folds.{list_all-append}
+use Rattle.std.proofs.Math.Bool.{or-true}
+use Rattle.std.proofs.lemmas.Bool.{and_parts}
 use Rattle.variant_select.specs.declared.met.Met.{Met}
 use Rattle.variant_select.specs.Rounds.{same_name, is_decided, if_new, new_sets, opinion_on, first_opinion, choice_of, decided as decided_of}
 use Rattle.list_ops.specs.ListEdits.{contains, firsts}
@@ -10,7 +12,8 @@ use Rattle.composition.specs.Texts.{Text, same_text}
 use Rattle.composition.specs.Nodes.{Choices}
 use Rattle.composition.specs.Trees.{Tree}
 use Rattle.choice_rounds.specs.Met.{met_with, selected_at, opinion_at, met_at_each}
-use Rattle.choice_rounds.proofs.Sets.{one_test, text_itself, or_true, firsts_were, given_alike, undecided, undecided_are, undecided_were, first_is, first_of_met, with_variant}
+use Rattle.choice_rounds.proofs.Sets.{one_test, firsts_were, given_alike, undecided, undecided_are, undecided_were, first_is, first_of_met, with_variant}
+use Rattle.composition.proofs.Same.{same_itself}
 
 -- what each of these places selects of these sets
 abbrev pub said_at_each : List Text → List Tree → List Met
@@ -49,10 +52,6 @@ first_said xs (s ∷ places) set there =
 
 -- ---- sets that are known already
 
-and_parts : (a b : Bool) → (a && b) ≡ true → (a ≡ true) × (b ≡ true)
-and_parts true b h = (refl, h)
-and_parts false b h = absurd cc
-
 swapped : (a b c : Bool) → ((a || b) || c) ≡ (b || (a || c))
 swapped true true c = refl
 swapped true false c = refl
@@ -67,7 +66,7 @@ still_all : (p q : Met → Bool) (ms : List Met) → list_all q ms ≡ true → 
 still_all p q [] h = refl
 still_all p q (m ∷ ms) h =
     let two = and_parts (q m) (list_all q ms) h in
-    ap (λ (b : Bool). b && list_all (λ m. p m || q m) ms) (ap (λ (b : Bool). p m || b) two.0 ∙ or_true (p m)) ∙ still_all p q ms two.1
+    ap (λ (b : Bool). b && list_all (λ m. p m || q m) ms) (ap (λ (b : Bool). p m || b) two.0 ∙ or-true (p m)) ∙ still_all p q ms two.1
 
 none_new : (known : Text → Bool) (ms : List Met) → list_all (λ m. known m.set) ms ≡ true → new_sets known ms ≡ []
 none_new known [] h = refl
@@ -100,8 +99,8 @@ all_said q xs h (s ∷ places) =
 all_among : (q : Text → Bool) (xs : List Text) → ((s : Text) → contains same_text xs s ≡ true → q s ≡ true) → list_all q xs ≡ true
 all_among q [] h = refl
 all_among q (x ∷ xs) h =
-    ap (λ (b : Bool). b && list_all q xs) (h x (ap (λ (b : Bool). b || contains same_text xs x) (text_itself x)))
-    ∙ all_among q xs (λ s there. h s (ap (λ (b : Bool). same_text x s || b) there ∙ or_true (same_text x s)))
+    ap (λ (b : Bool). b && list_all q xs) (h x (ap (λ (b : Bool). b || contains same_text xs x) (same_itself x)))
+    ∙ all_among q xs (λ s there. h s (ap (λ (b : Bool). same_text x s || b) there ∙ or-true (same_text x s)))
 
 -- the first opinion on a set that is met: that of the first place that selects a variant of it
 first_told : (xs : List Text) (places : List Tree) (set : Text) → contains same_text xs set ≡ true → first_opinion (met_at_each xs places) set ≡ opinion_at places set

@@ -1,49 +1,27 @@
 -- Which paths are within the limits, and how a path is lifted.
-use Rattle.std.proofs.Common.{◌≡◌, ◌∙◌, sym, ap, refl, arith, ℕ, Bool, true, false, [], ◌∷◌, ◌++◌, length, drop, Option, Some, None}
+use Rattle.std.proofs.Common.{◌≡◌, ◌∙◌, sym, ap, refl, ℕ, Bool, true, false, [], ◌∷◌, ◌++◌, length, drop, Option, Some, None}
 use Rattle.std.specs.Prelude.{nat_le, unwrap_or}
 use Rattle.std.specs.Option.{IsSomeAnd, option_map}
-use Rattle.std.proofs.lemmas.Bool.{leb-true, le-leb}
-use Rattle.sdf_paths.specs.Paths.{IsPath, IsRefusal, same_element, rest_after, replaced, is_property, depth, printed}
+use Rattle.sdf_paths.specs.Paths.{IsPath, IsRefusal, same_element, rest_after, replaced, is_property}
 use Rattle.sdf_paths.specs.declared.element.Element.{Element}
 use Rattle.sdf_paths.specs.declared.fault.PathFault.TheVariants.{Bad}
-use Rattle.sdf_paths.proofs.Shapes.{joined_path, may_follow, depth_joined, length_printed}
-use Rattle.composition.specs.Texts.{both}
 use Rattle.composition.specs.Paths.{Path, limits, fits, is_prefix}
 use Rattle.composition.specs.Trees.{Branch, Class, lifted_target, lifted_class}
 use Rattle.class_arcs.specs.Lifting.{within_limits}
-
-pub by_test : {A : Type 0} → (b : Bool) → (b ≡ true → A) → (b ≡ false → A) → A
-by_test true on off = on refl
-by_test false on off = off refl
-
-pub both_hold : (a b : Bool) → a ≡ true → b ≡ true → both a b ≡ true
-both_hold true b p q = q
-both_hold false b p q = absurd cc
-
-pub both_parts : (a b : Bool) → both a b ≡ true → (a ≡ true) × (b ≡ true)
-both_parts true b h = (refl, h)
-both_parts false b h = absurd cc
-
--- the path, by whether it is within the limits
-abbrev if_fits : Path → Bool → Option Path
-if_fits p b = elim b as (λ _. Option Path) [ true ↦ Some p | false ↦ None ]
+use Rattle.composition.proofs.Tests.{by_test}
+use Rattle.composition.proofs.Fitting.{kept_if, path_fits as path_within, joined_fits}
 
 pub path_fits : (p : Path) → IsPath p → within_limits p ≡ Some p
 unfolding within_limits
-path_fits p h =
-    ap (if_fits p) (both_hold (nat_le (depth p) 64) (nat_le (length (printed p)) 4096) (le-leb (depth p) 64 h.well_formed.few) (le-leb (length (printed p)) 4096 h.short))
+path_fits p h = ap (kept_if p) (path_within p h)
 
 -- what may be put together and is no path passes a limit
 no_path : (target by p rest : Path) → IsPath by → IsPath p → (by ≡ [] → ⊥) → is_property by ≡ false → Some rest ≡ rest_after target p → (IsPath (by ++ rest) → ⊥) → within_limits (by ++ rest) ≡ None
 unfolding within_limits
 no_path target by p rest good whole below prim is bad =
     by_test (fits limits (by ++ rest))
-    (λ on.
-    let parts = both_parts (nat_le (depth (by ++ rest)) 64) (nat_le (length (printed (by ++ rest))) 4096) on in
-    let few = leb-true (depth (by ++ rest)) 64 parts.0 in
-    let short = leb-true (length (printed (by ++ rest))) 4096 parts.1 in
-    absurd (bad (joined_path target by p rest good whole is (may_follow by rest below prim) (omega (arith, few, depth_joined by rest)) (omega (arith, short, length_printed (by ++ rest))))))
-    (λ off. ap (if_fits (by ++ rest)) off)
+    (λ on. absurd (bad (joined_fits target by p rest good whole below prim is on)))
+    (λ off. ap (kept_if (by ++ rest)) off)
 
 -- ---- a path is lifted as a prefix of it is replaced
 
@@ -93,7 +71,7 @@ pub pair_lifted : (level : ℕ) (p : Path) → (elim (fits limits p) as (λ _. O
 unfolding within_limits
 pair_lifted level p = by_fits (fits limits p)
   where
-    by_fits : (b : Bool) → (elim b as (λ _. Option Class) [ true ↦ Some (level, p) | false ↦ None ]) ≡ option_map (λ t. (level, t)) (if_fits p b)
+    by_fits : (b : Bool) → (elim b as (λ _. Option Class) [ true ↦ Some (level, p) | false ↦ None ]) ≡ option_map (λ t. (level, t)) (kept_if p b)
     by_fits true = refl
     by_fits false = refl
 

@@ -4,9 +4,8 @@ use Rattle.std.specs.Prelude.{ℕ, zero, suc, ◌-◌, nat_le, Bool, true, false
 use Rattle.std.specs.List.{list_any}
 use Rattle.std.specs.Str.{chars}
 use Rattle.sdf_paths.specs.Paths.{same_element, is_selection, depth, printed}
-use Rattle.sdf_paths.specs.Reader.{after, finish}
+use Rattle.sdf_paths.specs.Reader.{after, finished}
 use Rattle.sdf_paths.specs.declared.element.Element.{Element}
-use Rattle.sdf_paths.specs.declared.reader.Reader.{Reader}
 use Rattle.composition.specs.Texts.{Text, same_list, both}
 
 -- from the root down; `/` is []
@@ -67,11 +66,6 @@ limits = record { names = 64; bytes = 4096; depth = 64; nodes = 4096; rounds = 1
 -- the path is within the limits of paths
 abbrev pub fits : Limits → Path → Bool
 fits l p = both (nat_le (depth p) l.names) (nat_le (length (printed p)) l.bytes)
-
--- the path that has been read, if what has been read is a whole path
-abbrev pub finished : Option Reader → Option Path
-finished None = None
-finished (Some r) = finish r
 
 -- the path that a text is read as; none where it is no path's text
 abbrev pub read_path : Text → Option Path

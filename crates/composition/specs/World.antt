@@ -8,12 +8,9 @@ use Rattle.spec_parts.specs.declared.items.Refusal.{Refusal}
 use Rattle.spec_parts.specs.declared.items.SubLayer.{SubLayer}
 use Rattle.spec_parts.specs.declared.spec.Spec.{Spec}
 use Rattle.sdf_values.specs.Scales.{Offset}
+pub use Rattle.sdf_values.specs.Scales.{identity}
 use Rattle.composition.specs.Texts.{Text, same_text, first_of, both}
 use Rattle.composition.specs.Paths.{Path, up, levels_of, read_path}
-
--- the offset that changes no time
-abbrev pub identity : Offset
-identity = record { offset = pos 0; scale = pos 1 }
 
 -- a scale from 1 to a million, an offset within a thousand million of 0
 abbrev pub in_range : Offset → Bool

@@ -1,5 +1,7 @@
 use crate::Toy;
 use change_core::{Core, EditReply, PublishReply};
+use compose_api::StageRefused;
+use std::alloc::Global;
 use std::test::Fail;
 
 // The version, the number of batches and the number of places of a stage.
@@ -67,6 +69,21 @@ fn the_history_takes_65536_edit_calls(rt: HostRuntime) -> Result<(), Fail> {
         has_room_for(&mut core, 65_536)?
             && is_full(&mut core, 9)?
             && publishes(&mut core, (0, 65_536, 2))?
+    );
+    Ok(())
+}
+
+// Whether the fault says this of itself.
+fn says(alloc: Global, fault: StageRefused, text: &str) -> Result<bool, Fail> {
+    let said = format!(in alloc; "{fault}")?;
+    Ok(said.as_str() == text)
+}
+
+#[test]
+fn stages_that_are_refused_say_why(rt: HostRuntime) -> Result<(), Fail> {
+    assert!(rt;
+        says(rt.alloc(), StageRefused::Full, "too many places")?
+            && says(rt.alloc(), StageRefused::NoMemory, "out of memory")?
     );
     Ok(())
 }

@@ -18,12 +18,15 @@ pub struct WrittenReference {
     pub asset: Option<Text>,
     /// The target, with its selections; none where nothing or `<>` is written.
     pub path: Option<Path>,
+    /// How times of the target become those of the layer.
     pub offset: WrittenOffset,
 }
 
 /// A sublayer as it is written.
 #[derive(Debug, Drop)]
 pub struct WrittenSubLayer {
+    /// The asset as it is written.
     pub asset: Text,
+    /// How times of the sublayer become those of the layer.
     pub offset: WrittenOffset,
 }

@@ -18,6 +18,7 @@ use Rattle.sdf_values.specs.declared.value.Value.{Value, fold-roll-Value}
 use Rattle.sdf_values.specs.declared.value.Value.TheOpen.{Value-F}
 use Rattle.sdf_values.specs.declared.value.Value.TheVariants as value
 use Rattle.sdf_values.specs.declared.value.Value.TheVariants.{rolls-Number, rolls-Text}
+use Rattle.sdf_values.specs.Conforms.{one}
 use Rattle.spec_parts.specs.Blank.{blank_head}
 use Rattle.usda_fields.specs.Keys.{key_rule}
 use Rattle.usda_values.specs.Scalars.{Taken}
@@ -26,7 +27,7 @@ use Rattle.edit_examples.proofs.Computing.{of_edits}
 use Rattle.edit_examples.proofs.Taking.{takes_whole, takes_text}
 use Rattle.edit_examples.specs.Fields.{headed}
 use Rattle.edit_examples.specs.Metadata.{described, GivenAreTold, TakenAreTold, AreTold}
-use Rattle.edit_examples.specs.Worlds.{a, one, whole, root, world}
+use Rattle.edit_examples.specs.Worlds.{a, whole, root, world}
 
 -- what a key that takes any value keeps of a string and of a number
 keeps_text : (s : List ℕ) → kept (value.Text s) ≡ kept_step (Value-F.Text s)

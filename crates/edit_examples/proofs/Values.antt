@@ -6,10 +6,11 @@ use Rattle.layer_set.specs.Worlds.{WorldData}
 use Rattle.sdf_paths.specs.declared.element.Element.{Element}
 use Rattle.sdf_specs.specs.Layers.{LayerTable}
 use Rattle.sdf_values.specs.declared.type_name.ElementType.TheVariants as element
+use Rattle.sdf_values.specs.Conforms.{one}
 use Rattle.edit_examples.proofs.Computing.{of_edits}
 use Rattle.edit_examples.proofs.Taking.{default_whole, default_text, sample_whole, sample_text}
 use Rattle.edit_examples.specs.Values.{ten, far, int_layer, bare_layer, time_layer, DefaultsAreTold, SamplesAreTold, AreTold}
-use Rattle.edit_examples.specs.Worlds.{of_a, one, int, whole, time, root, world}
+use Rattle.edit_examples.specs.Worlds.{of_a, int, whole, time, root, world}
 
 -- /A.x
 abbrev x : List Element

@@ -22,6 +22,7 @@ use Rattle.usda_fields.specs.declared.field.ReferenceField.TheVariants.{Referenc
 use Rattle.usda_fields.specs.declared.owner.OrderWord.TheVariants.{NameChildren, PropertyNames}
 use Rattle.usda_lists.specs.declared.edit.ListEdit.TheVariants.{Explicit, Delete, Prepend}
 use Rattle.edit_examples.specs.Worlds.{a, a_chosen, b, of_a, def_a, layer_of, start, root, Makes, Fails}
+use Rattle.edit_examples.specs.Values.{ten}
 
 -- /C, and /B.y
 abbrev pub c : List Element
@@ -39,9 +40,6 @@ unit = Finite (record { digits = pos 1; exp = pos 0 })
 
 abbrev pub broken : Num
 broken = Finite (record { digits = pos 15; exp = negsuc 0 })
-
-abbrev pub ten : Num
-ten = Finite (record { digits = pos 1; exp = pos 1 })
 
 -- an offset and a scale as they are written
 abbrev pub written : Num → Num → WrittenOffset

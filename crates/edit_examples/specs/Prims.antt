@@ -6,10 +6,11 @@ use Rattle.sdf_paths.specs.declared.element.Element.TheVariants.{Prim, Property 
 use Rattle.sdf_specs.specs.Layers.{LayerTable}
 use Rattle.sdf_values.specs.declared.type_name.ElementType.TheVariants as element
 use Rattle.sdf_values.specs.declared.type_name.Precision.TheVariants.{Float}
+use Rattle.sdf_values.specs.Conforms.{one}
 use Rattle.spec_parts.specs.Blank.{blank_head, blank_body, blank_spec, no_edits}
 use Rattle.spec_parts.specs.declared.items.Specifier.TheVariants.{Def, Over}
 use Rattle.spec_properties.specs.declared.property.Property.TheVariants.{Attr}
-use Rattle.edit_examples.specs.Worlds.{a, a_k, a_m, a_chosen, b, of_a, one, whole, int_x, rel_r, def_a, layer_of, start, root, Makes, Fails}
+use Rattle.edit_examples.specs.Worlds.{a, a_k, a_m, a_chosen, b, of_a, whole, int_x, rel_r, def_a, layer_of, start, root, Makes, Fails}
 
 pub record AddedAreTold : Type 0 where
   -- `spec def @root.usda@ /A/m Xform`: it becomes the last child of its parent

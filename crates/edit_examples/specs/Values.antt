@@ -8,10 +8,11 @@ use Rattle.sdf_values.specs.declared.decimal.Num.TheVariants.{Finite, Inf}
 use Rattle.sdf_values.specs.declared.type_name.ElementType.TheVariants as element
 use Rattle.sdf_values.specs.declared.value.Value.{Value}
 use Rattle.sdf_values.specs.declared.value.Value.TheVariants as value
+use Rattle.sdf_values.specs.Conforms.{one}
 use Rattle.spec_parts.specs.Blank.{no_edits}
 use Rattle.spec_properties.specs.Entries.{SampleEntries}
 use Rattle.spec_properties.specs.declared.property.Property.TheVariants.{Attr}
-use Rattle.edit_examples.specs.Worlds.{a, of_a, one, whole, time, int_x, rel_r, def_a, layer_of, root, Makes, Fails}
+use Rattle.edit_examples.specs.Worlds.{a, of_a, whole, time, int_x, rel_r, def_a, layer_of, root, Makes, Fails}
 
 -- 10 and 10^13, as numbers are kept
 abbrev pub ten : Num

@@ -8,11 +8,11 @@ use Rattle.layer_set.specs.declared.held.Held.TheVariants.{Present}
 use Rattle.sdf_paths.specs.declared.element.Element.{Element}
 use Rattle.sdf_paths.specs.declared.element.Element.TheVariants.{Prim, Property as Named, Selection}
 use Rattle.sdf_specs.specs.Layers.{LayerTable, SpecEntries}
-use Rattle.sdf_values.specs.declared.type_name.ElementType.{ElementType}
 use Rattle.sdf_values.specs.declared.type_name.ElementType.TheVariants as element
 use Rattle.sdf_values.specs.declared.type_name.TypeName.{TypeName}
 use Rattle.sdf_values.specs.declared.value.Value.{Value}
 use Rattle.sdf_values.specs.declared.value.Value.TheVariants as value
+use Rattle.sdf_values.specs.Conforms.{one}
 use Rattle.spec_parts.specs.Blank.{blank_head, blank_body, blank_spec, no_edits}
 use Rattle.spec_parts.specs.declared.items.Specifier.TheVariants.{Def}
 use Rattle.spec_parts.specs.declared.spec.Spec.{Spec}
@@ -42,10 +42,6 @@ b = Prim (codes "B") ∷ []
 -- a property of /A
 abbrev pub of_a : List ℕ → List Element
 of_a name = Prim (codes "A") ∷ Named name ∷ []
-
--- one value of such an element
-abbrev pub one : ElementType → TypeName
-one e = record { element = e; array = false }
 
 abbrev pub int : TypeName
 int = one element.Int

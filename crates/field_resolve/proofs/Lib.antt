@@ -1,4 +1,3 @@
 pub mod Edits
 pub mod Folded
 pub mod Overlaid
-pub mod Texts

@@ -20,9 +20,11 @@ use std::alloc::{AllocError, Global};
 /// What the opinions on a prim make of its fields.
 #[derive(Debug, Drop)]
 pub struct PrimFields {
+    /// Whether the prim is defined, a class, or only spoken of.
     pub specifier: Specifier,
     /// The type, where one is given.
     pub type_name: Option<Text>,
+    /// The other metadata: of each key the strongest value, and dictionaries merged entry by entry.
     pub meta: Meta,
     /// The applied schemas; none where there is no opinion on them.
     pub api_schemas: Option<Items<Text>>,

@@ -6,7 +6,7 @@ mod merging;
 mod names;
 mod strings;
 
-pub use fields::{PrimFields, fields_of, meta_of, prim_fields};
+pub use fields::{PrimFields, fields_of, prim_fields};
 pub use merging::merge_into;
 pub use names::{child_names, child_names_of, child_naming, property_names, property_names_of};
 pub use strings::{folded_texts, texts_once};

@@ -8,10 +8,10 @@ use Rattle.usda_fields.specs.declared.field.ListField.{ListField}
 use Rattle.usda_fields.specs.declared.field.ListField.TheVariants as list
 use Rattle.usda_fields.specs.declared.owner.OwnerDraft.{OwnerDraft}
 use Rattle.usda_grammar.specs.declared.kinds.Keyword.{Keyword}
-use Rattle.layer_reads.specs.Lists.{AreAll}
 use Rattle.metadata_reads.specs.Selections.{AreSelectionsKept}
 use Rattle.value_returns.specs.Fields.{IsText}
 use Rattle.value_returns.specs.Proper.{IsProperMeta}
+use Rattle.value_texts.specs.Each.{AreAll}
 use Rattle.fields_read.specs.Sound.{IsSaid, IsSoundField}
 
 -- keys, selected variants and orders, and which of the latter were given

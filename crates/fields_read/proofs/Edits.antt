@@ -1,6 +1,7 @@
 -- The lists of a field where one of them is begun, or replaced by another.
 use Rattle.std.proofs.Common.{◌≡◌, ◌∙◌, Bool, true, false, ◌||◌, List, [], Option, Some, None, Ok, Err, refl, ap, sym, subst}
 use Rattle.std.specs.Prelude.{is_some, if◌then◌else◌}
+use Rattle.std.proofs.lemmas.Bool.{or_parts}
 use Rattle.list_ops.specs.Blank.{no_edits}
 use Rattle.list_ops.specs.declared.op.ListOp.{ListOp}
 use Rattle.sdf_values.specs.declared.refusal.RefusalKind.TheVariants.{Syntax, DuplicateSpec}
@@ -9,30 +10,14 @@ use Rattle.usda_lists.specs.Lists.{items_or_none, list_at, with_list}
 use Rattle.usda_lists.specs.declared.edit.GivenLists.{GivenLists}
 use Rattle.usda_lists.specs.declared.edit.ListEdit.{ListEdit}
 use Rattle.usda_lists.specs.declared.edit.ListEdit.TheVariants.{Explicit, Delete, Add, Prepend, Append, Reorder}
-use Rattle.metadata_reads.specs.Kept.{AreKept, IsListKept, IsKeptBy, AreEditsKept}
+use Rattle.metadata_reads.specs.Kept.{AreKept, IsListKept, IsKeptBy}
 use Rattle.fields_read.specs.Lists.{IsSoundList}
 
 -- ---- one list in place of another
 
 module _ {T : Type 0} where
-  pub list_there : (edit : ListEdit) (xs : List T) (op : ListOp T) → list_at edit (with_list edit xs op) ≡ xs
-  list_there Explicit xs op = refl
-  list_there Delete xs op = refl
-  list_there Add xs op = refl
-  list_there Prepend xs op = refl
-  list_there Append xs op = refl
-  list_there Reorder xs op = refl
-
-  pub list_again : (edit : ListEdit) (xs ys : List T) (op : ListOp T) → with_list edit ys (with_list edit xs op) ≡ with_list edit ys op
-  list_again Explicit xs ys op = refl
-  list_again Delete xs ys op = refl
-  list_again Add xs ys op = refl
-  list_again Prepend xs ys op = refl
-  list_again Append xs ys op = refl
-  list_again Reorder xs ys op = refl
-
   -- what holds of the list that is put there, and of each list before, holds of each list behind
-  list_with : (P : List T → Type 0) (edit other : ListEdit) (xs : List T) (op : ListOp T) → P xs → P (list_at other op) → P (list_at other (with_list edit xs op))
+  pub list_with : (P : List T → Type 0) (edit other : ListEdit) (xs : List T) (op : ListOp T) → P xs → P (list_at other op) → P (list_at other (with_list edit xs op))
   list_with P Explicit Explicit xs op p q = p
   list_with P Delete Delete xs op p q = p
   list_with P Add Add xs op p q = p
@@ -42,7 +27,7 @@ module _ {T : Type 0} where
   list_with P edit other xs op p q = q
 
   -- a list that was not given stays as it was where a given one is replaced
-  ungiven_with : (edit other : ListEdit) (given : GivenLists) (xs : List T) (op : ListOp T) → is_given edit given ≡ true → is_given other given ≡ false
+  pub ungiven_with : (edit other : ListEdit) (given : GivenLists) (xs : List T) (op : ListOp T) → is_given edit given ≡ true → is_given other given ≡ false
       → list_at other op ≡ [] → list_at other (with_list edit xs op) ≡ []
   ungiven_with Explicit Explicit given xs op g n e = absurd cc
   ungiven_with Delete Delete given xs op g n e = absurd cc
@@ -74,7 +59,7 @@ list_replaced same W edit given xs op g kept sound = record {
 -- ---- a list more
 
 -- what is marked besides stays so
-still_ungiven : (edit other : ListEdit) (given : GivenLists) → is_given other (with_given edit given) ≡ false → is_given other given ≡ false
+pub still_ungiven : (edit other : ListEdit) (given : GivenLists) → is_given other (with_given edit given) ≡ false → is_given other given ≡ false
 still_ungiven Explicit Explicit given h = absurd cc
 still_ungiven Delete Delete given h = absurd cc
 still_ungiven Add Add given h = absurd cc
@@ -83,7 +68,7 @@ still_ungiven Append Append given h = absurd cc
 still_ungiven Reorder Reorder given h = absurd cc
 still_ungiven edit other given h = h
 
-now_given : (edit : ListEdit) (given : GivenLists) → is_given edit (with_given edit given) ≡ true
+pub now_given : (edit : ListEdit) (given : GivenLists) → is_given edit (with_given edit given) ≡ true
 now_given Explicit given = refl
 now_given Delete given = refl
 now_given Add given = refl
@@ -103,7 +88,7 @@ marked_so Reorder given op e = e
 no_explicit : (given : GivenLists) (B : Type 0) → given.explicit ≡ false → given.explicit ≡ true → B
 no_explicit given B n h = absurd cc
 
-alone_so : (edit : ListEdit) (given : GivenLists) → clashes edit given ≡ false → (with_given edit given).explicit ≡ true → has_edits (with_given edit given) ≡ false
+pub alone_so : (edit : ListEdit) (given : GivenLists) → clashes edit given ≡ false → (with_given edit given).explicit ≡ true → has_edits (with_given edit given) ≡ false
 alone_so Explicit given n h = n
 alone_so Delete given n h = no_explicit given (has_edits (with_given Delete given) ≡ false) n h
 alone_so Add given n h = no_explicit given (has_edits (with_given Add given) ≡ false) n h
@@ -112,11 +97,11 @@ alone_so Append given n h = no_explicit given (has_edits (with_given Append give
 alone_so Reorder given n h = no_explicit given (has_edits (with_given Reorder given) ≡ false) n h
 
 -- a list is given that does not clash with those before it, and which marks there are then
-record IsBegun (edit : ListEdit) (given next : GivenLists) : Type 0 where
+pub record IsBegun (edit : ListEdit) (given next : GivenLists) : Type 0 where
   pub apart : clashes edit given ≡ false
   pub marked : next ≡ with_given edit given
 
-give_begins : (edit : ListEdit) (given next : GivenLists) → give edit given ≡ Ok next → IsBegun edit given next
+pub give_begins : (edit : ListEdit) (given next : GivenLists) → give edit given ≡ Ok next → IsBegun edit given next
 give_begins edit given next h = by (clashes edit given) refl h
   where
     new : (b : Bool) → clashes edit given ≡ false → (if b then Err DuplicateSpec else Ok (with_given edit given)) ≡ Ok next → IsBegun edit given next
@@ -148,45 +133,31 @@ module _ {T : Type 0} (same : T → T → Bool) (W : T → Type 0) where
 pub begun_given : (edit : ListEdit) (given next : GivenLists) → give edit given ≡ Ok next → is_given edit next ≡ true
 begun_given edit given next h = subst (λ g. is_given edit g ≡ true) (sym (give_begins edit given next h).marked) (now_given edit given)
 
--- ---- the lists of a field, once they are read
+-- ---- the lists, once they are read
 
-neither : (a b : Bool) → (a || b) ≡ false → (a ≡ false) × (b ≡ false)
-neither true b h = absurd cc
-neither false b h = (refl, h)
+-- no edit is given beside an explicit list, so none has items
+pub explicit_alone : {T : Type 0} (given : GivenLists) (op : ListOp T) (xs : List T) → op.explicit ≡ Some xs → has_edits given ≡ false
+    → ((edit : ListEdit) → is_given edit given ≡ false → list_at edit op ≡ []) → op ≡ record no_edits { explicit = Some xs }
+explicit_alone given op xs some none ungiven =
+    let p = or_parts given.deleted (given.added || (given.prepended || (given.appended || given.ordered))) none in
+    let q = or_parts given.added (given.prepended || (given.appended || given.ordered)) p.1 in
+    let r = or_parts given.prepended (given.appended || given.ordered) q.1 in
+    let s = or_parts given.appended given.ordered r.1 in
+    let deleted : op.deleted ≡ [] = ungiven Delete p.0 in
+    let added : op.added ≡ [] = ungiven Add q.0 in
+    let prepended : op.prepended ≡ [] = ungiven Prepend r.0 in
+    let appended : op.appended ≡ [] = ungiven Append s.0 in
+    let ordered : op.ordered ≡ [] = ungiven Reorder s.1 in
+    λ i. record { explicit = some i; deleted = deleted i; added = added i; prepended = prepended i; appended = appended i; ordered = ordered i }
 
 module _ {T : Type 0} (same : T → T → Bool) (W : T → Type 0) where
-  edits_kept : (given : GivenLists) (op : ListOp T) → op.explicit ≡ None → IsSoundList same W given op → AreEditsKept same W op
-  edits_kept given op none sound = record {
-    inexplicit = none;
-    deleted = sound.kept Delete;
-    added = sound.kept Add;
-    prepended = sound.kept Prepend;
-    appended = sound.kept Append;
-    ordered = sound.kept Reorder;
-  }
-
-  -- no edit is given beside an explicit list, so none has items
-  alone_kept : (given : GivenLists) (op : ListOp T) (xs : List T) → op.explicit ≡ Some xs → IsSoundList same W given op → op ≡ record no_edits { explicit = Some xs }
-  alone_kept given op xs some sound =
-      let marked : given.explicit ≡ true = sym sound.explicit ∙ ap is_some some in
-      let p = neither given.deleted (given.added || (given.prepended || (given.appended || given.ordered))) (sound.alone marked) in
-      let q = neither given.added (given.prepended || (given.appended || given.ordered)) p.1 in
-      let r = neither given.prepended (given.appended || given.ordered) q.1 in
-      let s = neither given.appended given.ordered r.1 in
-      let deleted : op.deleted ≡ [] = sound.ungiven Delete p.0 in
-      let added : op.added ≡ [] = sound.ungiven Add q.0 in
-      let prepended : op.prepended ≡ [] = sound.ungiven Prepend r.0 in
-      let appended : op.appended ≡ [] = sound.ungiven Append s.0 in
-      let ordered : op.ordered ≡ [] = sound.ungiven Reorder s.1 in
-      λ i. record { explicit = some i; deleted = deleted i; added = added i; prepended = prepended i; appended = appended i; ordered = ordered i }
-
   -- either an explicit list alone, or edits alone
-  pub list_kept : (given : GivenLists) (op : ListOp T) → IsSoundList same W given op → IsListKept same W op
-  list_kept given op sound = by op.explicit refl
+  pub lists_kept : (op : ListOp T) → ((edit : ListEdit) → AreKept same W (list_at edit op)) → ((xs : List T) → op.explicit ≡ Some xs → op ≡ record no_edits { explicit = Some xs }) → IsListKept same W op
+  lists_kept op kept alone = by op.explicit refl
     where
       by : (o : Option (List T)) → op.explicit ≡ o → IsKeptBy same W o op
-      by None e = edits_kept given op e sound
-      by (Some xs) e = record { alone = alone_kept given op xs e sound; items = subst (AreKept same W) (items e) (sound.kept Explicit) }
-        where
-          items : op.explicit ≡ Some xs → list_at Explicit op ≡ xs
-          items e = ap items_or_none e
+      by None e = record { inexplicit = e; deleted = kept Delete; added = kept Add; prepended = kept Prepend; appended = kept Append; ordered = kept Reorder }
+      by (Some xs) e = record { alone = alone xs e; items = subst (AreKept same W) (ap items_or_none e) (kept Explicit) }
+
+  pub list_kept : (given : GivenLists) (op : ListOp T) → IsSoundList same W given op → IsListKept same W op
+  list_kept given op sound = lists_kept op sound.kept (λ xs some. explicit_alone given op xs some (sound.alone (sym sound.explicit ∙ ap is_some some)) sound.ungiven)

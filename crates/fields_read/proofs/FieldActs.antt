@@ -27,10 +27,10 @@ use Rattle.usda_lists.specs.References.{asset_item, path_item, with_path, with_n
 use Rattle.usda_lists.specs.declared.edit.GivenLists.{GivenLists}
 use Rattle.usda_lists.specs.declared.edit.ListEdit.{ListEdit}
 use Rattle.value_returns.specs.Fields.{IsText, IsProperReference}
-use Rattle.fields_read.specs.Laws.{ListsAreRead, reading}
+use Rattle.path_returns.proofs.Meant.{path_means_one}
+use Rattle.fields_read.specs.Laws.{ReadListsAreProper, reading}
 use Rattle.fields_read.specs.Sound.{IsSaid, IsSoundSaid}
 use Rattle.fields_read.proofs.Items.{Keeps}
-use Rattle.fields_read.proofs.Paths.{path_means_one}
 use Rattle.fields_read.proofs.Places.{marked, marks_so, base_paths, paths_as_before, said_paths, path_place, base_items, items_as_before, said_items, item_place, texts_as_before, said_texts, text_place}
 use Rattle.fields_read.proofs.Reading.{Reads, opens, unbounded, pushes, amends, ends_alone}
 use Rattle.fields_read.proofs.References.{asset_item_proper, path_item_proper, path_keeps, number_keeps}
@@ -203,7 +203,7 @@ module _ (is_name : Keyword → Bool) where
   alone (list.Texts f) edit most d one r =
       ends_alone is_name same_text IsText (texts_at f) (with_texts f) (λ d. given_at (list.Texts f) d.given) (text_place is_name f) edit most d one (to_texts f edit (Some most) d r)
 
-  pub lists_read : ListsAreRead is_name
+  pub lists_read : ReadListsAreProper is_name
   lists_read = record {
     begun = field_begun;
     bracketed = bracket;

@@ -8,28 +8,17 @@ use Rattle.list_ops.specs.ListEdits.{contains, firsts}
 use Rattle.sdf_values.specs.declared.refusal.RefusalKind.{RefusalKind}
 use Rattle.usda_lists.specs.Acts.{and_then}
 use Rattle.usda_lists.specs.Lists.{amended, amend_last}
-use Rattle.layer_reads.specs.Lists.{AreAll}
 use Rattle.metadata_reads.specs.Kept.{AreKept}
+use Rattle.value_texts.specs.Each.{AreAll}
+use Rattle.value_texts.proofs.EachOf.{all_push, all_filter, all_front, all_last}
 use Rattle.fields_read.specs.Lists.{IsAtMost}
 
 -- ---- what holds of each
 
 module _ {T : Type 0} (W : T → Type 0) where
-  pub all_push : (xs : List T) (x : T) → AreAll W xs → W x → AreAll W (xs ++ x ∷ [])
-  all_push [] x all h = (h, tt)
-  all_push (y ∷ ys) x all h = (all.0, all_push ys x all.1 h)
-
-  all_filter : (p : T → Bool) (xs : List T) → AreAll W xs → AreAll W (filter p xs)
-  all_filter p [] all = tt
-  all_filter p (x ∷ xs) all = by (p x) (all_filter p xs all.1)
-    where
-      by : (b : Bool) → AreAll W (filter p xs) → AreAll W (cond b (x ∷ filter p xs) (filter p xs))
-      by true rest = (all.0, rest)
-      by false rest = rest
-
   pub all_firsts : (same : T → T → Bool) (xs : List T) → AreAll W xs → AreAll W (firsts same xs)
   all_firsts same [] all = tt
-  all_firsts same (x ∷ xs) all = (all.0, all_filter (λ y. not (contains same (x ∷ []) y)) (firsts same xs) (all_firsts same xs all.1))
+  all_firsts same (x ∷ xs) all = (all.0, all_filter W (λ y. not (contains same (x ∷ []) y)) (firsts same xs) (all_firsts same xs all.1))
 
 -- ---- each once
 
@@ -93,17 +82,6 @@ more_push (Some n) xs x few = omega (arith, length-append xs (x ∷ []))
 
 -- ---- the last item, changed
 
-module _ {T : Type 0} (W : T → Type 0) where
-  last_such : (xs : List T) (x : T) → AreAll W xs → last xs ≡ Some x → W x
-  last_such [] x all e = absurd cc
-  last_such (y ∷ []) x all e = (let is : y ≡ x = cc in subst W is all.0)
-  last_such (y ∷ z ∷ xs) x all e = last_such (z ∷ xs) x all.1 e
-
-  front_such : (xs : List T) → AreAll W xs → AreAll W (front xs)
-  front_such [] all = tt
-  front_such (x ∷ []) all = tt
-  front_such (x ∷ y ∷ xs) all = (all.0, front_such (y ∷ xs) all.1)
-
 front_length : {T : Type 0} (xs : List T) (x y : T) → last xs ≡ Some x → length (front xs ++ y ∷ []) ≡ length xs
 front_length [] x y e = absurd cc
 front_length (z ∷ []) x y e = refl
@@ -123,7 +101,7 @@ module _ {T : Type 0} (W : T → Type 0) (change : T → Result T RefusalKind) (
       changed : (x : T) → last xs ≡ Some x → (r : Result T RefusalKind) → change x ≡ r → and_then r (λ new. Ok (front xs ++ new ∷ [])) ≡ Ok ys → AreAll W ys
       changed x e (Ok y) c g =
           let is : front xs ++ y ∷ [] ≡ ys = cc in
-          subst (AreAll W) is (all_push W (front xs) y (front_such W xs all) (keeps x y (last_such W xs x all e) c))
+          subst (AreAll W) is (all_push W (front xs) y (all_front W xs all) (keeps x y (all_last W xs x all e) c))
       changed x e (Err k) c g = absurd cc
 
       by : (o : Option T) → last xs ≡ o → amended change o xs ≡ Ok ys → AreAll W ys

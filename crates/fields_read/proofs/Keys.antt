@@ -1,9 +1,8 @@
 -- Keys and their values, and the comment.
 use Rattle.std.proofs.Common.{◌≡◌, ◌∙◌, ℕ, Bool, true, false, List, Result, Ok, Err, ap, sym, refl, subst}
-use Rattle.std.specs.Prelude.{codes, if◌then◌else◌}
+use Rattle.std.specs.Prelude.{if◌then◌else◌}
 use Rattle.std.proofs.lemmas.Cmp.{nat_list_cmp_total}
 use Rattle.std.proofs.lemmas.Map.Lookups.{exact_bytes}
-use Rattle.plain_data.specs.Exact.{text_same}
 use Rattle.sdf_paths.specs.Order.{text_cmp}
 use Rattle.sdf_values.specs.declared.refusal.RefusalKind.{RefusalKind}
 use Rattle.sdf_values.specs.declared.refusal.RefusalKind.TheVariants as refusal
@@ -12,7 +11,7 @@ use Rattle.sdf_values.specs.declared.value.Value.TheVariants as value
 use Rattle.spec_properties.specs.Entries.{MetaEntries}
 use Rattle.spec_tables.specs.Tables.{with_key}
 use Rattle.usda_fields.specs.Keys as keys
-use Rattle.usda_fields.specs.Keys.{comment_key, key_rule, is_default_prim, judged, judged_prim, has_key, unless_taken}
+use Rattle.usda_fields.specs.Keys.{comment_key, key_rule, judged, judged_prim, has_key, unless_taken}
 use Rattle.usda_fields.specs.Names.{text_of}
 use Rattle.usda_fields.specs.Owners.{with_meta}
 use Rattle.usda_fields.specs.declared.keys.KeyRule.{KeyRule}
@@ -20,17 +19,16 @@ use Rattle.usda_fields.specs.declared.keys.KeyRule.TheVariants.{Relocates, Comme
 use Rattle.usda_fields.specs.declared.owner.OwnerDraft.{OwnerDraft}
 use Rattle.usda_grammar.specs.declared.kinds.Keyword.{Keyword}
 use Rattle.usda_lists.specs.Acts.{and_then}
-use Rattle.value_texts.specs.Writable.{is_writable, writable_step, writable_item}
-use Rattle.value_texts.proofs.Values as fold
 use Rattle.metadata_reads.specs.Meta.{IsCommentKept}
-use Rattle.usda_writer.specs.Fields.{is_comment}
 use Rattle.value_returns.specs.Fields.{IsText}
-use Rattle.value_returns.specs.Proper.{IsProperAs, IsProperEntry, IsProperMeta}
-use Rattle.fields_read.specs.Laws.{IsReadFor, MetadataIsRead, KeysAreRead}
+use Rattle.value_returns.specs.Proper.{IsProperEntry, IsProperMeta}
+use Rattle.value_returns.proofs.Tables.{all_with}
+use Rattle.value_returns.proofs.Entries.{judged_same, entry_of_key}
+use Rattle.fields_read.specs.Laws.{IsReadFor, ReadMetadataIsProper, ReadKeysAreProper}
 use Rattle.fields_read.specs.Sound.{IsSaid}
 use Rattle.fields_read.proofs.Beside.{beside_of, said_beside}
 use Rattle.fields_read.proofs.FieldActs.{text_such}
-use Rattle.fields_read.proofs.Tables.{ordered_with, all_with}
+use Rattle.shared_tables.proofs.Order.{table_with}
 
 -- ---- the rule of a key
 
@@ -50,43 +48,14 @@ rule_so key meta rule h = by (has_key key meta) (key_rule key) h
 
 -- ---- values that a key takes
 
--- a value that is taken is taken as it is
-same_value : (rule : KeyRule) (v w : Value) → judged rule v ≡ Ok w → v ≡ w
-same_value Relocates v w h = absurd cc
-same_value Comment (value.Text text) w h = cc
-same_value Comment v w h = absurd cc
-same_value Boolean (value.Bool b) w h = cc
-same_value Boolean v w h = absurd cc
-same_value DefaultPrim (value.Text text) w h = by (is_default_prim text) h
-  where
-    by : (b : Bool) → (if b then Ok (value.Text text) else Err refusal.ValueShape) ≡ Ok w → value.Text text ≡ w
-    by true g = cc
-    by false g = absurd cc
-same_value DefaultPrim v w h = absurd cc
-same_value Free v w h = cc
-
-pub text_writable : (text : List ℕ) → is_writable (value.Text text) ≡ true → IsText text
-text_writable text h = sym (fold.of_text Bool Bool writable_step writable_item text) ∙ h
-
--- the comment takes texts alone
-comment_text : (v w : Value) → judged Comment v ≡ Ok w → is_writable v ≡ true → IsCommentKept v
-comment_text (value.Text text) w h writable = record { text = text; is = refl; utf8 = text_writable text writable }
-comment_text v w h writable = absurd cc
-
-is_comment_key : (key : List ℕ) → is_comment key ≡ true → key_rule key ≡ Comment
-is_comment_key key h = ap key_rule (text_same key (codes "comment") h)
-
 module _ (is_name : Keyword → Bool) where
   entry_proper : (key : List ℕ) (v : Value) → IsReadFor is_name key v → judged (key_rule key) v ≡ Ok v → IsProperEntry is_name (key, v)
-  entry_proper key v read taken = by (is_comment key) refl
-    where
-      by : (b : Bool) → is_comment key ≡ b → IsProperAs b is_name key v
-      by true e = comment_text v v (ap (λ rule. judged rule v) (sym (is_comment_key key e)) ∙ taken) read.writable
-      by false e = record { word = read.word; name = read.name; taken = taken; writable = read.writable; read = read.read; deep = read.deep; full = read.full; utf8 = read.utf8 }
+  entry_proper key v read taken =
+      entry_of_key is_name key v (record { word = read.word; name = read.name; taken = taken; writable = read.writable; read = read.read; deep = read.deep; full = read.full; utf8 = read.utf8 })
 
   meta_with : (key : List ℕ) (v : Value) (meta : MetaEntries) → IsProperMeta is_name meta → IsProperEntry is_name (key, v) → IsProperMeta is_name (with_key text_cmp key v meta)
   meta_with key v meta proper here = record {
-    ordered = ordered_with text_cmp nat_list_cmp_total key v meta proper.ordered;
+    ordered = table_with nat_list_cmp_total key v meta proper.ordered;
     each = all_with text_cmp exact_bytes (IsProperEntry is_name) key v meta here proper.each;
   }
 
@@ -97,7 +66,7 @@ module _ (is_name : Keyword → Bool) where
     where
       by : (r : Result Value RefusalKind) → judged (key_rule key) v ≡ r → and_then r (λ w. Ok (with_key text_cmp key w meta)) ≡ Ok next → IsProperMeta is_name next
       by (Ok w) e g =
-          let as_it_is : v ≡ w = same_value (key_rule key) v w e in
+          let as_it_is : v ≡ w = judged_same (key_rule key) v w e in
           let taken : judged (key_rule key) v ≡ Ok v = e ∙ ap Ok (sym as_it_is) in
           let with_it : with_key text_cmp key w meta ≡ next = cc in
           let so : with_key text_cmp key v meta ≡ next = ap (λ x. with_key text_cmp key x meta) as_it_is ∙ with_it in
@@ -119,7 +88,7 @@ module _ (is_name : Keyword → Bool) where
       by (Ok text) e g = new text (text_such token text e) (has_key comment_key meta) g
       by (Err k) e g = absurd cc
 
-  pub metadata_read : MetadataIsRead is_name
+  pub metadata_read : ReadMetadataIsProper is_name
   metadata_read = record { rule = rule_so; value = meta_valued; comment = meta_commented }
 
   -- ---- the metadata of an owner
@@ -136,7 +105,7 @@ module _ (is_name : Keyword → Bool) where
       subst (IsSaid is_name) so (said_meta meta d said (proper meta refl))
   owner_acted (Err k) d next said proper h = absurd cc
 
-  pub keys_read : KeysAreRead is_name
+  pub keys_read : ReadKeysAreProper is_name
   keys_read = record {
     rule = λ key d rule h. rule_so key d.spec.body.meta rule h;
     value = λ key v d next said read h. owner_acted (keys.value_act key v d.spec.body.meta) d next said (λ meta g. meta_valued key v d.spec.body.meta meta said.keys read g) h;

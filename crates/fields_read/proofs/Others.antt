@@ -1,7 +1,6 @@
 -- Selected variants, and the orders of names.
 use Rattle.std.proofs.Common.{◌≡◌, ◌∙◌, ℕ, Bool, true, false, List, [], ◌∷◌, ◌++◌, map, Option, Some, None, Result, Ok, Err, sym, refl, subst}
 use Rattle.std.specs.Prelude.{if◌then◌else◌}
-use Rattle.std.specs.List.Sorted.{IsStrictlySortedBy}
 use Rattle.std.specs.Str.{is_utf8}
 use Rattle.std.proofs.lemmas.Bool.{and_parts}
 use Rattle.std.proofs.lemmas.Cmp.{nat_list_cmp_total}
@@ -14,6 +13,7 @@ use Rattle.sdf_values.specs.declared.value.DictItem.{DictItem, fold-DictItem}
 use Rattle.sdf_values.specs.declared.value.DictType.{DictType}
 use Rattle.sdf_values.specs.declared.value.Value.{Value}
 use Rattle.sdf_values.specs.declared.value.Value.TheVariants as value
+use Rattle.sdf_values.proofs.Values.{Cases, Each, by_cases}
 use Rattle.spec_properties.specs.Entries.{SelectionEntries}
 use Rattle.usda_fields.specs.Names.{text_of}
 use Rattle.usda_fields.specs.Owners.{order_act, ordered_act, push_ordered}
@@ -24,17 +24,18 @@ use Rattle.usda_fields.specs.declared.owner.OwnerDraft.{OwnerDraft}
 use Rattle.usda_grammar.specs.declared.kinds.Keyword.{Keyword}
 use Rattle.usda_lists.specs.Acts.{and_then}
 use Rattle.value_texts.specs.Writable.{is_writable, is_writable_item, writable_step, writable_item}
-use Rattle.value_texts.proofs.Values as fold
-use Rattle.value_texts.proofs.Values.{Cases, Each, by_cases}
-use Rattle.layer_reads.specs.Lists.{AreAll}
+use Rattle.value_texts.specs.Each.{AreAll}
+use Rattle.value_texts.proofs.EachOf.{all_push}
+use Rattle.sdf_values.proofs.Values as fold
 use Rattle.metadata_reads.specs.Selections.{AreSelectionsKept, IsSelectionKept}
+use Rattle.metadata_reads.proofs.Selections.{none_selected}
 use Rattle.value_returns.specs.Fields.{IsText}
+use Rattle.value_returns.proofs.Tables.{all_with}
 use Rattle.fields_read.specs.Laws.{SelectionsAndOrdersAreRead}
 use Rattle.fields_read.specs.Sound.{IsSaid, IsSoundSaid}
 use Rattle.fields_read.proofs.Beside.{beside_of, IsProperBeside, said_beside}
 use Rattle.fields_read.proofs.FieldActs.{text_such}
-use Rattle.fields_read.proofs.Items.{all_push}
-use Rattle.fields_read.proofs.Tables.{ordered_with, all_with}
+use Rattle.shared_tables.proofs.Order.{table_with}
 
 -- ---- what a dictionary says of variants
 
@@ -114,17 +115,13 @@ entries_said v h = (by_cases IsSaidSo IsEntrySo said_cases v h).1
 selection_kept : (set : List ℕ) (o : Option (List ℕ)) (selections : SelectionEntries) → IsText set → IsTextOrAbsent o → AreSelectionsKept selections → AreSelectionsKept (with_selection set o selections)
 selection_kept set None selections s v kept = kept
 selection_kept set (Some variant) selections s v kept = record {
-  ordered = ordered_with text_cmp nat_list_cmp_total set variant selections kept.ordered;
+  ordered = table_with nat_list_cmp_total set variant selections kept.ordered;
   each = all_with text_cmp exact_bytes IsSelectionKept set variant selections (s, v) kept.each;
 }
 
 selections_kept : (entries : List (List ℕ × Option (List ℕ))) (selections : SelectionEntries) → AreAll IsEntrySaid entries → AreSelectionsKept selections → AreSelectionsKept (with_selections entries selections)
 selections_kept [] selections all kept = kept
 selections_kept (e ∷ entries) selections all kept = selections_kept entries (with_selection e.0 e.1 selections) all.1 (selection_kept e.0 e.1 selections all.0.0 all.0.1 kept)
-
-none_selected : AreSelectionsKept []
-unfolding IsStrictlySortedBy
-none_selected = record { ordered = tt; each = tt }
 
 module _ (is_name : Keyword → Bool) where
   -- what is marked does not matter

@@ -22,19 +22,20 @@ use Rattle.usda_grammar.specs.declared.kinds.Keyword.{Keyword}
 use Rattle.usda_lists.specs.References.{same_text, same_path, same_item}
 use Rattle.usda_writer.specs.Fields.{is_comment}
 use Rattle.value_texts.specs.Writable.{is_writable}
+use Rattle.value_texts.specs.Each.{AreAll}
 use Rattle.layer_reads.specs.Keys.{is_plain_key, is_plain_head_key}
-use Rattle.layer_reads.specs.Lists.{AreAll}
 use Rattle.layer_texts.specs.Writable.{is_word, none_or}
 use Rattle.usda_drafts.specs.Drafts.{text_of, head_with}
 use Rattle.value_returns.specs.Fields.{IsText, IsPrimText, IsProperDefaultPrim, IsProperReference, IsProperSublayer, AreProperFields, IsProperHead}
 use Rattle.value_returns.specs.Proper.{IsProperKey, IsProperAs, IsProperEntry, IsProperMeta}
+use Rattle.value_returns.proofs.Tables.{all_without, found_such, none_left}
+use Rattle.value_returns.proofs.Entries.{text_writable}
 use Rattle.fields_read.specs.Laws.{ArePlainKeys, SaidIsProper, SublayersAreRead, with_type}
 use Rattle.fields_read.specs.Sound.{IsSaid}
 use Rattle.fields_read.proofs.Edits.{list_kept}
 use Rattle.fields_read.proofs.Items.{amend_keeps}
-use Rattle.fields_read.proofs.Keys.{text_writable}
 use Rattle.fields_read.proofs.References.{sublayer_proper, sublayer_keeps}
-use Rattle.fields_read.proofs.Tables.{all_without, found_such, none_left, ordered_without}
+use Rattle.shared_tables.proofs.Order.{table_without}
 
 -- ---- prims and variants
 
@@ -93,7 +94,7 @@ head_proper : (sublayers : List SubLayer) (d : OwnerDraft) → IsSaid is_plain_h
 unfolding head_with
 head_proper sublayers d said all = record {
   keys = record {
-    ordered = ordered_without text_cmp (codes "defaultPrim") d.spec.body.meta said.keys.ordered;
+    ordered = table_without text_cmp (codes "defaultPrim") d.spec.body.meta said.keys.ordered;
     each = all_without text_cmp (IsProperEntry is_plain_head_key) (codes "defaultPrim") d.spec.body.meta said.keys.each;
   };
   apart = none_left text_cmp exact_bytes (codes "defaultPrim") d.spec.body.meta said.keys.ordered;

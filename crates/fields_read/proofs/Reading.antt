@@ -11,11 +11,13 @@ use Rattle.usda_lists.specs.Edits.{give, is_given}
 use Rattle.usda_lists.specs.Lists.{list_at, with_list, push_item, close_list, amend_last, amend_list}
 use Rattle.usda_lists.specs.declared.edit.GivenLists.{GivenLists}
 use Rattle.usda_lists.specs.declared.edit.ListEdit.{ListEdit}
-use Rattle.layer_reads.specs.Lists.{AreAll}
+use Rattle.value_texts.specs.Each.{AreAll}
+use Rattle.value_texts.proofs.EachOf.{all_push}
+use Rattle.layer_reads.proofs.FieldLists.{list_again, list_back}
 use Rattle.fields_read.specs.Lists.{IsSoundList, IsAtMost, HasItems}
 use Rattle.fields_read.specs.Sound.{IsSaid}
-use Rattle.fields_read.proofs.Items.{Keeps, all_push, amend_keeps, amend_length, few_stay, firsts_kept, more_push}
-use Rattle.fields_read.proofs.Edits.{begun_given, list_again, list_begun, list_replaced, list_there}
+use Rattle.fields_read.proofs.Items.{Keeps, amend_keeps, amend_length, few_stay, firsts_kept, more_push}
+use Rattle.fields_read.proofs.Edits.{begun_given, list_begun, list_replaced}
 
 -- Where the lists of a field stand in an owner, by what reads and what replaces them, and what is marked of them.
 pub record IsPlace (is_name : Keyword → Bool) {T : Type 0} (same : T → T → Bool) (W : T → Type 0) (at : OwnerDraft → ListOp T) (put : ListOp T → OwnerDraft → OwnerDraft) (marks : OwnerDraft → GivenLists) : Type 0 where
@@ -37,9 +39,9 @@ module _ (is_name : Keyword → Bool) {T : Type 0} (same : T → T → Bool) (W 
     -- the items of a list that was put there
     items_so : (edit : ListEdit) (most : Option ℕ) (xs : List T) (op : ListOp T) → AreAll W xs → IsAtMost most (length xs) → HasItems W edit most (with_list edit xs op)
     items_so edit most xs op all few =
-        let is : xs ≡ list_at edit (with_list edit xs op) = sym (list_there edit xs op) in
+        let is : xs ≡ list_at edit (with_list edit xs op) = sym (list_back edit xs op) in
         record {
-          there = ap (λ l. with_list edit l (with_list edit xs op)) (list_there edit xs op) ∙ list_again edit xs xs op;
+          there = ap (λ l. with_list edit l (with_list edit xs op)) (list_back edit xs op) ∙ list_again edit xs xs op;
           each = subst (AreAll W) is all;
           few = subst (λ l. IsAtMost most (length l)) is few;
         }
@@ -51,7 +53,7 @@ module _ (is_name : Keyword → Bool) {T : Type 0} (same : T → T → Bool) (W 
         let new : ListOp T = with_list edit xs op in
         ap (λ o. put (close_list same edit o) (put new d)) (place.at_put new d)
         ∙ place.put_put new (close_list same edit new) d
-        ∙ ap (λ l. put (with_list edit (firsts same l) new) d) (list_there edit xs op)
+        ∙ ap (λ l. put (with_list edit (firsts same l) new) d) (list_back edit xs op)
         ∙ ap (λ o. put o d) (list_again edit xs (firsts same xs) op)
 
     reads_so : (edit : ListEdit) (most : Option ℕ) (xs : List T) (op : ListOp T) (d : OwnerDraft) → is_given edit (marks d) ≡ true → AreAll W xs → IsAtMost most (length xs)

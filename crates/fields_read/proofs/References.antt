@@ -18,9 +18,10 @@ use Rattle.usda_lists.specs.Paths.{path_from}
 use Rattle.usda_lists.specs.References.{asset_or_none, asset_item, some_path, path_or_none, path_item, with_path, with_number_of, sublayer_of, sublayer_number}
 use Rattle.usda_lists.specs.declared.offset.OffsetKey.{OffsetKey}
 use Rattle.usda_lists.specs.declared.offset.OffsetKey.TheVariants as key
-use Rattle.value_returns.specs.Fields.{IsText, IsAssetName, IsAssetOrAbsent, IsPathOrAbsent, IsProperReference, IsProperSublayer}
+use Rattle.value_returns.specs.Fields.{IsText, IsAssetName, IsAssetOrAbsent, IsProperReference, IsProperSublayer}
+use Rattle.path_returns.specs.Returns.{IsPathOrAbsent}
+use Rattle.path_returns.proofs.Meant.{path_means_one}
 use Rattle.fields_read.proofs.Items.{Keeps}
-use Rattle.fields_read.proofs.Paths.{path_means_one}
 
 -- ---- offsets
 

@@ -30,8 +30,8 @@ use Rattle.usda_lists.specs.declared.edit.ListEdit.{ListEdit}
 use Rattle.usda_lists.specs.declared.offset.OffsetKey.{OffsetKey}
 use Rattle.value_texts.specs.Readable.{is_read_as, depth}
 use Rattle.value_texts.specs.Writable.{is_writable}
+use Rattle.value_texts.specs.Each.{AreAll}
 use Rattle.layer_reads.specs.Keys.{is_plain_key, is_plain_head_key}
-use Rattle.layer_reads.specs.Lists.{AreAll}
 use Rattle.layer_texts.specs.Writable.{is_word, none_or}
 use Rattle.text_checks.specs.Utf8.{is_utf8_value}
 use Rattle.usda_drafts.specs.Drafts.{head_with}
@@ -52,7 +52,7 @@ OwnersBeginSound = (is_name : Keyword → Bool) (path : List Element) (specifier
 
 -- How a list of a field is read. Of tokens it is asked that what stands between the delimiters of a path or an asset is UTF-8, and that
 -- in an asset never three `@` stand in a row: what strings and numbers mean is asked where they are taken.
-pub record ListsAreRead (is_name : Keyword → Bool) : Type 0 where
+pub record ReadListsAreProper (is_name : Keyword → Bool) : Type 0 where
   -- the word of a field, behind its edit word: the list is empty
   pub begun : (field : ListField) (edit : ListEdit) (d next : OwnerDraft) → IsSoundSaid is_name None d → field_act field edit d ≡ Ok next
       → IsSoundSaid is_name (reading field edit (Some 0)) next
@@ -96,7 +96,7 @@ pub record IsReadFor (is_name : Keyword → Bool) (key : List ℕ) (v : Value) :
   pub utf8 : is_utf8_value v ≡ true
 
 -- How metadata is read, each key with its value, and the comment, whoever says it.
-pub record MetadataIsRead (is_name : Keyword → Bool) : Type 0 where
+pub record ReadMetadataIsProper (is_name : Keyword → Bool) : Type 0 where
   -- what is expected behind a key is what its rule says
   pub rule : (key : List ℕ) (meta : MetaEntries) (rule : KeyRule) → keys.key_act key meta ≡ Ok rule → rule ≡ key_rule key
   -- the value of a key
@@ -105,7 +105,7 @@ pub record MetadataIsRead (is_name : Keyword → Bool) : Type 0 where
   pub comment : (token : List ℕ) (meta next : MetaEntries) → IsProperMeta is_name meta → keys.comment_act token meta ≡ Ok next → IsProperMeta is_name next
 
 -- The same of the metadata of an owner.
-pub record KeysAreRead (is_name : Keyword → Bool) : Type 0 where
+pub record ReadKeysAreProper (is_name : Keyword → Bool) : Type 0 where
   pub rule : (key : List ℕ) (d : OwnerDraft) (rule : KeyRule) → key_act key d ≡ Ok rule → rule ≡ key_rule key
   pub value : (key : List ℕ) (v : Value) (d next : OwnerDraft) → IsSoundSaid is_name None d → IsReadFor is_name key v → value_act key v d ≡ Ok next → IsSoundSaid is_name None next
   pub comment : (token : List ℕ) (d next : OwnerDraft) → IsSoundSaid is_name None d → comment_act token d ≡ Ok next → IsSoundSaid is_name None next

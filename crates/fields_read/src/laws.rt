@@ -1,7 +1,7 @@
 // What an owner says is proper, each law as the clause of a function that does nothing.
 ghost use Rattle.std.specs.Prelude.{Bool};
 ghost use Rattle.usda_grammar.specs.declared.kinds.Keyword.{Keyword};
-ghost use Rattle.fields_read.specs.Laws.{OwnersBeginSound, ListsAreRead, MetadataIsRead, KeysAreRead, SelectionsAndOrdersAreRead, SublayersAreRead, SaidIsProper};
+ghost use Rattle.fields_read.specs.Laws.{OwnersBeginSound, ReadListsAreProper, ReadMetadataIsProper, ReadKeysAreProper, SelectionsAndOrdersAreRead, SublayersAreRead, SaidIsProper};
 
 /// An owner of which nothing is read yet says nothing but what is proper.
 pub fn owners_begin_sound()
@@ -9,18 +9,18 @@ pub fn owners_begin_sound()
 {}
 
 /// A list of a field that is read has proper items, each once, and is explicit or edits, not both.
-pub fn lists_are_read()
-    ensures { (is_name : Keyword → Bool) → ListsAreRead is_name }
+pub fn read_lists_are_proper()
+    ensures { (is_name : Keyword → Bool) → ReadListsAreProper is_name }
 {}
 
 /// A key that is read with its value is proper, and so is the comment.
-pub fn metadata_is_read()
-    ensures { (is_name : Keyword → Bool) → MetadataIsRead is_name }
+pub fn read_metadata_is_proper()
+    ensures { (is_name : Keyword → Bool) → ReadMetadataIsProper is_name }
 {}
 
 /// So are the keys of an owner and its comment.
-pub fn keys_are_read()
-    ensures { (is_name : Keyword → Bool) → KeysAreRead is_name }
+pub fn read_keys_are_proper()
+    ensures { (is_name : Keyword → Bool) → ReadKeysAreProper is_name }
 {}
 
 /// Selected variants that are read stand in order, each set once, and they and the names of an order are UTF-8.

@@ -10,6 +10,6 @@
 mod laws;
 
 pub use laws::{
-    keys_are_read, lists_are_read, metadata_is_read, owners_begin_sound, said_is_proper,
-    selections_and_orders_are_read, sublayers_are_read,
+    owners_begin_sound, read_keys_are_proper, read_lists_are_proper, read_metadata_is_proper,
+    said_is_proper, selections_and_orders_are_read, sublayers_are_read,
 };

@@ -1,5 +1,5 @@
 -- A stage as one layer: what composition made, without what it was made of.
-use Rattle.std.specs.Prelude.{ℕ, codes, List, [], ◌∷◌, Option, Some, None}
+use Rattle.std.specs.Prelude.{ℕ, List, [], ◌∷◌, Option, Some, None}
 use Rattle.list_ops.specs.declared.op.ListOp.{ListOp}
 use Rattle.prim_view.specs.declared.view.PrimView.{PrimView}
 use Rattle.prim_view.specs.declared.view.PropertyView.{PropertyView}
@@ -8,6 +8,7 @@ use Rattle.sdf_paths.specs.Order.{path_cmp, text_cmp}
 use Rattle.sdf_paths.specs.declared.element.Element.{Element}
 use Rattle.sdf_values.specs.declared.value.Value.{Value, fold-Value}
 use Rattle.sdf_values.specs.declared.value.Value.TheOpen.{Value-F}
+pub use Rattle.sdf_specs.specs.Keys.{default_key}
 use Rattle.sdf_specs.specs.Layers.{LayerTable, SpecEntries, with_spec}
 use Rattle.spec_parts.specs.Blank.{blank_head, blank_arcs}
 use Rattle.spec_parts.specs.declared.spec.Head.{Head}
@@ -61,10 +62,6 @@ unfoldable pub flat_spec : PrimView → Spec
 flat_spec prim = record { arcs = blank_arcs; body = flat_body prim }
 
 -- ---- the head
-
--- the key at which the metadata of `/` has the default prim
-unfoldable pub default_key : List ℕ
-default_key = codes "defaultPrim"
 
 -- the text of a string; any other value has none
 abbrev pub text_step : Value-F (Option (List ℕ)) (Option (List ℕ)) → Option (List ℕ)

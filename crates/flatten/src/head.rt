@@ -1,11 +1,11 @@
 // What the stage has at `/`, as the head of a layer.
 ghost use Rattle.std.specs.Prelude.{◌≡◌, IfOk};
 ghost use Rattle.std.specs.Option.{option_copied};
-ghost use Rattle.flatten.specs.Flattened.{text_of, default_key, default_in, beside_default, flat_head, head_of};
+ghost use Rattle.flatten.specs.Flattened.{text_of, default_in, beside_default, flat_head, head_of};
 
 use plain_data::{Items, Text, copy};
 use prim_view::PrimView;
-use sdf_specs::{Head, Meta};
+use sdf_specs::{Head, Meta, default_key};
 use sdf_values::Value;
 use std::alloc::{AllocError, Global};
 
@@ -17,14 +17,6 @@ fn text_of(value: &Value) -> Option<&Text>
         Value::Text(text) => Some(text),
         _ => None,
     }
-}
-
-/// The key of the default prim.
-#[tactic(auto, unfolding(crate::specs::Flattened::default_key))]
-fn default_key(alloc: Global) -> Result<Text, AllocError>
-    ensures { IfOk result (λ key. key ≡ default_key) }
-{
-    Text::of(alloc, "defaultPrim")
 }
 
 /// The default prim that metadata names.

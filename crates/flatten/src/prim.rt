@@ -3,11 +3,10 @@ ghost use Rattle.std.specs.Prelude.{◌≡◌, IfOk, OnOk, []};
 ghost use Rattle.flatten.specs.Flattened.{explicit_list, flat_property, with_properties, flat_body, flat_spec};
 
 use list_ops::ListOp;
-use plain_data::{ExactClone, Items, Text, copy};
+use plain_data::{ExactClone, Items, Text, copy, copy_three, copy_two};
 use prim_view::{PrimView, PropertyView};
 use sdf_paths::Path;
-use sdf_specs::{ArcPart, BodyPart, Meta, Properties, Property, Samples, Spec};
-use sdf_values::Value;
+use sdf_specs::{ArcPart, BodyPart, Meta, Properties, Property, Spec};
 use std::alloc::{AllocError, Global};
 
 /// An explicit list, where there is an opinion.
@@ -25,23 +24,6 @@ fn explicit_list<T: ExactClone>(
         appended: Items::new(alloc),
         ordered: Items::new(alloc),
     })
-}
-
-/// The values of an attribute.
-fn flat_values(
-    default: &Option<Value>,
-    samples: &Samples,
-) -> Result<(Option<Value>, Samples), AllocError>
-    ensures { IfOk result (λ both. both ≡ (default.now, samples.now)) }
-{
-    let default = copy(default)?;
-    match copy(samples) {
-        Ok(samples) => Ok((default, samples)),
-        Err(error) => {
-            drop(default);
-            Err(error)
-        }
-    }
 }
 
 /// The paths of a property as an explicit list, and its metadata.
@@ -62,26 +44,6 @@ fn flat_paths(
     }
 }
 
-/// What an attribute has beside its name and its flags.
-fn flat_content(
-    alloc: Global,
-    default: &Option<Value>,
-    samples: &Samples,
-    connections: &Option<Items<Path>>,
-    meta: &Meta,
-) -> Result<((Option<Value>, Samples), (ListOp<Path>, Meta)), AllocError>
-    ensures { IfOk result (λ all. all ≡ ((default.now, samples.now), (explicit_list connections.now, meta.now))) }
-{
-    let values = flat_values(default, samples)?;
-    match flat_paths(alloc, connections, meta) {
-        Ok(paths) => Ok((values, paths)),
-        Err(error) => {
-            drop(values);
-            Err(error)
-        }
-    }
-}
-
 /// A property as a layer has it.
 fn flat_property(alloc: Global, property: &PropertyView) -> Result<Property, AllocError>
     ensures { IfOk result (λ flat. flat ≡ flat_property property.now) }
@@ -97,9 +59,9 @@ fn flat_property(alloc: Global, property: &PropertyView) -> Result<Property, All
             connections,
             meta,
         } => {
-            let name = copy(name)?;
-            match flat_content(alloc, default, samples, connections, meta) {
-                Ok(((default, samples), (connections, meta))) => Ok(Property::Attr {
+            let (name, default, samples) = copy_three(name, default, samples)?;
+            match flat_paths(alloc, connections, meta) {
+                Ok((connections, meta)) => Ok(Property::Attr {
                     name,
                     ty: *ty,
                     custom: *custom,
@@ -110,7 +72,7 @@ fn flat_property(alloc: Global, property: &PropertyView) -> Result<Property, All
                     meta,
                 }),
                 Err(error) => {
-                    drop(name);
+                    drop((name, default, samples));
                     Err(error)
                 }
             }
@@ -149,20 +111,6 @@ fn flat_properties(alloc: Global, properties: &[PropertyView]) -> Result<Propert
     Ok(flat)
 }
 
-/// The type and the metadata of a prim.
-fn flat_fields(prim: &PrimView) -> Result<(Option<Text>, Meta), AllocError>
-    ensures { IfOk result (λ both. both ≡ (prim.now.type_name, prim.now.meta)) }
-{
-    let type_name = copy(&prim.type_name)?;
-    match copy(&prim.meta) {
-        Ok(meta) => Ok((type_name, meta)),
-        Err(error) => {
-            drop(type_name);
-            Err(error)
-        }
-    }
-}
-
 /// The schemas and the clip sets of a prim, as explicit lists.
 fn flat_lists(alloc: Global, prim: &PrimView) -> Result<(ListOp<Text>, ListOp<Text>), AllocError>
     ensures { IfOk result (λ both. both ≡ (explicit_list prim.now.api_schemas, explicit_list prim.now.clip_sets)) }
@@ -196,7 +144,7 @@ fn flat_parts(alloc: Global, prim: &PrimView) -> Result<(Items<Text>, Properties
 fn flat_body(alloc: Global, prim: &PrimView) -> Result<BodyPart, AllocError>
     ensures { IfOk result (λ body. body ≡ flat_body prim.now) }
 {
-    let fields = flat_fields(prim)?;
+    let fields = copy_two(&prim.type_name, &prim.meta)?;
     match flat_lists(alloc, prim) {
         Ok((api_schemas, clip_sets)) => match flat_parts(alloc, prim) {
             Ok((children, properties)) => {

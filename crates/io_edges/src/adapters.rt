@@ -7,7 +7,7 @@ ghost use Rattle.std.specs.Prelude.{◌≡◌, ◌≢◌, ◌↔◌, None};
 ghost use Rattle.std.specs.IoError.{error_kind};
 ghost use Rattle.io_edges.specs.Edges.{FetchLeaves, GivesAll};
 
-use crate::{Fetched, Got, LayerFiles, MOST_BYTES, Put, Sink, Source};
+use crate::{Fetched, Got, LayerFiles, MAX_FETCH, Put, Sink, Source};
 use std::fs;
 use std::io::{self, ErrorKind, Read, Write};
 use std::marker::Model;
@@ -53,14 +53,14 @@ fn fault_of(e: &io::Error) -> Fetched
     }
 }
 
-// Adds what a reader gives, at most `MOST_BYTES`.
+// Adds what a reader gives, at most `MAX_FETCH`.
 fn append_all<T: Read>(reader: &mut T, into: &mut Vec<u8>) -> Fetched
     ensures leaves { FetchLeaves result into.old.items into.new.items }
     ensures present { result ≢ Fetched.Absent }
     ensures gives { GivesAll result into.old.items into.new.items (T.remaining reader.old) (T.remaining reader.new) }
 {
     let mut piece = [0u8; PIECE];
-    let mut left = MOST_BYTES;
+    let mut left = MAX_FETCH;
     for _ in 0..u64::MAX {
         let room = left.min(PIECE);
         if room == 0 {

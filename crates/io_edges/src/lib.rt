@@ -19,12 +19,12 @@ pub use memory::{
 };
 
 /// As many bytes of a file as one fetch takes: one more than a layer may have, so that a file that is too long shows.
-pub const MOST_BYTES: usize = 67_108_865;
+pub const MAX_FETCH: usize = 67_108_865;
 
 /// What a fetch answers.
 #[derive(Clone, Copy, Debug, PartialEq, Eq)]
 pub enum Fetched {
-    /// The file's bytes, at most the first `MOST_BYTES`, were added to the buffer.
+    /// The file's bytes, at most the first `MAX_FETCH`, were added to the buffer.
     Found,
     /// There is no file of this name, and the buffer is as before.
     Absent,
@@ -85,7 +85,7 @@ pub trait LayerFiles {
     /// How often a fetch has failed. The count never falls, and stands still at 2^64 - 1.
     ghost faults: { Self → ℕ };
 
-    /// Adds the bytes of this name to the buffer, at most the first `MOST_BYTES`.
+    /// Adds the bytes of this name to the buffer, at most the first `MAX_FETCH`.
     fn fetch(&mut self, name: &str, into: &mut Vec<u8>) -> Fetched
         ensures same { files self.new ≡ files self.old }
         ensures tells { IfSome (files self.old) (λ f. FetchTells result (f name.now) into.old.items into.new.items) }

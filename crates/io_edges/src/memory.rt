@@ -8,7 +8,7 @@ ghost use Rattle.io_edges.specs.Plans.{IsCalled};
 ghost use Rattle.io_edges.specs.Stores.{entry_of, file_named};
 
 use crate::faults::FaultPlan;
-use crate::{Fetched, Gate, GatePoint, Got, LayerFiles, MOST_BYTES, Put, Sink, Source};
+use crate::{Fetched, Gate, GatePoint, Got, LayerFiles, MAX_FETCH, Put, Sink, Source};
 use std::alloc::{AllocError, Global};
 use std::marker::Model;
 
@@ -17,7 +17,7 @@ fn append_file(file: &[u8], into: &mut Vec<u8>) -> Result<(), AllocError>
     ensures ok { OnOk result (into.new.items ≡ into.old.items ++ take most file.now) }
     ensures err { OnErr result (into.new.items ≡ into.old.items) }
 {
-    let len = file.len().min(MOST_BYTES);
+    let len = file.len().min(MAX_FETCH);
     into.extend_from_slice(&file[..len])
 }
 

@@ -1,32 +1,11 @@
 -- Items of a set to which another is added.
-use Rattle.std.proofs.Common.{◌≡◌, ◌⊎◌, inl, inr, sym, refl, subst, ℕ, List, [], ◌∷◌, arith}
+use Rattle.std.proofs.Common.{◌≡◌, inl, inr, sym, refl, subst, ℕ, List, [], ◌∷◌}
 use Rattle.std.specs.BTreeSet.{insert_key}
 use Rattle.std.specs.List.{Contains}
 use Rattle.std.specs.Ordering.{match_ordering}
 use Rattle.std.specs.declared.cmp.Ordering.{Ordering}
 use Rattle.std.specs.declared.cmp.Ordering.TheVariants.{Less, Equal, Greater}
-use Rattle.std.proofs.lemmas.List.Elements.{Contains-append_left, Contains-append_right, Contains-append_cases, Contains-push, Contains-push_cases}
-
-module _ {K : Type 0} where
-  pub none_in : (x : K) → Contains [] x → ⊥
-  none_in x h = let below = h.1 in absurd (omega arith)
-
-  pub head_in : (y : K) (ys : List K) → Contains (y ∷ ys) y
-  head_in y ys = Contains-append_left (y ∷ []) ys y (Contains-push [] y)
-
-  pub tail_in : (y : K) (ys : List K) (x : K) → Contains ys x → Contains (y ∷ ys) x
-  tail_in y ys x h = Contains-append_right (y ∷ []) ys x h
-
-  only : (y x : K) → Contains [] x ⊎ (y ≡ x) → y ≡ x
-  only y x (inl h) = absurd (none_in x h)
-  only y x (inr e) = e
-
-  pub cases_in : {A : Type 0} (y : K) (ys : List K) (x : K) → Contains (y ∷ ys) x → (y ≡ x → A) → (Contains ys x → A) → A
-  cases_in {A} y ys x h first rest = by (Contains-append_cases (y ∷ []) ys x h)
-    where
-      by : Contains (y ∷ []) x ⊎ Contains ys x → A
-      by (inl one) = first (only y x (Contains-push_cases [] y x one))
-      by (inr more) = rest more
+use Rattle.composition.proofs.Members.{none_in, head_in, tail_in, cases_in}
 
 module _ {K : Type 0} (R : K → K → Ordering) (tie : (x y : K) → R x y ≡ Equal → x ≡ y) where
   pub put_in : (k : K) (xs : List K) → Contains (insert_key R xs k) k
@@ -45,4 +24,4 @@ module _ {K : Type 0} (R : K → K → Ordering) (tie : (x y : K) → R x y ≡ 
       by : (Contains xs j → Contains (insert_key R xs k) j) → (o : Ordering) → Contains (match_ordering o (k ∷ x ∷ xs) (x ∷ xs) (x ∷ insert_key R xs k)) j
       by rest Less = tail_in k (x ∷ xs) j h
       by rest Equal = h
-      by rest Greater = cases_in x xs j h (λ e. subst (λ (y : K). Contains (x ∷ insert_key R xs k) y) e (head_in x (insert_key R xs k))) (λ more. tail_in x (insert_key R xs k) j (rest more))
+      by rest Greater = elim (cases_in x xs j h) [ inl e ↦ subst (λ (y : K). Contains (x ∷ insert_key R xs k) y) e (head_in x (insert_key R xs k)) | inr more ↦ tail_in x (insert_key R xs k) j (rest more) ]

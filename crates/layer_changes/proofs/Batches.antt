@@ -8,13 +8,13 @@ use Rattle.layer_set.specs.Worlds.{WorldData}
 use Rattle.layer_set.specs.declared.key.Key.{Key}
 use Rattle.layer_edit.specs.Outcomes.{Made}
 use Rattle.edit_batches.specs.declared.op.Op.{Op}
-use Rattle.layer_edit.proofs.Found.{by_test}
 use Rattle.layer_apply.specs.Edits.{edited, Edited, proceed, edit_from, edit}
 use Rattle.layer_changes.specs.Changed.{IsChangedKey}
 use Rattle.layer_changes.specs.Covering.{Names, NamesBatch}
 use Rattle.layer_changes.specs.Parts.{is_in, is_among, parts_of}
 use Rattle.layer_changes.specs.declared.part.Part.{Part}
 use Rattle.layer_changes.proofs.Worlds.{op_left}
+use Rattle.composition.proofs.Tests.{by_test}
 
 first_false : (a b : Bool) → (a || b) ≡ false → a ≡ false
 first_false true b h = h

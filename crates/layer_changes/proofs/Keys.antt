@@ -25,13 +25,14 @@ use Rattle.layer_set.specs.contracts.key.KeyOrd.TheImpl.{ghosts as key_order}
 use Rattle.layer_set.specs.declared.held.Held.{Held}
 use Rattle.layer_set.specs.declared.key.Key.{Key}
 use Rattle.layer_set.specs.declared.key.Key.TheVariants.{Head, Arcs, Body, Load}
-use Rattle.layer_edit.proofs.Found.{by_test, is_key}
+use Rattle.layer_edit.proofs.Found.{is_key}
 use Rattle.layer_changes.specs.Changed.{key_cmp, IsChangedKey}
 use Rattle.layer_changes.specs.Covering.{HasSpec, HasTree, Names, Keeps}
 use Rattle.layer_changes.specs.Parts.{is_in}
 use Rattle.layer_changes.specs.declared.part.Part.{Part}
 use Rattle.layer_changes.specs.declared.part.Part.TheVariants.{At, Below}
-use Rattle.layer_changes.proofs.Added.{none_in, head_in, tail_in, cases_in}
+use Rattle.composition.proofs.Tests.{by_test}
+use Rattle.composition.proofs.Members.{none_in, head_in, tail_in, cases_in}
 
 -- ---- the order of keys
 
@@ -185,9 +186,9 @@ module _ {K : Type 0} (P : K → Type 0) where
   kept_has [] kept h k p has = absurd (none_in k has)
   kept_has (j ∷ ks) kept (inl h) k p has =
       subst (λ (xs : List K). Contains xs k) (sym h.1.1)
-      (cases_in j ks k has (λ e. subst (λ (x : K). Contains (j ∷ h.1.0) x) e (head_in j h.1.0)) (λ more. tail_in j h.1.0 k (kept_has ks h.1.0 h.1.2 k p more)))
+      (elim (cases_in j ks k has) [ inl e ↦ subst (λ (x : K). Contains (j ∷ h.1.0) x) e (head_in j h.1.0) | inr more ↦ tail_in j h.1.0 k (kept_has ks h.1.0 h.1.2 k p more) ])
   kept_has (j ∷ ks) kept (inr h) k p has =
-      cases_in j ks k has (λ e. absurd (h.0 (subst P (sym e) p))) (λ more. kept_has ks kept h.1 k p more)
+      elim (cases_in j ks k has) [ inl e ↦ absurd (h.0 (subst P (sym e) p)) | inr more ↦ kept_has ks kept h.1 k p more ]
 
   still_all : (Q : K → Type 0) (ks kept : List K) → Keeps P ks kept → AllByRecursion Q ks → AllByRecursion Q kept
   still_all Q [] kept h all = subst (λ (xs : List K). AllByRecursion Q xs) (sym h) tt

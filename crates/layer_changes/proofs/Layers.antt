@@ -1,6 +1,7 @@
 -- Each operation on a layer leaves what is not of its parts.
 use Rattle.std.proofs.Common.{◌≡◌, ◌∙◌, sym, ap, refl, subst, ℕ, ℤ, Bool, true, false, not, ◌||◌, ◌&&◌, List, [], ◌∷◌, Option, Some, None, Result, Ok, Err}
 use Rattle.std.specs.Prelude.{codes, if◌then◌else◌}
+use Rattle.std.proofs.lemmas.Bool.{or_right}
 use Rattle.sdf_paths.specs.Paths.{has_prefix}
 use Rattle.sdf_paths.specs.declared.element.Element.{Element}
 use Rattle.sdf_paths.specs.declared.element.Element.TheVariants.{Prim, Property as Named, Selection}
@@ -47,7 +48,7 @@ use Rattle.edit_batches.specs.declared.written.WrittenSubLayer.{WrittenSubLayer}
 use Rattle.layer_changes.specs.Parts.{is_in, is_among, is_below, of_new, of_owner, of_tree, of_head, of_arcs, of_body, of_meta_by, of_meta, of_list}
 use Rattle.layer_changes.specs.declared.part.Part.{Part}
 use Rattle.layer_changes.specs.declared.part.Part.TheVariants.{At, Below}
-use Rattle.layer_changes.proofs.Left.{Leaves, still, both_left, body_changed, arcs_changed, spec_put, tree_gone, one_of, more_of, or_later, below_front}
+use Rattle.layer_changes.proofs.Left.{Leaves, still, both_left, body_changed, arcs_changed, spec_put, tree_gone, one_of, more_of, below_front}
 
 -- ---- what is made where nothing is refused
 
@@ -114,7 +115,7 @@ module _ (name : List ℕ) (path : List Element) where
   owner_in = one_of (Body name (above path)) (Below name path ∷ [])
 
   below_in : (a b : Bool) → b ≡ true → (a || (b || false)) ≡ true
-  below_in a true h = or_later a true refl
+  below_in a true h = or_right a true refl
   below_in a false h = absurd cc
 
   cut_left : (last : Option Element) (l : LayerTable) → Leaves name (of_tree name path) l (unlisted last (above path) (record l { specs = without_tree path l.specs }))

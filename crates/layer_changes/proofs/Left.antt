@@ -1,11 +1,13 @@
 -- What a change of a layer leaves: every key of the layer that is of none of some parts.
-use Rattle.std.proofs.Common.{◌≡◌, ◌≢◌, ◌∙◌, sym, ap, refl, subst, ℕ, Bool, true, false, not, ◌||◌, ◌&&◌, List, [], ◌∷◌, Option, Some, None}
+use Rattle.std.proofs.Common.{◌≡◌, ◌≢◌, ◌∙◌, sym, ap, refl, subst, ℕ, true, false, not, ◌||◌, ◌&&◌, List, [], ◌∷◌, Option, Some, None}
 use Rattle.std.specs.BTreeMap.{is_at}
 use Rattle.std.specs.Cmp.Lexicographic.{nat_list_cmp_total}
 use Rattle.std.specs.Option.{option_map}
 use Rattle.std.specs.Ordering.{is_eq, ordering_then}
 use Rattle.std.specs.declared.cmp.Ordering.{Ordering}
 use Rattle.std.specs.declared.cmp.Ordering.TheVariants.{Equal}
+use Rattle.std.proofs.lemmas.Bool.{or_right}
+use Rattle.std.proofs.lemmas.Cmp.{tied_itself}
 use Rattle.sdf_paths.specs.Order.{text_cmp, path_cmp}
 use Rattle.sdf_paths.specs.DerivedOrder.{path_cmp_same}
 use Rattle.sdf_paths.specs.Paths.{has_prefix}
@@ -20,16 +22,17 @@ use Rattle.layer_set.specs.LookUps.{layer_head, root_names}
 use Rattle.layer_set.specs.declared.key.Key.{Key}
 use Rattle.layer_set.specs.declared.key.Key.TheVariants.{Head, Arcs, Body, Load}
 use Rattle.layer_edit.specs.Places.{with_changed, changed_spec}
-use Rattle.layer_edit.proofs.Found.{by_test, total_same, not_at, is_key, other_put, other_exchanged, same_exchanged, kept_found}
+use Rattle.layer_edit.proofs.Found.{not_at, is_key, other_put, other_exchanged, same_exchanged, kept_found}
 use Rattle.layer_changes.specs.Changed.{key_cmp}
 use Rattle.layer_changes.specs.Parts.{is_in, is_among, is_below}
 use Rattle.layer_changes.specs.declared.part.Part.{Part}
 use Rattle.layer_changes.specs.declared.part.Part.TheVariants.{At, Below}
+use Rattle.composition.proofs.Tests.{by_test}
 
 -- ---- keys of parts
 
 pub text_itself : (t : List ℕ) → text_cmp t t ≡ Equal
-text_itself t = total_same text_cmp nat_list_cmp_total t
+text_itself t = tied_itself nat_list_cmp_total t
 
 pub key_itself : (k : Key) → key_cmp k k ≡ Equal
 key_itself (Head a) = text_itself a
@@ -40,12 +43,8 @@ key_itself (Load p) = path_cmp_itself p
 pub one_of : (k : Key) (parts : List Part) → is_among (At k ∷ parts) k ≡ true
 one_of k parts = ap (λ (o : Ordering). is_eq o || is_among parts k) (key_itself k)
 
-pub or_later : (a b : Bool) → b ≡ true → (a || b) ≡ true
-or_later true b h = refl
-or_later false b h = h
-
 pub more_of : (part : Part) (parts : List Part) (k : Key) → is_among parts k ≡ true → is_among (part ∷ parts) k ≡ true
-more_of part parts k h = or_later (is_in part k) (is_among parts k) h
+more_of part parts k h = or_right (is_in part k) (is_among parts k) h
 
 pub below_front : (name : List ℕ) (front q : List Element) → has_prefix front q ≡ true → is_below name front name q ≡ true
 below_front name front q h = ap (λ (o : Ordering). is_eq o && has_prefix front q) (text_itself name) ∙ h

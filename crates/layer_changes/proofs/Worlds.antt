@@ -25,13 +25,14 @@ use Rattle.layer_edit.specs.Outcomes.{Made, given}
 use Rattle.edit_batches.specs.declared.fault.EditFault.TheVariants.{NoLayer}
 use Rattle.edit_batches.specs.declared.op.Op.{Op}
 use Rattle.edit_batches.specs.declared.op.Op.TheVariants as op
-use Rattle.layer_edit.proofs.Found.{by_test, is_key, other_put, same_put, other_removed}
+use Rattle.layer_edit.proofs.Found.{is_key, other_put, same_put, other_removed}
 use Rattle.layer_apply.specs.Edits.{put_back, in_layer, new_layer, layer_added, layer_put, rule_set, edited}
 use Rattle.layer_changes.specs.Parts.{is_in, is_among, is_below, of_layer, of_rule, parts_of}
 use Rattle.layer_changes.specs.declared.part.Part.{Part}
 use Rattle.layer_changes.specs.declared.part.Part.TheVariants.{At, Below}
-use Rattle.layer_changes.proofs.Left.{Leaves, text_itself, or_later}
+use Rattle.layer_changes.proofs.Left.{Leaves, text_itself}
 use Rattle.layer_changes.proofs.Layers as layers
+use Rattle.composition.proofs.Tests.{by_test}
 
 -- ---- what stands at names
 

@@ -4,7 +4,7 @@ use plain_data::{ExactClone, ExactOrd};
 use sdf_paths::Path;
 
 /// A part of a world that an operation may change.
-#[derive(Clone, Debug, Drop, PartialEq, Eq, PartialOrd, Ord)]
+#[derive(Clone, Drop, PartialEq, Eq, PartialOrd, Ord)]
 pub enum Part {
     /// What stands at one key.
     At(Key),

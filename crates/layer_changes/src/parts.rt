@@ -7,20 +7,11 @@ ghost use Rattle.layer_changes.specs.declared.part.Part.TheVariants.{At};
 use crate::part::Part;
 use asset_names::AssetId;
 use edit_batches::{FieldList, Op, TextField};
+use layer_edit::above;
 use layer_set::Key;
 use plain_data::{Items, copy};
 use sdf_paths::{Element, Path};
 use std::alloc::{AllocError, Global};
-
-/// The path without its last element; `/` stays.
-fn above(alloc: Global, path: &Path) -> Result<Path, AllocError>
-    ensures { IfOk result (λ owner. owner ≡ above path.now) }
-{
-    match path.parent()? {
-        Some(owner) => Ok(owner),
-        None => Ok(Path::root(alloc)),
-    }
-}
 
 fn one(alloc: Global, key: Key) -> Result<Items<Part>, AllocError>
     ensures { IfOk result (λ parts. parts ≡ At key ∷ []) }

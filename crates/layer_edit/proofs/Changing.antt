@@ -23,7 +23,8 @@ use Rattle.layer_edit.specs.Properties.{named_property, with_new_property}
 use Rattle.usda_fields.specs.declared.owner.OrderWord.{OrderWord}
 use Rattle.layer_edit.specs.declared.change.PropertyChange.{PropertyChange}
 use Rattle.layer_edit.specs.declared.change.PropertyChange.TheVariants as change
-use Rattle.layer_edit.proofs.Found.{by_test, none_exchanged, exchanged_twice}
+use Rattle.layer_edit.proofs.Found.{none_exchanged, exchanged_twice}
+use Rattle.composition.proofs.Tests.{by_test}
 
 -- ---- specs
 
@@ -170,11 +171,6 @@ reordered_below (e ∷ path) word names layer below = refl
 
 pub moved : {A E : Type 0} (r : Result A E) (new x y : LayerTable) → x ≡ y → OnOk r (new ≡ x) → OnOk r (new ≡ y)
 moved r new x y e h = subst (λ (z : LayerTable). OnOk r (new ≡ z)) e h
-
--- what was answered, in other words
-pub if_done : {A E X Y : Type 0} (r : Result A E) → (X → Y) → OnOk r X → OnOk r Y
-if_done (Ok a) f x = f x
-if_done (Err e) f x = tt
 
 -- where nothing was taken, nothing changed
 pub untaken : {E : Type 0} (r : Result (Option Spec) E) (path : List Element) (blank : Spec) (old new : LayerTable) → IfOk r (λ taken. taken ≡ spec_at path old.specs)

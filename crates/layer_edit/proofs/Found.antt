@@ -1,23 +1,11 @@
 -- What is found in entries in which others were put, exchanged or taken away.
 use Rattle.std.proofs.Common.{◌≡◌, ◌≢◌, ◌∙◌, sym, ap, refl, subst, Bool, cond, true, false, List, [], ◌∷◌, filter, Option, Some, None}
 use Rattle.std.specs.BTreeMap.{insert_entry, is_at}
-use Rattle.std.specs.Cmp.{IsTotalOrder}
 use Rattle.std.specs.Map.{lookup, remove_entry, set_value}
-use Rattle.std.specs.Ordering.{match_ordering, ordering_reverse, is_eq}
+use Rattle.std.specs.Ordering.{match_ordering, is_eq}
 use Rattle.std.specs.declared.cmp.Ordering.{Ordering}
 use Rattle.std.specs.declared.cmp.Ordering.TheVariants.{Less, Equal, Greater}
-
-pub by_test : {A : Type 0} → (b : Bool) → (b ≡ true → A) → (b ≡ false → A) → A
-by_test true on off = on refl
-by_test false on off = off refl
-
-pub total_same : {K : Type 0} (R : K → K → Ordering) → IsTotalOrder R → (x : K) → R x x ≡ Equal
-total_same R total x = by (R x x) refl
-  where
-    by : (o : Ordering) → R x x ≡ o → R x x ≡ Equal
-    by Less h = let f : Less ≡ Greater = sym h ∙ total.antisymm x x ∙ ap ordering_reverse h in absurd cc
-    by Equal h = h
-    by Greater h = let f : Greater ≡ Less = sym h ∙ total.antisymm x x ∙ ap ordering_reverse h in absurd cc
+use Rattle.composition.proofs.Tests.{by_test}
 
 module _ {K : Type 0} (R : K → K → Ordering) (tie : (x y : K) → R x y ≡ Equal → x ≡ y) where
   -- a key is not found in the place of another

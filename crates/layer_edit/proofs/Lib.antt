@@ -1,5 +1,4 @@
 pub mod Found
-pub mod Anchored
 pub mod AllOf
 pub mod Judging
 pub mod Owners

@@ -1,10 +1,9 @@
 -- Values as an attribute or a key of metadata takes them.
-use Rattle.std.specs.Prelude.{ℕ, Bool, true, false, not, ◌&&◌, ◌||◌, if◌then◌else◌, List, [], ◌∷◌, map, Option, Some, None, Result, Ok, Err, ℤ}
+use Rattle.std.specs.Prelude.{ℕ, Bool, true, false, not, ◌&&◌, ◌||◌, if◌then◌else◌, List, [], ◌∷◌, map, Option, Some, None, Result, Ok, Err}
 use Rattle.std.specs.List.{list_all}
 use Rattle.std.specs.Result.{result_ok}
 use Rattle.sdf_values.specs.Conforms.{one, is_block}
 use Rattle.sdf_values.specs.declared.decimal.Num.{Num}
-use Rattle.sdf_values.specs.declared.decimal.Num.TheVariants.{Finite}
 use Rattle.sdf_values.specs.declared.refusal.RefusalKind.{RefusalKind}
 use Rattle.sdf_values.specs.declared.refusal.RefusalKind.TheVariants.{TimeRange}
 use Rattle.sdf_values.specs.declared.type_name.ElementType.{ElementType}
@@ -14,7 +13,8 @@ use Rattle.sdf_values.specs.declared.value.DictItem.{DictItem, out-DictItem}
 use Rattle.sdf_values.specs.declared.value.Value.{Value, fold-Value, out-Value}
 use Rattle.sdf_values.specs.declared.value.Value.TheVariants as value
 use Rattle.sdf_values.specs.declared.value.Value.TheOpen.{Value-F, DictItem-F}
-use Rattle.usda_values.specs.Scalars.{Taken, by_value, time_of}
+use Rattle.usda_values.specs.Scalars.{Taken, by_value}
+pub use Rattle.usda_values.specs.Scalars.{finite_time as time_at}
 use Rattle.usda_values.specs.Shaping.{take_shape}
 use Rattle.usda_fields.specs.Keys.{key_rule, judged}
 use Rattle.usda_fields.specs.declared.keys.KeyRule.{KeyRule}
@@ -48,11 +48,6 @@ has_form t v = has_form_by t v (out-Value v)
 -- the value as one of the type
 unfoldable pub typed : TypeName → Value → Option Value
 typed t v = result_ok (take_shape t v)
-
--- the time that a number is
-unfoldable pub time_at : Num → Option ℤ
-time_at (Finite d) = time_of d
-time_at x = None
 
 -- ---- metadata
 

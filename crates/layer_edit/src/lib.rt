@@ -21,6 +21,7 @@ mod typing;
 pub use fields::{set_list, set_order, set_selection, set_sublayers};
 pub use kinds::is_stage_prim;
 pub use metadata::{clear_meta, set_meta};
+pub use places::above;
 pub use prims::{add_prim, add_variant, remove};
 pub use properties::{
     add_attribute, add_relationship, clear_default, clear_sample, set_default, set_sample,

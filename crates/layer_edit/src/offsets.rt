@@ -1,28 +1,19 @@
 // Offsets, references and sublayers as they are written.
 ghost use Rattle.std.specs.Prelude.{◌≡◌, IfOk};
 ghost use Rattle.std.specs.List.{list_any};
-ghost use Rattle.composition.specs.Assets.{anchor};
 ghost use Rattle.usda_lists.specs.Offsets.{whole_number};
 ghost use Rattle.layer_edit.specs.Offsets.{in_bounds, offset_of_wholes, offset_of, item_of, items_of, sublayer_of, sublayers_of, is_bad_target, is_bad_path, is_bad_asset, is_bad_item};
 
 use crate::kinds::is_stage_prim;
-use asset_names::{AssetFault, AssetId};
+use asset_names::AssetId;
 use edit_batches::{WrittenOffset, WrittenReference, WrittenSubLayer};
+use layer_set::anchored;
 use plain_data::{Items, Text, copy};
 use sdf_paths::Path;
 use sdf_specs::{RefItem, SubLayer};
-use sdf_values::{LayerOffset, Num};
+use sdf_values::LayerOffset;
 use std::alloc::{AllocError, Global};
-use usda_values::whole_of;
-
-fn whole_number(x: Num) -> Option<i128>
-    ensures { result ≡ whole_number x }
-{
-    match x {
-        Num::Finite(d) => whole_of(d),
-        _ => None,
-    }
-}
+use usda_lists::whole_number;
 
 fn in_bounds(offset: i128, scale: i128) -> bool
     ensures { result ≡ in_bounds offset scale }
@@ -135,17 +126,6 @@ fn is_bad_path(path: &Option<Path>) -> bool
     match path {
         Some(path) => is_bad_target(path),
         None => false,
-    }
-}
-
-/// The name that an asset has in a layer; nothing where it has none.
-fn anchored(alloc: Global, layer: &AssetId, asset: &str) -> Result<Option<AssetId>, AllocError>
-    ensures { IfOk result (λ name. name ≡ anchor layer.now asset.now) }
-{
-    match AssetId::anchor(alloc, layer, asset) {
-        Ok(name) => Ok(Some(name)),
-        Err(AssetFault::BadAsset { at: _ }) => Ok(None),
-        Err(AssetFault::NoMemory) => Err(AllocError),
     }
 }
 

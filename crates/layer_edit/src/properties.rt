@@ -8,7 +8,7 @@ ghost use Rattle.layer_edit.specs.Properties.{blank_attribute, blank_relationshi
 use crate::change::{PropertyChange, SpecChange};
 use crate::kinds::is_property_path;
 use crate::places::{above, change_at, change_property_at, has_parent, has_spec, property_in};
-use crate::typing::{has_form, time_at, typed};
+use crate::typing::{has_form, typed};
 use edit_batches::{EditFault, OpRefused};
 use list_ops::ListOp;
 use plain_data::{Text, copy};
@@ -16,6 +16,7 @@ use sdf_paths::{Element, Path};
 use sdf_specs::{Layer, Meta, Property, Samples};
 use sdf_values::{Num, TypeName, Value};
 use std::alloc::{AllocError, Global};
+use usda_values::finite_time;
 
 fn blank_attribute(alloc: Global, name: Text, ty: TypeName, custom: bool, uniform: bool) -> Property
     ensures { result ≡ blank_attribute name ty custom uniform }
@@ -253,7 +254,7 @@ fn give_sample(
     if !has_form(alloc, ty, value)? {
         return Err(OpRefused::Fault(EditFault::ValueShape));
     }
-    let Some(time) = time_at(time) else {
+    let Some(time) = finite_time(time) else {
         return Err(OpRefused::Fault(EditFault::TimeRange));
     };
     match typed(alloc, ty, value)? {
@@ -291,7 +292,7 @@ pub fn set_sample(
 fn drop_sample(alloc: Global, layer: &mut Layer, path: &Path, time: Num) -> Result<(), OpRefused>
     ensures { Does result layer.old layer.new (sample_dropped path.now time layer.old) }
 {
-    match time_at(time) {
+    match finite_time(time) {
         Some(time) => {
             change_property_at(alloc, layer, path, PropertyChange::NoSample { time })?;
             Ok(())

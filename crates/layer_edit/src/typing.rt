@@ -4,23 +4,14 @@ ghost use Rattle.std.specs.Result.{result_ok};
 ghost use Rattle.sdf_values.specs.Conforms.{one};
 ghost use Rattle.usda_fields.specs.Keys.{key_rule, judged};
 ghost use Rattle.usda_values.specs.Shaping.{take_shape};
-ghost use Rattle.layer_edit.specs.Typing.{is_but_for_time, is_member, are_members, has_form, typed, time_at, kept, kept_number, kept_all, kept_entry, as_ruled, meta_value};
+ghost use Rattle.layer_edit.specs.Typing.{is_but_for_time, is_member, are_members, has_form, typed, kept, kept_number, kept_all, kept_entry, as_ruled, meta_value};
 
 use plain_data::{Items, Text, copy};
-use sdf_values::{DictItem, ElementType, Num, RefusalKind, TimeCode, TypeName, Value};
+use sdf_values::{DictItem, ElementType, Num, RefusalKind, TypeName, Value};
 use spec_properties::Meta;
 use std::alloc::{AllocError, Global};
 use usda_fields::{KeyRule, put_value};
-use usda_values::{ActFault, ValueFault, by_value, take_shape, time_of};
-
-fn one(element: ElementType) -> TypeName
-    ensures { result ≡ one element }
-{
-    TypeName {
-        element,
-        array: false,
-    }
-}
+use usda_values::{PartFault, ValueFault, by_value, take_shape};
 
 /// Whether a value is one of a type, or is refused for a time alone.
 fn fits(alloc: Global, ty: TypeName, value: &Value) -> Result<bool, AllocError>
@@ -42,7 +33,7 @@ fn is_member(alloc: Global, element: ElementType, value: &Value) -> Result<bool,
     if value.is_block() {
         return Ok(false);
     }
-    fits(alloc, one(element), value)
+    fits(alloc, TypeName::one(element), value)
 }
 
 fn are_members(alloc: Global, ty: TypeName, values: &[Value]) -> Result<bool, AllocError>
@@ -79,17 +70,6 @@ pub fn typed(alloc: Global, ty: TypeName, value: &Value) -> Result<Option<Value>
         Ok(value) => Ok(Some(value)),
         Err(ValueFault::Refused { kind: _, at: _ }) => Ok(None),
         Err(ValueFault::NoMemory) => Err(AllocError),
-    }
-}
-
-/// The time that a number is; nothing where it is more than 10^12 away from 0 or has more than 18 decimals.
-#[tactic(auto, unfolding(crate::specs::Typing::time_at))]
-pub fn time_at(x: Num) -> Option<TimeCode>
-    ensures { result ≡ time_at x }
-{
-    match x {
-        Num::Finite(d) => time_of(d),
-        _ => None,
     }
 }
 
@@ -162,7 +142,7 @@ fn kept_number(is_typed: bool, x: Num) -> Value
 fn shaped(alloc: Global, element: ElementType, value: &Value) -> Result<Option<Value>, AllocError>
     ensures { IfOk result (λ v. v ≡ result_ok (take_shape (one element) value.now)) }
 {
-    match take_shape(alloc, one(element), copy(value)?) {
+    match take_shape(alloc, TypeName::one(element), copy(value)?) {
         Ok(value) => Ok(Some(value)),
         Err(ValueFault::Refused { kind: _, at: _ }) => Ok(None),
         Err(ValueFault::NoMemory) => Err(AllocError),
@@ -198,11 +178,11 @@ fn judged(alloc: Global, key: &Text, value: Value) -> Result<Option<Value>, Allo
             drop(meta);
             Ok(kept)
         }
-        Err(ActFault::Refused(_)) => {
+        Err(PartFault::Refused(_)) => {
             drop(meta);
             Ok(None)
         }
-        Err(ActFault::NoMemory) => {
+        Err(PartFault::NoMemory) => {
             drop(meta);
             Err(AllocError)
         }

@@ -1,47 +1,30 @@
 -- Names that stand once each.
-use Rattle.std.proofs.Common.{◌≡◌, ◌∙◌, sym, ap, refl, subst, ℕ, zero, suc, take, Bool, true, false, ◌||◌, List, [], ◌∷◌, ◌++◌, fold, Option, Some, None}
+use Rattle.std.proofs.Common.{◌≡◌, ◌∙◌, sym, ap, refl, subst, ℕ, zero, suc, take, true, false, ◌||◌, List, [], ◌∷◌, ◌++◌, fold, Option, Some, None}
 use Rattle.std.specs.List.{slice_get}
 use Rattle.std.proofs.lemmas.List.Folds.{list_any-append, list_any_at}
 use Rattle.std.proofs.lemmas.Option.{slice_get_within, get_or_from_slice_get}
+use Rattle.std.proofs.lemmas.Bool.{or_from, or_parts}
 use Rattle.composition.specs.Assets.{anchor}
 use Rattle.composition.specs.Texts.{Text, same_text}
 use Rattle.layer_stack.specs.Meant.{noted}
 use Rattle.layer_stack.specs.Visiting.{AreApart}
-use Rattle.layer_stack.proofs.Names.{not_both, same_text_same, same_itself}
-use Rattle.layer_stack.proofs.Noting.{noted_new, noted_old}
+use Rattle.layer_stack.proofs.Noting.{noted_new, noted_old, has}
 use Rattle.layer_load.specs.Opening.{with_asset, with_anchored, first_names}
-use Rattle.layer_load.proofs.Noting.{has}
-
-or_false : (a b : Bool) → a ≡ false → b ≡ false → (a || b) ≡ false
-or_false true b h k = not_both refl h
-or_false false b h k = k
-
-left_false : (a b : Bool) → (a || b) ≡ false → a ≡ false
-left_false true b h = not_both refl h
-left_false false b h = refl
-
-right_false : (a b : Bool) → (a || b) ≡ false → b ≡ false
-right_false true b h = not_both refl h
-right_false false b h = h
+use Rattle.sdf_specs.proofs.PathLemmas.{not_both}
+use Rattle.composition.proofs.Same.{same_text_same, same_itself}
+use Rattle.composition.proofs.Tests.{by_test}
 
 -- two names differ the other way round too
 turned_round : (a b : Text) → same_text a b ≡ false → same_text b a ≡ false
-turned_round a b differ = by_test (same_text b a) refl
-  where
-    by_test : (t : Bool) → same_text b a ≡ t → same_text b a ≡ false
-    by_test true is = let one : b ≡ a = same_text_same b a is in not_both (ap (λ (x : Text). same_text a x) one ∙ same_itself a) differ
-    by_test false is = is
+turned_round a b differ =
+    by_test (same_text b a) (λ on. let one : b ≡ a = same_text_same b a on in not_both (ap (λ (x : Text). same_text a x) one ∙ same_itself a) differ) (λ off. off)
 
 pub behind : (names : List Text) (n : Text) → AreApart names → has n names ≡ false → AreApart (names ++ n ∷ [])
 behind [] n apart new = (refl, tt)
 behind (x ∷ names) n apart new = (
-  list_any-append (same_text x) names (n ∷ []) ∙ or_false (has x names) (same_text x n || false) apart.0 (or_false (same_text x n) false (turned_round n x (left_false (same_text n x) (has n names) new)) refl),
-  behind names n apart.1 (right_false (same_text n x) (has n names) new),
+  list_any-append (same_text x) names (n ∷ []) ∙ or_from (has x names) (same_text x n || false) apart.0 (or_from (same_text x n) false (turned_round n x (or_parts (same_text n x) (has n names) new).0) refl),
+  behind names n apart.1 (or_parts (same_text n x) (has n names) new).1,
 )
-
-by_test : {A : Type 0} → (b : Bool) → (b ≡ true → A) → (b ≡ false → A) → A
-by_test true on off = on refl
-by_test false on off = off refl
 
 pub noted_apart : (names : List Text) (n : Text) → AreApart names → AreApart (noted names n)
 noted_apart names n apart = by_test (has n names)
@@ -64,7 +47,7 @@ first_apart root (Some session) = noted_apart (root ∷ []) session (refl, tt)
 pub not_before : (names : List Text) (i : ℕ) (n : Text) → AreApart names → slice_get names i ≡ Some n → has n (take i names) ≡ false
 not_before [] i n apart is = absurd cc
 not_before (x ∷ names) zero n apart is = refl
-not_before (x ∷ names) (suc i) n apart is = or_false (same_text n x) (has n (take i names)) differs (not_before names i n apart.1 is)
+not_before (x ∷ names) (suc i) n apart is = or_from (same_text n x) (has n (take i names)) differs (not_before names i n apart.1 is)
   where
     among : n ≡ x → has x names ≡ true
     among one = list_any_at (same_text x) names i n (slice_get_within names i n is)

@@ -5,25 +5,27 @@ use Rattle.std.specs.Prelude.{IfSome}
 use Rattle.std.proofs.lemmas.List.{take_more, take-append-le}
 use Rattle.std.proofs.lemmas.List.Folds.{list_any_at}
 use Rattle.std.proofs.lemmas.Option.{slice_get_within, get_or_from_slice_get}
+use Rattle.std.proofs.lemmas.Bool.{or_cases, or_left, or_right}
 use Rattle.asset_names.specs.Anchoring.{kind_of}
 use Rattle.asset_names.specs.declared.name.NameKind.TheVariants as kind
 use Rattle.composition.specs.Texts.{Text, same_text}
 use Rattle.io_edges.specs.Edges.{Asks, AsksAtMost}
 use Rattle.layer_set.specs.declared.held.Held.{Held}
 use Rattle.layer_stack.specs.Visiting.{AreApart}
-use Rattle.layer_stack.proofs.Names.{not_both, same_itself}
 use Rattle.layer_load.specs.Asking.{IsAsking, AsksInTurn, AsksMet}
 use Rattle.layer_load.specs.Files.{Files, AreRead, StandsAt, taken_at}
 use Rattle.layer_load.specs.Opening.{Opening}
 use Rattle.layer_load.proofs.Apart.{behind}
 use Rattle.layer_load.proofs.Known.{Known}
-use Rattle.layer_load.proofs.Noting.{has, has_front, has_last, has_this, or_left, or_parts, or_right}
+use Rattle.layer_stack.proofs.Noting.{has, has_front, has_last, has_this}
+use Rattle.sdf_specs.proofs.PathLemmas.{not_both}
+use Rattle.composition.proofs.Same.{same_itself}
 
 -- a name of the front is a name of the whole
 pub has_of_take : (q : Text) (n : ℕ) (names : List Text) → has q (take n names) ≡ true → has q names ≡ true
 has_of_take q zero names h = not_both h refl
 has_of_take q (suc n) [] h = h
-has_of_take q (suc n) (x ∷ names) h = elim (or_parts (same_text q x) (has q (take n names)) h) [
+has_of_take q (suc n) (x ∷ names) h = elim (or_cases (same_text q x) (has q (take n names)) h) [
   | inl here ↦ or_left (same_text q x) (has q names) here
   | inr later ↦ or_right (same_text q x) (has q names) (has_of_take q n names later)
 ]

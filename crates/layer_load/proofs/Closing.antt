@@ -9,15 +9,18 @@ use Rattle.std.proofs.lemmas.Option.{slice_get_within, get_or_from_slice_get, sl
 use Rattle.composition.specs.Texts.{Text, same_text}
 use Rattle.layer_set.specs.Named.{at_name}
 use Rattle.layer_set.specs.declared.held.Held.{Held}
-use Rattle.layer_stack.proofs.Names.{not_both, same_text_same, same_itself, at_with}
+use Rattle.layer_stack.proofs.Names.{at_with}
 use Rattle.spec_parts.specs.declared.items.Refusal.{Refusal}
 use Rattle.layer_load.specs.Closure.{Give, IsMet, as_root, as_session, as_named, IsClosed}
 use Rattle.layer_load.specs.Opening.{Opening, Ending, assets_of, with_held, is_needed, if_needed, unless_refused, unless_large, taken, by_turn, loaded, first_names, begun, opened_from, opened, most_bytes}
 use Rattle.layer_load.specs.declared.fault.LoadFault.TheVariants.{WorldTooLarge}
 use Rattle.layer_load.specs.declared.load.Loaded.{Loaded}
 use Rattle.layer_stack.specs.Meant.{noted}
-use Rattle.layer_load.proofs.Noting.{has, has_this, has_last, noted_kept, noted_there, noted_back, more, kept, forth, back}
+use Rattle.layer_stack.proofs.Noting.{has, has_this, has_last, noted_kept, noted_there, noted_back}
+use Rattle.layer_load.proofs.Noting.{more, kept, forth, back}
 use Rattle.layer_load.proofs.Turns.{one_turn, no_turn, last_turn}
+use Rattle.sdf_specs.proofs.PathLemmas.{not_both}
+use Rattle.composition.proofs.Same.{same_text_same, same_itself}
 
 -- an opening that ends with a world went on
 module _ (go : Opening → Ending) (s : Opening) (name : Text) (held : Held) (total : ℕ) (l : Loaded) where

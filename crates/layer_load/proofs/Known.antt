@@ -9,7 +9,6 @@ use Rattle.asset_names.specs.Anchoring.{kind_of}
 use Rattle.composition.specs.Texts.{Text, same_text}
 use Rattle.layer_set.specs.declared.held.Held.{Held}
 use Rattle.layer_stack.specs.Visiting.{AreApart}
-use Rattle.layer_stack.proofs.Names.{not_both, same_text_same, same_itself}
 use Rattle.layer_load.specs.Answers.{Answers, GoesOn, TakesTurn, Opens}
 use Rattle.layer_load.specs.Files.{Files, AreRead, Fit, FitsAt, Stands, StandsAt, taken_of, taken_at}
 use Rattle.layer_load.specs.Opening.{Opening, Ending, assets_of, taken, by_turn, loaded, begun, opened_from, opened}
@@ -18,8 +17,12 @@ use Rattle.layer_load.specs.declared.fault.LoadFault.TheVariants.{ReadFault, Roo
 use Rattle.layer_load.proofs.Apart.{not_before}
 use Rattle.layer_load.specs.Closure.{IsMet, as_named}
 use Rattle.layer_load.proofs.Closing.{by_name, known_first as met_first, opened_closed}
-use Rattle.layer_load.proofs.Noting.{has, has_front, has_this, back}
+use Rattle.layer_stack.proofs.Noting.{has, has_front, has_this}
+use Rattle.layer_load.proofs.Noting.{back}
 use Rattle.layer_load.proofs.Turns.{one_turn, no_turn, last_turn}
+use Rattle.sdf_specs.proofs.PathLemmas.{not_both}
+use Rattle.composition.proofs.Same.{same_text_same, same_itself}
+use Rattle.composition.proofs.Tests.{by_test}
 
 -- what stands at these names, and how many bytes are fetched for them, is told by the files
 pub record Agree (files : Files) (held : Text → Held) (size : Text → ℕ) (names : List Text) : Type 0 where
@@ -51,10 +54,6 @@ extended None old name file fit fits = record {
   elsewhere = λ q differ. ap (λ (b : Bool). elim b as (λ _. Option (List ℕ)) [ true ↦ file | false ↦ old q ]) differ;
 }
 extended (Some f) old name file fit fits = record { files = old; fit = fit; here = ap (λ (g : Files). g name) fit ∙ sym fits; elsewhere = λ q differ. refl }
-
-by_test : {A : Type 0} → (b : Bool) → (b ≡ true → A) → (b ≡ false → A) → A
-by_test true on off = on refl
-by_test false on off = off refl
 
 module _ (told : Option Files) (names : ℕ) (root : Text) (session : Option Text) where
   some_files : (o : Option Files) → (f : Files) × Fit o f

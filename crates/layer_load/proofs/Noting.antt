@@ -1,63 +1,11 @@
 -- Names that are noted behind others.
-use Rattle.std.proofs.Common.{◌≡◌, ◌⊎◌, ◌∙◌, inl, inr, sym, ap, refl, subst, Bool, true, false, ◌||◌, List, [], ◌∷◌, ◌++◌, append-nil, append_assoc, fold, Option, Some, None}
-use Rattle.std.specs.List.{list_any}
-use Rattle.std.proofs.lemmas.List.Folds.{list_any-append}
+use Rattle.std.proofs.Common.{◌≡◌, ◌⊎◌, ◌∙◌, inl, inr, sym, ap, subst, true, List, [], ◌∷◌, ◌++◌, append-nil, append_assoc, fold, Option, Some, None}
 use Rattle.composition.specs.Assets.{anchor}
-use Rattle.composition.specs.Texts.{Text, same_text}
+use Rattle.composition.specs.Texts.{Text}
 use Rattle.layer_stack.specs.Meant.{noted}
-use Rattle.layer_stack.proofs.Names.{not_both, same_text_same, same_itself}
-use Rattle.layer_stack.proofs.Noting.{noted_new, noted_old}
+use Rattle.layer_stack.proofs.Noting.{has, has_front, noted_more, noted_there, noted_back}
 use Rattle.layer_load.specs.Closure.{Give}
 use Rattle.layer_load.specs.Opening.{with_asset, with_anchored}
-
-abbrev pub has : Text → List Text → Bool
-has q names = list_any (same_text q) names
-
-pub or_parts : (a b : Bool) → (a || b) ≡ true → (a ≡ true) ⊎ (b ≡ true)
-or_parts true b h = inl refl
-or_parts false b h = inr h
-
-pub or_left : (a b : Bool) → a ≡ true → (a || b) ≡ true
-or_left true b h = refl
-or_left false b h = not_both h refl
-
-pub or_right : (a b : Bool) → b ≡ true → (a || b) ≡ true
-or_right true b h = refl
-or_right false b h = h
-
-or_none : (b : Bool) → (b || false) ≡ true → b ≡ true
-or_none true h = refl
-or_none false h = h
-
--- names behind others are still there
-pub has_front : (q : Text) (a b : List Text) → has q a ≡ true → has q (a ++ b) ≡ true
-has_front q a b h = list_any-append (same_text q) a b ∙ or_left (has q a) (has q b) h
-
-pub has_last : (q : Text) (a : List Text) (n : Text) → has q (a ++ n ∷ []) ≡ true → (has q a ≡ true) ⊎ (q ≡ n)
-has_last q a n h = elim (or_parts (has q a) (same_text q n || false) (sym (list_any-append (same_text q) a (n ∷ [])) ∙ h)) [
-  | inl front ↦ inl front
-  | inr last ↦ inr (same_text_same q n (or_none (same_text q n) last))
-]
-
-pub has_this : (a : List Text) (n : Text) → has n (a ++ n ∷ []) ≡ true
-has_this a n = list_any-append (same_text n) a (n ∷ []) ∙ or_right (has n a) (same_text n n || false) (or_left (same_text n n) false (same_itself n))
-
-by_test : {A : Type 0} → (b : Bool) → (b ≡ true → A) → (b ≡ false → A) → A
-by_test true on off = on refl
-by_test false on off = off refl
-
--- one name more
-noted_more : (names : List Text) (n : Text) → (extra : List Text) × (noted names n ≡ names ++ extra)
-noted_more names n = by_test (has n names) (λ on. ([], noted_old names n on ∙ sym (append-nil names))) (λ off. (n ∷ [], noted_new names n off))
-
-pub noted_there : (names : List Text) (n : Text) → has n (noted names n) ≡ true
-noted_there names n = by_test (has n names) (λ on. ap (has n) (noted_old names n on) ∙ on) (λ off. ap (has n) (noted_new names n off) ∙ has_this names n)
-
-pub noted_back : (names : List Text) (n q : Text) → has q (noted names n) ≡ true → (has q names ≡ true) ⊎ (q ≡ n)
-noted_back names n q h = by_test (has n names) (λ on. inl (sym (ap (has q) (noted_old names n on)) ∙ h)) (λ off. has_last q names n (sym (ap (has q) (noted_new names n off)) ∙ h))
-
-pub noted_kept : (names : List Text) (n q : Text) → has q names ≡ true → has q (noted names n) ≡ true
-noted_kept names n q h = let m = noted_more names n in ap (has q) m.1 ∙ has_front q names m.0 h
 
 -- one asset more
 anchored_more : (names : List Text) (o : Option Text) → (extra : List Text) × (with_anchored names o ≡ names ++ extra)

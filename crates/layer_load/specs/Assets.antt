@@ -11,7 +11,7 @@ use Rattle.spec_parts.specs.declared.items.VariantSet.{VariantSet}
 use Rattle.spec_parts.specs.declared.spec.ArcPart.{ArcPart}
 use Rattle.spec_parts.specs.declared.spec.Spec.{Spec}
 use Rattle.composition.specs.Texts.{Text}
-use Rattle.usda_writer.specs.Canonical.{spec_below}
+use Rattle.sdf_specs.specs.Found.{spec_below}
 
 -- the asset of an item; an item of the layer stack itself has none
 abbrev pub given : Option Text → List Text

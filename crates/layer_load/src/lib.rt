@@ -1,7 +1,6 @@
 //! Opens worlds of layers from files: the root and the session layer, and then layer by layer what these name.
 #![tactic(auto)]
 
-mod anchored;
 mod assets;
 mod fault;
 mod laws;
@@ -13,5 +12,5 @@ mod walk;
 
 pub use fault::LoadFault;
 pub use laws::files_have_one_reading;
-pub use load::{Loaded, MAX_NAMES, load_world};
+pub use load::{Loaded, MAX_LAYER_NAMES, load_world};
 pub use one::{MAX_FETCHED, load_one};

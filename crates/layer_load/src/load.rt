@@ -13,7 +13,7 @@ use layer_set::World;
 use std::alloc::Global;
 
 /// The most names of layers that have their turn when a world is opened.
-pub const MAX_NAMES: usize = 4096;
+pub const MAX_LAYER_NAMES: usize = 4096;
 
 /// A world that was opened.
 #[derive(Drop)]
@@ -60,7 +60,7 @@ fn load_within<F: LayerFiles>(
 /// # Errors
 ///
 /// `ReadFault` where a file could not be read. `RootRefused` where the root or the session layer is not there or is refused.
-/// `WorldTooLarge` where more than `MAX_NAMES` names have a turn, or more bytes are fetched in all than `MAX_FETCHED`. `NoMemory` where
+/// `WorldTooLarge` where more than `MAX_LAYER_NAMES` names have a turn, or more bytes are fetched in all than `MAX_FETCHED`. `NoMemory` where
 /// memory ran out. What is met first is answered.
 pub fn load_world<F: LayerFiles>(
     alloc: Global,
@@ -76,5 +76,5 @@ pub fn load_world<F: LayerFiles>(
     // A fault is told where one happened, and only there: no fetch is tried again.
     ensures counted { IsCounted (result ≡ Err LoadFault.ReadFault) (F.faults files.old) (F.faults files.new) }
 {
-    load_within(alloc, files, root, session, MAX_NAMES)
+    load_within(alloc, files, root, session, MAX_LAYER_NAMES)
 }

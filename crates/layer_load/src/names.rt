@@ -1,7 +1,7 @@
 ghost use Rattle.std.specs.Prelude.{◌≡◌, [], fold, length, slice_get, IfOk, OnOk};
 
-use crate::anchored::anchored;
 use asset_names::AssetId;
+use layer_set::anchored;
 use plain_data::{Items, Text, copy};
 use spec_tables::OrderedTable;
 use std::alloc::{AllocError, Global};
@@ -9,7 +9,9 @@ use std::alloc::{AllocError, Global};
 /// Names in the order in which they were met, each once.
 #[derive(Drop)]
 pub struct Names {
+    /// The names, the one that was met first in front.
     pub listed: Items<AssetId>,
+    /// The same names in a table, by which one is looked up; the values say nothing.
     pub met: OrderedTable<AssetId, bool>,
 }
 

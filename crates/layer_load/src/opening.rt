@@ -24,8 +24,11 @@ use usda_reader::texts_have_one_answer;
 /// A world that is being opened: the names that were met, what stands at those that had their turn, and the bytes so far.
 #[derive(Drop)]
 pub struct WorldDraft {
+    /// The names that were met.
     pub names: Names,
+    /// What stands at the names that had their turn.
     pub world: World,
+    /// How many bytes the files have together that were read so far.
     pub bytes: u64,
 }
 

@@ -1,18 +1,14 @@
 // The prims and variants of a layer, one after the other as its canonical text has them.
 ghost use Rattle.std.specs.Prelude.{◌≡◌, ◌++◌, false, OnOk, IfOk};
 ghost use Rattle.std.specs.List.{flat_map};
-ghost use Rattle.std.specs.Option.{option_map};
 ghost use Rattle.sdf_paths.specs.Paths.{is_property};
-ghost use Rattle.sdf_paths.specs.declared.element.Element.TheVariants as element;
-ghost use Rattle.sdf_specs.specs.Layers.{spec_at};
-ghost use Rattle.usda_writer.specs.Canonical.{spec_below};
-ghost use Rattle.usda_writer.specs.Found.{IsAt, IsFound, StandAtPaths};
+ghost use Rattle.sdf_specs.specs.Found.{StandAtPaths};
 ghost use Rattle.layer_load.specs.Assets.{assets_of_prim, assets_of_prims, assets_of_variant, assets_of_set, assets_within, assets_of_layer};
 
 use crate::assets::{push_arcs, push_sublayers};
 use plain_data::{Items, Text};
-use sdf_paths::{Path, PathFault};
-use sdf_specs::{Layer, Spec, VariantSet};
+use sdf_paths::Path;
+use sdf_specs::{Layer, Spec, VariantSet, prim_spec_below, stand_at_paths, variant_spec_below};
 use std::alloc::{AllocError, Global};
 
 /// The assets that a layer names.
@@ -30,15 +26,6 @@ pub fn assets_of_layer(alloc: Global, layer: &Layer) -> Result<Items<Text>, Allo
         layer.head().root_names.as_slice(),
     )?;
     Ok(assets)
-}
-
-// Goes over the paths of a layer: each spec stands at one.
-fn stand_at_paths(layer: &Layer)
-    ensures { StandAtPaths layer.now.specs }
-{
-    for (path, _spec) in layer.iter() {
-        let _elements = path.elements();
-    }
 }
 
 // Appends the assets of the prims of these names below a path, each with what stands within it for so many levels.
@@ -72,7 +59,7 @@ fn push_prim(
     requires prim { is_property path.now ≡ false }
     ensures { OnOk result (out.new ≡ out.old ++ assets_of_prim layer.now.specs (assets_within layer.now.specs levels) path.now name.now) }
 {
-    let Some((child, spec)) = prim_below(layer, path, name)? else {
+    let Some((child, spec)) = prim_spec_below(layer, path, name)? else {
         return Ok(());
     };
     push_arcs(out, &spec.arcs)?;
@@ -128,7 +115,7 @@ fn push_variant(
     requires prim { is_property path.now ≡ false }
     ensures { OnOk result (out.new ≡ out.old ++ assets_of_variant layer.now.specs (assets_within layer.now.specs levels) path.now set.now variant.now) }
 {
-    let Some((below, spec)) = variant_below(layer, path, set, variant)? else {
+    let Some((below, spec)) = variant_spec_below(layer, path, set, variant)? else {
         return Ok(());
     };
     push_arcs(out, &spec.arcs)?;
@@ -158,49 +145,4 @@ fn push_within(
         spec.body.variant_names.as_slice(),
     )?;
     push_prims(out, layer, levels - 1, path, spec.body.children.as_slice())
-}
-
-// A spec with its path, which it is given.
-fn with_spec<'l>(layer: &'l Layer, path: Path) -> Option<(Path, &'l Spec)>
-    ensures { IsAt (option_map (λ f. (f.0, f.1.now)) result) path (spec_at path layer.now.specs) }
-{
-    match layer.get(&path) {
-        Some(spec) => Some((path, spec)),
-        None => None,
-    }
-}
-
-// The spec of a prim below a path, with its path.
-fn prim_below<'l>(
-    layer: &'l Layer,
-    path: &Path,
-    name: &Text,
-) -> Result<Option<(Path, &'l Spec)>, AllocError>
-    requires stand { StandAtPaths layer.now.specs }
-    requires prim { is_property path.now ≡ false }
-    ensures { IfOk result (λ found. IsFound (option_map (λ f. (f.0, f.1.now)) found) path.now (element.Prim name.now) (spec_below layer.now.specs path.now (element.Prim name.now))) }
-{
-    match path.append(name.as_str()) {
-        Ok(child) => Ok(with_spec(layer, child)),
-        Err(PathFault::Bad { .. }) => Ok(None),
-        Err(PathFault::NoMemory) => Err(AllocError),
-    }
-}
-
-// The spec of a variant of a path, with its path.
-fn variant_below<'l>(
-    layer: &'l Layer,
-    path: &Path,
-    set: &Text,
-    variant: &Text,
-) -> Result<Option<(Path, &'l Spec)>, AllocError>
-    requires stand { StandAtPaths layer.now.specs }
-    requires prim { is_property path.now ≡ false }
-    ensures { IfOk result (λ found. IsFound (option_map (λ f. (f.0, f.1.now)) found) path.now (element.Selection set.now variant.now) (spec_below layer.now.specs path.now (element.Selection set.now variant.now))) }
-{
-    match path.select(set.as_str(), variant.as_str()) {
-        Ok(below) => Ok(with_spec(layer, below)),
-        Err(PathFault::Bad { .. }) => Ok(None),
-        Err(PathFault::NoMemory) => Err(AllocError),
-    }
 }

@@ -38,9 +38,10 @@ use Rattle.value_texts.specs.Cuts.{Said}
 use Rattle.value_texts.specs.ValueWords.{comma, open_bracket, close_bracket, string_said, path_said}
 use Rattle.value_texts.specs.Words.{Told, told_of, as_word}
 use Rattle.value_texts.proofs.StringTokens.{string_means}
+use Rattle.value_texts.specs.Each.{AreAll}
 use Rattle.layer_texts.specs.ListWords.{bracketed_words, string_words, path_words}
 use Rattle.layer_reads.specs.FieldLists.{with_field_list, IsPathHere}
-use Rattle.layer_reads.specs.Lists.{AreAll, IsListRead}
+use Rattle.layer_reads.specs.Lists.{IsListRead, IsString}
 use Rattle.layer_reads.specs.Taking.{AreTaken}
 use Rattle.layer_reads.proofs.Lists.{bracketed_taken}
 use Rattle.layer_reads.proofs.Taking.{taken_one}
@@ -53,7 +54,7 @@ plain_act s w x d told shut =
     ∙ ap (λ b. if b then token_act w d else bodies_act s w d) shut
 
 -- the list of an edit that was put there
-list_back : {T : Type 0} (edit : ListEdit) (xs : List T) (op : ListOp T) → list_at edit (with_list edit xs op) ≡ xs
+pub list_back : {T : Type 0} (edit : ListEdit) (xs : List T) (op : ListOp T) → list_at edit (with_list edit xs op) ≡ xs
 list_back Explicit xs op = refl
 list_back Delete xs op = refl
 list_back Add xs op = refl
@@ -61,7 +62,7 @@ list_back Prepend xs op = refl
 list_back Append xs op = refl
 list_back Reorder xs op = refl
 
-list_again : {T : Type 0} (edit : ListEdit) (xs ys : List T) (op : ListOp T) → with_list edit ys (with_list edit xs op) ≡ with_list edit ys op
+pub list_again : {T : Type 0} (edit : ListEdit) (xs ys : List T) (op : ListOp T) → with_list edit ys (with_list edit xs op) ≡ with_list edit ys op
 list_again Explicit xs ys op = refl
 list_again Delete xs ys op = refl
 list_again Add xs ys op = refl
@@ -149,10 +150,7 @@ module _ {T : Type 0} (from or_end more : Symbol) (field : ListField) (same : T 
 
 -- ---- strings
 
-abbrev IsText : List Element → List ℕ → Type 0
-IsText base t = is_utf8 t ≡ true
-
-text_item : (field : TextField) (x : List ℕ) (w : Word) (d : Draft) → told_of w ≡ as_word (string_said (quoted x)) → IsText d.owner.said.base x → d.list ≡ open_list.Field (Texts field)
+text_item : (field : TextField) (x : List ℕ) (w : Word) (d : Draft) → told_of w ≡ as_word (string_said (quoted x)) → IsString d.owner.said.base x → d.list ≡ open_list.Field (Texts field)
     → in_list_act (as_word (string_said (quoted x))).kind w d ≡ Ok (with_said d (with_texts field (push_item d.edit x (texts_at field d.owner.said)) d.owner.said))
 unfolding in_list_act string_act
 text_item field x w d told good listed =
@@ -161,7 +159,7 @@ text_item field x w d told good listed =
     ∙ ap (λ (t : Told). string_act (open_list.Field (Texts field)) (record w { text = t.text }) d) told
     ∙ ap (λ o. then_with w.start (and_then (if_utf8 o) push) (with_said d)) (string_means x good)
 
-text_is : (field : TextField) → IsField symbol.StringList symbol.StringsOrEnd symbol.MoreStrings (Texts field) same_text (texts_at field) (with_texts field) (λ x. string_said (quoted x)) IsText
+text_is : (field : TextField) → IsField symbol.StringList symbol.StringsOrEnd symbol.MoreStrings (Texts field) same_text (texts_at field) (with_texts field) (λ x. string_said (quoted x)) IsString
 unfolding bodies_act prims_act
 text_is field = record {
   at_put = at_put field;
@@ -196,7 +194,7 @@ text_is field = record {
 pub strings_taken : (field : TextField) (d : Draft) → is_open d.value ≡ false → d.list ≡ open_list.Field (Texts field) → (x : List ℕ) (xs : List (List ℕ)) → AreAll (λ t. is_utf8 t ≡ true) (x ∷ xs)
     → AreTaken (symbol.StringList ∷ []) (with_field_list (texts_at field) (with_texts field) [] d) (bracketed_words string_words (x ∷ xs)) [] (λ e. e ≡ with_field_list (texts_at field) (with_texts field) (firsts same_text (x ∷ xs)) d)
 strings_taken field d shut listed x xs h =
-    field_taken symbol.StringList symbol.StringsOrEnd symbol.MoreStrings (Texts field) same_text (texts_at field) (with_texts field) (λ x. string_said (quoted x)) IsText (text_is field) d shut listed x xs h
+    field_taken symbol.StringList symbol.StringsOrEnd symbol.MoreStrings (Texts field) same_text (texts_at field) (with_texts field) (λ x. string_said (quoted x)) IsString (text_is field) d shut listed x xs h
 
 -- ---- paths
 

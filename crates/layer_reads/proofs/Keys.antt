@@ -7,7 +7,7 @@ use Rattle.usda_fields.specs.declared.keys.KeyRule.{KeyRule}
 use Rattle.usda_fields.specs.declared.owner.OwnerDraft.{OwnerDraft}
 use Rattle.usda_grammar.specs.declared.kinds.Keyword.{Keyword}
 use Rattle.usda_grammar.specs.declared.kinds.Keyword.TheVariants as word
-use Rattle.usda_grammar.specs.declared.kinds.TokenKind.TheVariants as token
+use Rattle.usda_grammar.specs.declared.kinds.WordKind.TheVariants as token
 use Rattle.usda_grammar.specs.declared.symbols.Symbol.{Symbol}
 use Rattle.usda_grammar.specs.declared.symbols.Symbol.TheVariants as symbol
 use Rattle.usda_grammar.specs.Machine.{step}
@@ -36,7 +36,7 @@ keyed : (key : List ℕ) (at : ℕ) (rule : KeyRule) (d : Draft) → owner.key_a
 unfolding key_act
 keyed key at rule d h = ap (λ r. then_with at r (λ rule. aimed_at_key goal.OwnerKey key rule d)) h
 
-equals_act : (w : Word) (d : Draft) → bodies_act symbol.Equals w d ≡ Ok d
+pub equals_act : (w : Word) (d : Draft) → bodies_act symbol.Equals w d ≡ Ok d
 unfolding bodies_act prims_act layers_act
 equals_act w d = refl
 

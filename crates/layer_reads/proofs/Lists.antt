@@ -4,8 +4,9 @@ use Rattle.usda_grammar.specs.declared.symbols.Symbol.{Symbol}
 use Rattle.usda_drafts.specs.declared.draft.Draft.{Draft}
 use Rattle.value_texts.specs.Cuts.{Said}
 use Rattle.value_texts.specs.ValueWords.{comma, open_bracket, close_bracket}
+use Rattle.value_texts.specs.Each.{AreAll}
 use Rattle.layer_texts.specs.ListWords.{more_words, bracketed_words}
-use Rattle.layer_reads.specs.Lists.{AreAll, IsListRead}
+use Rattle.layer_reads.specs.Lists.{IsListRead}
 use Rattle.layer_reads.specs.Taking.{AreTaken}
 use Rattle.layer_reads.proofs.Taking.{together}
 

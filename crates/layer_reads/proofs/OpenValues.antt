@@ -12,9 +12,8 @@ use Rattle.usda_lexer.specs.declared.token.TokenKind.{TokenKind}
 use Rattle.usda_lexer.specs.declared.token.TokenKind.TheVariants as form
 use Rattle.usda_machine.specs.Reading.{run, after_step, after_act}
 use Rattle.usda_values.specs.declared.draft.ValueDraft.{ValueDraft}
-use Rattle.usda_values.specs.declared.level.Place.{Place}
 use Rattle.usda_values.specs.declared.level.Place.TheVariants as place
-use Rattle.usda_values.specs.Drafts.{Acted, value_act, act_at, is_complete, is_complete_at, value_of, draft_of, give_act}
+use Rattle.usda_values.specs.Drafts.{Acted, value_act, is_complete, value_of, draft_of, give_act}
 use Rattle.usda_words.specs.Words.{Word}
 use Rattle.usda_statements.specs.OpenValues.{no_value, is_open, given, given_in, given_path, with_draft}
 use Rattle.usda_drafts.specs.Acts.{act, bodies_act}
@@ -29,6 +28,8 @@ use Rattle.value_texts.specs.ValueWords.{words_of_value}
 use Rattle.value_texts.specs.Words.{Told, told_of, as_word}
 use Rattle.value_texts.specs.Writable.{is_writable}
 use Rattle.value_texts.proofs.ValuesGiven.{value_given}
+use Rattle.value_texts.proofs.ValueReads.{after_complete}
+use Rattle.value_texts.proofs.Given.{Then}
 use Rattle.layer_reads.specs.Fixed.{IsFixedAs, IsFixed, AreFixed}
 use Rattle.layer_reads.specs.Membered.{is_membered, kinds_of}
 use Rattle.layer_reads.specs.Taking.{word_kind, AreTaken}
@@ -58,18 +59,6 @@ open_act s w x d next told going plain fixed acted =
     ∙ ap (λ (t : Told). after_token (given d.owner.said.base t.token t.text d.value) w.start d) told
     ∙ ap (λ b. after_token (with_draft d.value (given_in d.owner.said.base b x.kind x.text d.value.draft)) w.start d) plain
     ∙ ap (λ r. after_token (with_draft d.value r) w.start d) (plainly d.owner.said.base x.kind x.text d.value.draft fixed ∙ acted)
-
-abbrev Then : List Said → Acted → Acted
-Then ws r = elim r as (λ _. Acted) [ Ok next ↦ acts ws next | Err k ↦ Err k ]
-
--- nothing comes behind a complete value
-after_complete : (w : Said) (ws : List Said) (d e : ValueDraft) → is_complete d ≡ true → acts (w ∷ ws) d ≡ Ok e → ⊥
-unfolding value_act
-after_complete w ws d e h k = at_place d.place h k
-  where
-    at_place : (p : Place) → is_complete_at p ≡ true → Then ws (act_at p w.kind w.text d) ≡ Ok e → ⊥
-    at_place place.Complete c g = cc
-    at_place _ c g = absurd cc
 
 not_both : (b : Bool) → b ≡ true → not b ≡ true → ⊥
 not_both true h k = cc

@@ -7,13 +7,13 @@ use Rattle.usda_fields.specs.declared.field.ListField.TheVariants.{Paths, Refere
 use Rattle.usda_fields.specs.declared.owner.OwnerDraft.{OwnerDraft}
 use Rattle.usda_grammar.specs.declared.kinds.Keyword.{Keyword}
 use Rattle.usda_grammar.specs.declared.kinds.Keyword.TheVariants as word
-use Rattle.usda_grammar.specs.declared.kinds.TokenKind.TheVariants as token
+use Rattle.usda_grammar.specs.declared.kinds.WordKind.TheVariants as token
 use Rattle.usda_grammar.specs.declared.symbols.Symbol.{Symbol}
 use Rattle.usda_grammar.specs.declared.symbols.Symbol.TheVariants as symbol
 use Rattle.usda_grammar.specs.Machine.{step}
 use Rattle.usda_lists.specs.declared.edit.ListEdit.TheVariants.{Explicit}
 use Rattle.usda_words.specs.Words.{Word}
-use Rattle.usda_drafts.specs.Acts.{bodies_act, prims_act, layers_act}
+use Rattle.usda_drafts.specs.Acts.{bodies_act, prims_act}
 use Rattle.usda_drafts.specs.Metadata.{prim_item_act, string_field_act, path_field_act, reference_field_act, field_act, in_field}
 use Rattle.usda_drafts.specs.Refusals.{then_with}
 use Rattle.usda_drafts.specs.declared.draft.Draft.{Draft}
@@ -23,10 +23,7 @@ use Rattle.layer_reads.specs.Openings.{IsFieldOpened}
 use Rattle.layer_reads.specs.Taking.{AreTaken}
 use Rattle.layer_reads.proofs.FieldLists.{plain_act}
 use Rattle.layer_reads.proofs.Taking.{taken_one, together}
-
-equals_act : (w : Word) (d : Draft) → bodies_act symbol.Equals w d ≡ Ok d
-unfolding bodies_act prims_act layers_act
-equals_act w d = refl
+use Rattle.layer_reads.proofs.Keys.{equals_act}
 
 abbrev Behind : Symbol → List Symbol
 Behind lists = symbol.Equals ∷ lists ∷ symbol.MaybeSemicolon ∷ symbol.PrimMetadata ∷ []

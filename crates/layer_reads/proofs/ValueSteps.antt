@@ -2,6 +2,7 @@
 use Rattle.std.proofs.Common.{◌≡◌, ◌∙◌, ℕ, Bool, true, false, List, [], ◌∷◌, ◌++◌, append_assoc, map, Some, ap, sym, refl}
 use Rattle.std.specs.Prelude.{if◌then◌else◌}
 use Rattle.std.proofs.lemmas.List.{map-append}
+use Rattle.std.proofs.lemmas.Bool.{and_parts}
 use Rattle.usd_names.specs.Names.{is_name}
 use Rattle.sdf_values.specs.Proper.{all_true}
 use Rattle.sdf_values.specs.Print.{quoted}
@@ -11,22 +12,21 @@ use Rattle.sdf_values.specs.declared.value.DictType.TheVariants as dict_type
 use Rattle.sdf_values.specs.declared.value.DictItem.{DictItem}
 use Rattle.sdf_values.specs.declared.value.Value.{Value}
 use Rattle.sdf_values.specs.declared.value.Value.TheVariants as value
+use Rattle.sdf_values.proofs.Values.{Each, by_cases}
 use Rattle.usda_grammar.specs.declared.kinds.Keyword.{Keyword}
-use Rattle.usda_grammar.specs.declared.kinds.TokenKind.{TokenKind}
-use Rattle.usda_grammar.specs.declared.kinds.TokenKind.TheVariants as token
+use Rattle.usda_grammar.specs.declared.kinds.WordKind.{WordKind}
+use Rattle.usda_grammar.specs.declared.kinds.WordKind.TheVariants as token
 use Rattle.usda_grammar.specs.declared.symbols.Symbol.{Symbol}
 use Rattle.usda_grammar.specs.declared.symbols.Symbol.TheVariants as symbol
 use Rattle.usda_grammar.specs.Machine.{steps}
 use Rattle.value_texts.specs.Cuts.{Said}
 use Rattle.value_texts.specs.ValueWords.{words_of_value, words_of_item, said_step, said_item, more_said, listed_said, entries_said, dict_type_said, key_said, name_said, string_said, close_paren, open_bracket, close_bracket, close_brace, equals}
-use Rattle.value_texts.proofs.NumberParts.{both}
-use Rattle.value_texts.proofs.Values as fold
-use Rattle.value_texts.proofs.Values.{Each, by_cases}
+use Rattle.sdf_values.proofs.Values as fold
 use Rattle.layer_reads.specs.Membered.{is_membered, is_membered_item, membered_step, membered_item, kinds_of}
 use Rattle.layer_reads.proofs.Steps.{steps_then}
 use Rattle.layer_reads.proofs.TypeWords.{type_word}
 
-abbrev Behind : List Symbol → List TokenKind → List Symbol → Type 0
+abbrev Behind : List Symbol → List WordKind → List Symbol → Type 0
 Behind from ks to = steps from ks ≡ Some to
 
 -- words behind words
@@ -46,7 +46,7 @@ IsSteppedItem i = is_membered_item i ≡ true → (b : Bool) (below : List Symbo
 
 -- a member of a tuple or an array begins as a value does
 abbrev BeginsMember : Symbol → Symbol → Type 0
-BeginsMember or_end more = (ks : List TokenKind) (below : List Symbol) → Behind (symbol.Value ∷ more ∷ below) ks (more ∷ below) → Behind (or_end ∷ below) ks (more ∷ below)
+BeginsMember or_end more = (ks : List WordKind) (below : List Symbol) → Behind (symbol.Value ∷ more ∷ below) ks (more ∷ below) → Behind (or_end ∷ below) ks (more ∷ below)
 
 begins_tuple : BeginsMember symbol.MembersOrEnd symbol.MoreMembers
 begins_tuple [] below h = absurd cc
@@ -74,11 +74,11 @@ begins_array (_ ∷ ks) below h = absurd cc
 
 -- members behind commas, up to the end
 module _ (or_end more : Symbol) (close : Said) (begins : BeginsMember or_end more) (ends : (below : List Symbol) → Behind (more ∷ below) (kinds_of (close ∷ [])) below)
-    (goes : (ks : List TokenKind) (below to : List Symbol) → Behind (or_end ∷ below) ks to → Behind (more ∷ below) (token.Comma ∷ ks) to) where
+    (goes : (ks : List WordKind) (below to : List Symbol) → Behind (or_end ∷ below) ks to → Behind (more ∷ below) (token.Comma ∷ ks) to) where
   more_stepped : (vs : List Value) → Each IsStepped vs → all_true (map is_membered vs) ≡ true → (below : List Symbol) → Behind (more ∷ below) (kinds_of (more_said (map words_of_value vs) ++ close ∷ [])) below
   more_stepped [] each h below = ends below
   more_stepped (v ∷ vs) each h below =
-      let p = both (is_membered v) (all_true (map is_membered vs)) h in
+      let p = and_parts (is_membered v) (all_true (map is_membered vs)) h in
       let rest : List Said = more_said (map words_of_value vs) in
       goes (kinds_of ((words_of_value v ++ rest) ++ close ∷ [])) below below
       (ap (λ l. steps (or_end ∷ below) (kinds_of l)) (append_assoc (words_of_value v) rest (close ∷ []))
@@ -89,7 +89,7 @@ module _ (or_end more : Symbol) (close : Said) (begins : BeginsMember or_end mor
       → (Behind (symbol.Value ∷ more ∷ below) (kinds_of (words_of_value v)) (more ∷ below) → Behind from (kinds_of (words_of_value v)) (more ∷ below))
       → Behind from (kinds_of (listed_said (map words_of_value (v ∷ vs)) ++ close ∷ [])) below
   first_stepped from v vs each h below first =
-      let p = both (is_membered v) (all_true (map is_membered vs)) h in
+      let p = and_parts (is_membered v) (all_true (map is_membered vs)) h in
       let rest : List Said = more_said (map words_of_value vs) in
       ap (λ l. steps from (kinds_of l)) (append_assoc (words_of_value v) rest (close ∷ []))
       ∙ kinds_then (words_of_value v) (rest ++ close ∷ []) from (more ∷ below) below (first (each.0 p.0 (more ∷ below))) (more_stepped vs each.1 p.1 below)
@@ -154,7 +154,7 @@ entries_stepped : (items : List DictItem) → Each IsSteppedItem items → all_t
 entries_stepped [] each h true below = refl
 entries_stepped [] each h false below = refl
 entries_stepped (i ∷ is) each h b below =
-    let p = both (is_membered_item i) (all_true (map is_membered_item is)) h in
+    let p = and_parts (is_membered_item i) (all_true (map is_membered_item is)) h in
     let rest : List Said = entries_said (map words_of_item is) in
     ap (λ l. steps (front b (symbol.CloseBrace ∷ below)) (kinds_of l)) (append_assoc (words_of_item i) rest (close_brace ∷ []))
     ∙ kinds_then (words_of_item i) (rest ++ close_brace ∷ []) (front b (symbol.CloseBrace ∷ below)) (front true (symbol.CloseBrace ∷ below)) below (each.0 p.0 b (symbol.CloseBrace ∷ below)) (entries_stepped is each.1 p.1 true below)

@@ -15,7 +15,6 @@ use Rattle.usda_drafts.specs.declared.draft.OpenList.TheVariants as open_list
 use Rattle.layer_texts.specs.ListWords.{bracketed_words, string_words, path_words}
 use Rattle.layer_reads.specs.FieldLists.{with_field_list, IsPathHere}
 use Rattle.layer_reads.specs.Keys.{IsLineTaken, is_plain_key, is_plain_head_key}
-use Rattle.layer_reads.specs.Lists.{AreAll}
 use Rattle.layer_reads.specs.Openings.{IsFieldOpened}
 use Rattle.usda_grammar.specs.declared.kinds.Keyword.TheVariants as word
 use Rattle.usda_drafts.specs.Values.{completed, is_selections}
@@ -24,6 +23,7 @@ use Rattle.value_texts.specs.Readable.{is_read_as, depth}
 use Rattle.value_texts.specs.Writable.{is_writable}
 use Rattle.layer_reads.specs.Fixed.{AreFixed}
 use Rattle.value_texts.specs.ValueWords.{words_of_value}
+use Rattle.value_texts.specs.Each.{AreAll}
 use Rattle.layer_reads.specs.Membered.{is_membered, AreSteps}
 use Rattle.layer_reads.specs.Taking.{AreTaken}
 

@@ -4,7 +4,7 @@ use Rattle.sdf_values.specs.Proper.{all_true}
 use Rattle.sdf_values.specs.declared.value.DictItem.{DictItem, fold-DictItem}
 use Rattle.sdf_values.specs.declared.value.Value.{Value, fold-Value}
 use Rattle.sdf_values.specs.declared.value.Value.TheOpen.{Value-F, DictItem-F}
-use Rattle.usda_grammar.specs.declared.kinds.TokenKind.{TokenKind}
+use Rattle.usda_grammar.specs.declared.kinds.WordKind.{WordKind}
 use Rattle.usda_grammar.specs.declared.symbols.Symbol.{Symbol}
 use Rattle.usda_grammar.specs.Machine.{steps}
 use Rattle.value_texts.specs.Cuts.{Said}
@@ -34,7 +34,7 @@ abbrev pub is_membered_item : DictItem → Bool
 is_membered_item = fold-DictItem Bool Bool membered_step membered_item
 
 -- what the words are to the grammar
-abbrev pub kinds_of : List Said → List TokenKind
+abbrev pub kinds_of : List Said → List WordKind
 kinds_of said = map (λ s. (as_word s).kind) said
 
 -- the grammar takes these words from symbols to others, whatever stands below

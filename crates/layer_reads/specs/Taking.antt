@@ -1,7 +1,7 @@
 -- Words of a text that are taken one behind the other, whatever symbols stand below and whatever words follow.
 use Rattle.std.specs.Prelude.{◌≡◌, List, ◌++◌, map, Option}
 use Rattle.usda_grammar.specs.declared.symbols.Symbol.{Symbol}
-use Rattle.usda_grammar.specs.declared.kinds.TokenKind.{TokenKind}
+use Rattle.usda_grammar.specs.declared.kinds.WordKind.{WordKind}
 use Rattle.usda_machine.specs.Reading.{run}
 use Rattle.usda_words.specs.Words.{Word}
 use Rattle.usda_drafts.specs.Acts.{act}
@@ -10,7 +10,7 @@ use Rattle.usda_drafts.specs.declared.fault.Refused.{Refused}
 use Rattle.value_texts.specs.Cuts.{Said}
 use Rattle.value_texts.specs.Words.{told_of, as_word}
 
-abbrev pub word_kind : Word → TokenKind
+abbrev pub word_kind : Word → WordKind
 word_kind w = w.kind
 
 -- these words lead from symbols and a draft to others

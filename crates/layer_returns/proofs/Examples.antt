@@ -11,7 +11,8 @@ use Rattle.list_ops.specs.Blank.{no_edits}
 use Rattle.sdf_paths.specs.Reader.{step, finish}
 use Rattle.sdf_paths.specs.declared.element.Element.{Element}
 use Rattle.usda_lexer.specs.Meanings.{path_text}
-use Rattle.usda_lists.specs.Paths.{path_of, path_from}
+use Rattle.sdf_paths.specs.Reader.{path_of}
+use Rattle.usda_lists.specs.Paths.{path_from}
 use Rattle.usda_grammar.specs.declared.kinds.Keyword.{Keyword}
 use Rattle.usda_drafts.specs.Closed.{is_closed, with_spec_at}
 use Rattle.usda_drafts.specs.Owners.{owner_of, with_child, with_set, with_variant, has_set, spec_of}
@@ -26,7 +27,7 @@ use Rattle.layer_returns.specs.Reached.{IsFromChildren, IsReached}
 use Rattle.layer_returns.specs.Theorem.{IsTree}
 use Rattle.metadata_reads.specs.Kept.{AreKept, IsListKept}
 use Rattle.metadata_reads.specs.Meta.{IsMetaKept}
-use Rattle.metadata_reads.specs.Selections.{AreSelectionsKept}
+use Rattle.metadata_reads.proofs.Selections.{none_selected}
 use Rattle.layer_returns.specs.Examples.{ExamplesComeBack}
 use Rattle.layer_returns.specs.Layers.{IsLayerKept}
 
@@ -47,10 +48,6 @@ pub no_meta : (is_plain : Keyword → Bool) (base : List Element) → IsMetaKept
 unfolding IsStrictlySortedBy
 no_meta is_plain base = record { ordered = tt; each = tt }
 
-pub no_selections : AreSelectionsKept []
-unfolding IsStrictlySortedBy
-no_selections = record { ordered = tt; each = tt }
-
 pub small_kept : IsLayerKept small
 unfolding digits chars is_utf8 unicode_ident is_start is_identifier is_variant is_variant_character is_property_name path_text path_of path_from step finish is_closed with_spec_at owner_of with_child with_set with_variant has_set spec_of prim_place variant_place lib.Utf8.encode
 small_kept = record {
@@ -68,7 +65,7 @@ small_kept = record {
         clip_sets = no_lists _ _;
         inherits = record { alone = refl; items = no_items _ _ };
         variant_sets = no_lists _ _;
-        selections = no_selections;
+        selections = none_selected;
         references = record {
           inexplicit = refl;
           deleted = no_items _ _;
@@ -97,7 +94,7 @@ small_kept = record {
                 clip_sets = no_lists _ _;
                 inherits = no_lists _ _;
                 variant_sets = no_lists _ _;
-                selections = no_selections;
+                selections = none_selected;
                 references = no_lists _ _;
                 payloads = no_lists _ _;
                 specializes = no_lists _ _;

@@ -3,10 +3,9 @@ use Rattle.std.proofs.Common.{◌≡◌, ◌∙◌, ℕ, zero, suc, Bool, true, 
 use Rattle.std.specs.Prelude.{codes}
 use Rattle.std.specs.BTreeMap.{is_at}
 use Rattle.std.specs.Map.{lookup, remove_entry}
-use Rattle.std.specs.Ordering.{is_eq, match_ordering, ordering_reverse}
+use Rattle.std.specs.Ordering.{is_eq, match_ordering}
 use Rattle.std.specs.declared.cmp.Ordering.{Ordering}
 use Rattle.std.specs.declared.cmp.Ordering.TheVariants.{Less, Equal, Greater}
-use Rattle.std.proofs.lemmas.Cmp.{nat_list_cmp_total}
 use Rattle.sdf_paths.specs.Order.{text_cmp}
 use Rattle.sdf_paths.specs.declared.element.Element.{Element}
 use Rattle.sdf_paths.specs.declared.element.Element.TheVariants.{Prim, Selection}
@@ -26,20 +25,13 @@ use Rattle.usda_drafts.specs.Drafts.{head_with, head_from, text_of}
 use Rattle.usda_drafts.specs.Owners.{owner_of, spec_of}
 use Rattle.metadata_reads.specs.Standing.{Standing}
 use Rattle.prim_reads.specs.Properties.{with_more, marks_of}
+use Rattle.prim_reads.proofs.Hands.{equal_itself}
 use Rattle.layer_returns.specs.Heads.{HeadsComeBack}
 use Rattle.layer_returns.specs.Layers.{behind_front, behind_layer}
 use Rattle.layer_returns.specs.Trees.{behind_properties, behind_child, behind_children, behind_variant, behind_variants, in_set, behind_sets, from_properties, from_sets, from_children, behind_statements, inside_prim, inside_variant, behind_body}
 use Rattle.layer_returns.proofs.Owners.{Parts, parts_of, spec_by, children_said}
 
 -- ---- the default prim among the keys
-
-equal_itself : (k : List ℕ) → text_cmp k k ≡ Equal
-equal_itself k = by (text_cmp k k) (nat_list_cmp_total.antisymm k k)
-  where
-    by : (o : Ordering) → o ≡ ordering_reverse o → o ≡ Equal
-    by Less h = absurd cc
-    by Equal h = refl
-    by Greater h = absurd cc
 
 module _ {V : Type 0} where
   -- a key that was not there is found, and without it the entries are as they were

@@ -9,8 +9,8 @@ use Rattle.usda_fields.specs.declared.owner.OwnerDraft.{OwnerDraft}
 use Rattle.usda_grammar.specs.Machine.{is_done}
 use Rattle.usda_grammar.specs.Table as grammar
 use Rattle.usda_grammar.specs.Table.{starts, may_be_absent}
-use Rattle.usda_grammar.specs.declared.kinds.TokenKind.{TokenKind}
-use Rattle.usda_grammar.specs.declared.kinds.TokenKind.TheVariants as token
+use Rattle.usda_grammar.specs.declared.kinds.WordKind.{WordKind}
+use Rattle.usda_grammar.specs.declared.kinds.WordKind.TheVariants as token
 use Rattle.usda_grammar.specs.declared.symbols.Symbol.{Symbol}
 use Rattle.usda_grammar.specs.declared.symbols.Symbol.TheVariants as symbol
 use Rattle.usda_machine.specs.Reading.{run, at_end}
@@ -24,10 +24,10 @@ use Rattle.usda_drafts.specs.declared.fault.Refused.{Refused}
 use Rattle.value_texts.specs.Cuts.{Said}
 use Rattle.value_texts.specs.ValueWords.{open_paren, close_paren}
 use Rattle.value_texts.specs.Words.{told_of, as_word}
+use Rattle.value_texts.specs.Each.{AreAll}
 use Rattle.layer_texts.specs.FieldWords.{block_words, meta_words, sublayers_words}
 use Rattle.layer_texts.specs.LayerWords.{head_words, order_words, children_words, body_words, layer_words}
 use Rattle.layer_texts.proofs.Layers.{all_told, layer_spelled}
-use Rattle.layer_reads.specs.Lists.{AreAll}
 use Rattle.layer_reads.specs.Taking.{word_kind, AreTaken}
 use Rattle.layer_reads.proofs.Taking.{taken_nothing, together, above}
 use Rattle.metadata_reads.specs.Items.{begins_item, IsLeft, Left, AreItems}
@@ -45,7 +45,7 @@ use Rattle.layer_returns.proofs.Trees.{roots_read}
 head_symbol : IsLeft symbol.MaybeHead
 head_symbol = record { absent = refl; begins_none = none }
   where
-    none : (k : TokenKind) → begins_item k ≡ true → starts symbol.MaybeHead k ≡ None
+    none : (k : WordKind) → begins_item k ≡ true → starts symbol.MaybeHead k ≡ None
     none (token.Word w) h = refl
     none token.Quoted h = refl
     none token.CloseBrace h = refl

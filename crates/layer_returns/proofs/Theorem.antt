@@ -7,6 +7,7 @@ use Rattle.std.specs.Map.{keys_of}
 use Rattle.std.specs.Ordering.{is_eq, match_ordering, ordering_reverse}
 use Rattle.std.specs.declared.cmp.Ordering.{Ordering}
 use Rattle.std.specs.declared.cmp.Ordering.TheVariants.{Less, Equal, Greater}
+use Rattle.std.proofs.lemmas.Option.{same_Some}
 use Rattle.sdf_paths.specs.DerivedOrder.{path_cmp_same}
 use Rattle.sdf_paths.specs.Order.{path_cmp}
 use Rattle.sdf_paths.specs.PathOrder.{order_is}
@@ -38,9 +39,6 @@ paths_total = subst (λ (R : List Element → List Element → Ordering). IsTota
 
 one_entry : {K V : Type 0} (a b : K × V) → a.0 ≡ b.0 → a.1 ≡ b.1 → a ≡ b
 one_entry a b p q = λ i. (p i, q i)
-
-some_same : {V : Type 0} (a b : V) → Some a ≡ Some b → a ≡ b
-some_same a b h = cc
 
 -- ---- tables stay in order, and two with the same at each key are one
 
@@ -108,7 +106,7 @@ module _ {K V : Type 0} (cmp : K → K → Ordering) (total : IsTotalOrder cmp) 
       by Greater h more = absurd (let bad : Some f.1 ≡ None = sym (found f fs) ∙ sym (same f.0) ∙ below_none f.0 e es s (total.antisymm f.0 e.0 ∙ ap ordering_reverse h) in cc)
       by Equal h more =
           let value : Some e.1 ≡ Some f.1 = sym (found e es) ∙ same e.0 ∙ ap (λ o. cond (is_eq o) (Some f.1) (at_key cmp e.0 fs)) h in
-          let one : e ≡ f = one_entry e f (tie e.0 f.0 h) (some_same e.1 f.1 value) in
+          let one : e ≡ f = one_entry e f (tie e.0 f.0 h) (same_Some e.1 f.1 value) in
           let also : IsTable cmp (e ∷ fs) = subst (λ g. IsTable cmp (g ∷ fs)) (sym one) t in
           ap (λ g. g ∷ es) one
           ∙ ap (λ l. f ∷ l) (more (others cmp e es s) (others cmp f fs t) (tails e.0 e.1 es fs s also (λ q. same q ∙ ap (λ g. at_key cmp q (g ∷ fs)) (sym one))))

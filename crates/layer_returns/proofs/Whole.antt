@@ -19,10 +19,10 @@ use Rattle.usda_writer.specs.Canonical.{spec_below}
 use Rattle.usda_drafts.specs.Closed.{with_spec_at}
 use Rattle.usda_drafts.specs.Owners.{spec_of, with_child, with_variant}
 use Rattle.usda_drafts.specs.declared.owner.Owner.{Owner}
-use Rattle.layer_reads.specs.Lists.{AreAll}
 use Rattle.metadata_reads.specs.Standing.{Standing}
 use Rattle.prim_reads.specs.Bodies.{inside}
 use Rattle.prim_reads.specs.Properties.{with_more, marks_of}
+use Rattle.value_texts.specs.Each.{AreAll}
 use Rattle.layer_returns.specs.Layers.{behind_front}
 use Rattle.layer_returns.specs.Owners.{HasVariants, HasAllBelow}
 use Rattle.layer_returns.specs.Trees.{behind_properties, behind_child, behind_children, behind_variant, behind_variants, in_set, behind_sets, from_properties, from_sets, from_children, behind_body}

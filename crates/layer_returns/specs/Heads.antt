@@ -5,7 +5,7 @@ use Rattle.sdf_paths.specs.declared.element.Element.TheVariants.{Prim}
 use Rattle.sdf_specs.specs.Layers.{LayerTable}
 use Rattle.spec_tables.specs.Tables.{at_key}
 use Rattle.usda_writer.specs.Canonical.{spec_below}
-use Rattle.layer_reads.specs.Lists.{AreAll}
+use Rattle.value_texts.specs.Each.{AreAll}
 use Rattle.layer_returns.specs.Layers.{layer_at, behind_layer}
 
 -- The head comes back: its sublayers, its default prim, which is not among its keys, its keys, and its root prims, which have specs, with

@@ -16,10 +16,10 @@ use Rattle.usda_drafts.specs.Owners.{owner_of}
 use Rattle.usda_drafts.specs.declared.draft.Draft.{Draft}
 use Rattle.usda_drafts.specs.declared.fault.Refused.{Refused}
 use Rattle.value_texts.specs.Words.{told_of, as_word}
+use Rattle.value_texts.specs.Each.{AreAll}
 use Rattle.layer_texts.specs.LayerWords.{layer_words}
 use Rattle.layer_texts.specs.Writable.{is_writable_layer}
 use Rattle.layer_reads.specs.Keys.{is_plain_head_key}
-use Rattle.layer_reads.specs.Lists.{AreAll}
 use Rattle.layer_reads.specs.Taking.{word_kind}
 use Rattle.metadata_reads.specs.Kept.{has_items}
 use Rattle.metadata_reads.specs.Meta.{IsMetaKept}

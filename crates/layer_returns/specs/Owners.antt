@@ -9,9 +9,9 @@ use Rattle.spec_parts.specs.declared.spec.Spec.{Spec}
 use Rattle.usda_writer.specs.Canonical.{spec_below}
 use Rattle.usda_drafts.specs.Owners.{spec_of}
 use Rattle.usda_drafts.specs.declared.owner.Owner.{Owner}
-use Rattle.layer_reads.specs.Lists.{AreAll}
 use Rattle.metadata_reads.specs.Standing.{Standing}
 use Rattle.prim_reads.specs.Bodies.{inside}
+use Rattle.value_texts.specs.Each.{AreAll}
 use Rattle.layer_returns.specs.Trees.{behind_body}
 
 -- each variant of the set has a spec below this path

@@ -7,7 +7,7 @@ use Rattle.spec_parts.specs.declared.items.Specifier.TheVariants.{Over}
 use Rattle.spec_parts.specs.declared.items.VariantSet.{VariantSet}
 use Rattle.spec_parts.specs.declared.spec.Spec.{Spec}
 use Rattle.usda_writer.specs.Canonical.{spec_below}
-use Rattle.layer_reads.specs.Lists.{AreAll}
+use Rattle.value_texts.specs.Each.{AreAll}
 use Rattle.layer_returns.specs.Layers.{layer_at, behind_layer}
 
 -- `Whole` tells of a prim or a variant further down whether all that it names has specs

@@ -10,7 +10,7 @@ ghost use Rattle.layer_returns.specs.Trees.{AreTreesRead};
 ghost use Rattle.layer_returns.specs.Whole.{SpecsAreTheLayers};
 
 /// The words of the body of a prim or a variant, and those of root prims, make all that stands in them.
-pub fn trees_are_read()
+pub fn trees_are_taken()
     ensures { AreTreesRead }
 {}
 

@@ -10,5 +10,5 @@ mod laws;
 pub use laws::{
     examples_come_back, heads_come_back, layers_are_taken, layers_come_back,
     owners_say_their_specs, reached_specs_are_read, specs_are_the_layers, texts_are_taken,
-    texts_say_their_layers, trees_are_read,
+    texts_say_their_layers, trees_are_taken,
 };

@@ -1,6 +1,7 @@
 //! Worlds: layers by name and load rules by path, and the keys by which composition looks at them.
 #![tactic(auto)]
 
+mod assets;
 mod held;
 mod key;
 mod named;
@@ -9,6 +10,7 @@ mod same;
 mod shared;
 mod world;
 
+pub use assets::anchored;
 pub use held::Held;
 pub use key::Key;
 pub use world::World;

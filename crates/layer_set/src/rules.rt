@@ -11,7 +11,7 @@ use std::marker::Model;
 ///
 /// The keys are lists of elements, so that the rule at a path's front is found without a path of its own.
 /// Contracts see the list of paths and rules in the order of paths.
-#[derive(Debug, Drop)]
+#[derive(Drop)]
 pub struct Rules {
     rules: BTreeMap<Vec<Element>, bool>,
     alloc: Global,

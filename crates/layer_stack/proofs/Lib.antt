@@ -1,4 +1,3 @@
-pub mod Anchored
 pub mod Listing
 pub mod Looking
 pub mod Marking

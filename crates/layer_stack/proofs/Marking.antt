@@ -7,7 +7,9 @@ use Rattle.sdf_values.specs.Scales.{Offset}
 use Rattle.composition.specs.Texts.{Text, same_text}
 use Rattle.layer_set.specs.Named.{at_name, with_name}
 use Rattle.layer_stack.specs.Visiting.{Marks, is_on, is_above, mark, is_among, Marked}
-use Rattle.layer_stack.proofs.Names.{not_both, same_text_same, at_with}
+use Rattle.layer_stack.proofs.Names.{at_with}
+use Rattle.sdf_specs.proofs.PathLemmas.{not_both}
+use Rattle.composition.proofs.Same.{same_text_same}
 
 on_mark : (a b : Bool) → is_on (mark a b) ≡ a
 on_mark true b = refl

@@ -1,20 +1,11 @@
 -- What a name of a stack means.
-use Rattle.std.proofs.Common.{◌≡◌, ◌∙◌, sym, ap, refl, ℕ, Bool, true, false, IsTrue, ◌↔◌, Option, Some, None}
+use Rattle.std.proofs.Common.{◌≡◌, ◌∙◌, sym, ap, refl, ℕ, Bool, true, false, Option, Some, None}
 use Rattle.composition.specs.Texts.{Text, same_text}
 use Rattle.composition.specs.World.{World, StackName, Root, Asset, stack_of}
 use Rattle.composition.specs.Paths.{Limits, limits}
 use Rattle.composition.specs.Stacks.{LayerStack, nothing_listed, from_layer, stack}
 use Rattle.layer_stack.specs.Meant.{limits_of, means_root, meant, defined_stack, with_stack, stack_within}
-use Rattle.layer_stack.proofs.Names.{not_both, same_text_same, same_itself}
-
--- a test that tells whether two names are one
-pub same_told : (a b : Text) (r : Bool) → IsTrue r ↔ (a ≡ b) → r ≡ same_text a b
-same_told a b true told = sym (ap (λ (x : Text). same_text a x) (sym (told.0 refl)) ∙ same_itself a)
-same_told a b false told = by_test (same_text a b) refl
-  where
-    by_test : (t : Bool) → same_text a b ≡ t → false ≡ t
-    by_test true is = not_both (told.1 (same_text_same a b is)) refl
-    by_test false is = refl
+use Rattle.composition.proofs.Same.{same_text_same}
 
 module _ (w : World) (name : Text) where
   by_root : Bool → StackName

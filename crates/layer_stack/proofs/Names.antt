@@ -1,36 +1,17 @@
 -- Names that are one, and what stands at a name of a table after another was put in.
-use Rattle.std.proofs.Common.{◌≡◌, ◌∙◌, sym, ap, refl, Bool, true, false, cond, ◌&&◌, List, [], ◌∷◌, Option, Some, None}
+use Rattle.std.proofs.Common.{◌≡◌, ◌∙◌, sym, ap, refl, Bool, true, false, cond, List, [], ◌∷◌, Option, Some, None}
 use Rattle.std.specs.BTreeMap.{insert_entry}
-use Rattle.std.specs.Cmp.Lexicographic.{bytes_decides}
 use Rattle.std.specs.Ordering.{is_eq, match_ordering}
-use Rattle.std.specs.Prelude.{◌==◌}
-use Rattle.std.specs.Str.{bytes_eq}
 use Rattle.std.specs.declared.cmp.Ordering.{Ordering}
 use Rattle.std.specs.declared.cmp.Ordering.TheVariants.{Less, Equal, Greater}
 use Rattle.std.proofs.lemmas.Map.Text.{is_eq-slice_cmp}
-use Rattle.plain_data.specs.Exact.{text_same}
 use Rattle.composition.specs.Texts.{Text, same_text}
 use Rattle.layer_set.specs.Named.{name_cmp, at_name, with_name}
-
-pub not_both : {b : Bool} {A : Type 0} → b ≡ true → b ≡ false → A
-not_both {b} {A} is isnt = absurd cc
-
--- the test of names is that of their bytes
-pub same_is_bytes : (a b : Text) → same_text a b ≡ bytes_eq a b
-same_is_bytes [] [] = refl
-same_is_bytes [] (y ∷ ys) = refl
-same_is_bytes (x ∷ xs) [] = refl
-same_is_bytes (x ∷ xs) (y ∷ ys) =
-    elim (x == y) as (λ b. (elim b as (λ _. Bool) [ true ↦ same_text xs ys | false ↦ false ]) ≡ (b && bytes_eq xs ys)) [ true ↦ same_is_bytes xs ys | false ↦ refl ]
+use Rattle.composition.proofs.Same.{same_is_bytes, same_text_same, same_itself}
+use Rattle.sdf_specs.proofs.PathLemmas.{not_both}
 
 pub same_is_order : (a b : Text) → is_eq (name_cmp a b) ≡ same_text a b
 same_is_order a b = is_eq-slice_cmp a b ∙ sym (same_is_bytes a b)
-
-pub same_text_same : (a b : Text) → same_text a b ≡ true → a ≡ b
-same_text_same a b h = text_same a b (sym (same_is_bytes a b) ∙ h)
-
-pub same_itself : (a : Text) → same_text a a ≡ true
-same_itself a = same_is_bytes a a ∙ (bytes_decides a a).1 refl
 
 tie : (o : Ordering) → o ≡ Equal → is_eq o ≡ true
 tie o h = ap is_eq h

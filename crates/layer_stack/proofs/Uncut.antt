@@ -19,7 +19,9 @@ use Rattle.layer_set.specs.declared.held.Held.{Held}
 use Rattle.layer_stack.specs.Listing.{kept_out}
 use Rattle.layer_stack.specs.Meant.{limits_of, defined_stack, stack_within}
 use Rattle.layer_stack.specs.Visiting.{is_present}
-use Rattle.layer_stack.proofs.Names.{same_text_same, same_itself, same_is_order}
+use Rattle.layer_stack.proofs.Names.{same_is_order}
+use Rattle.composition.proofs.Same.{same_text_same, same_itself}
+use Rattle.composition.proofs.Tests.{by_test}
 
 -- one more, unless it is there
 abbrev count_one : Bool → ℕ → ℕ
@@ -45,10 +47,6 @@ one_less false false x y lt = omega (arith, lt)
 no_more : (ns chain : List Text) (name : Text) → outside ns (name ∷ chain) ≤ outside ns chain
 no_more [] chain name = omega arith
 no_more (n ∷ ns) chain name = one_at_most (same_text n name) (list_any (same_text n) chain) (outside ns (name ∷ chain)) (outside ns chain) (no_more ns chain name)
-
-by_test : {A : Type 0} → (b : Bool) → (b ≡ true → A) → (b ≡ false → A) → A
-by_test true on off = on refl
-by_test false on off = off refl
 
 fewer : (ns chain : List Text) (name : Text) → list_any (same_text name) ns ≡ true → list_any (same_text name) chain ≡ false → outside ns (name ∷ chain) < outside ns chain
 fewer [] chain name among apart = absurd cc

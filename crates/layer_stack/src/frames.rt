@@ -9,8 +9,11 @@ use std::marker::Model;
 /// A layer on the chain, with its sublayers that were not visited yet.
 #[derive(Drop)]
 pub struct Frame<'w> {
+    /// The layer.
     pub layer: AssetId,
+    /// How its times become those of the stack.
     pub offset: LayerOffset,
+    /// Its sublayers that were not visited yet, in their order.
     pub rest: &'w [SubLayer],
 }
 

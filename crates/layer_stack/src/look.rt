@@ -1,26 +1,12 @@
 // One sublayer: its name, and why it is not followed.
 ghost use Rattle.std.specs.Prelude.{◌≡◌, Some, None, IfOk, IfErr};
 ghost use Rattle.sdf_values.specs.Scales.{composed};
-ghost use Rattle.composition.specs.Assets.{anchor};
 ghost use Rattle.layer_set.specs.LookUps.{heading_of};
 ghost use Rattle.layer_stack.specs.Listing.{kept_out};
 
-use asset_names::{AssetFault, AssetId};
 use layer_set::Held;
 use prim_view::SublayerReason;
 use sdf_values::LayerOffset;
-use std::alloc::{AllocError, Global};
-
-/// The name that an asset has in a layer; none where it cannot be anchored.
-pub fn anchored(alloc: Global, layer: &AssetId, asset: &str) -> Result<Option<AssetId>, AllocError>
-    ensures { IfOk result (λ name. name ≡ anchor layer.now asset.now) }
-{
-    match AssetId::anchor(alloc, layer, asset) {
-        Ok(name) => Ok(Some(name)),
-        Err(AssetFault::BadAsset { at: _ }) => Ok(None),
-        Err(AssetFault::NoMemory) => Err(AllocError),
-    }
-}
 
 /// The offset of a sublayer towards the stack, or why the sublayer is not followed: it stands above itself, is missing or broken, or
 /// its offset is out of range.

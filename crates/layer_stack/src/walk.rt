@@ -1,6 +1,5 @@
 // The walk over the sublayers of a stack, with the layers that are open on a stack of its own.
 ghost use Rattle.std.specs.Prelude.{◌≡◌, [], ◌∷◌, MatchOption, IfOk, OnOk};
-ghost use Rattle.composition.specs.World.{identity};
 ghost use Rattle.composition.specs.Stacks.{nothing_listed, sublayers_of};
 ghost use Rattle.layer_set.specs.LookUps.{look_ups, heading_of};
 ghost use Rattle.layer_stack.specs.Listing.{looked, next_of};
@@ -9,9 +8,9 @@ ghost use Rattle.layer_stack.specs.Visiting.{is_above, is_present, chain_of, Mar
 
 use crate::draft::StackDraft;
 use crate::frames::{Frame, Frames};
-use crate::look::{anchored, followed};
+use crate::look::followed;
 use asset_names::AssetId;
-use layer_set::{Held, World};
+use layer_set::{Held, World, anchored};
 use plain_data::{Text, copy};
 use prim_view::SublayerReason;
 use sdf_specs::SubLayer;
@@ -87,16 +86,6 @@ fn first_and_more<T>(items: &[T]) -> Option<(&T, &[T])>
     ensures { MatchOption result (items.now ≡ []) (λ p. items.now ≡ p.0.now ∷ p.1.now) }
 {
     items.split_first()
-}
-
-/// The offset that changes no time.
-fn identity() -> LayerOffset
-    ensures { result ≡ identity }
-{
-    LayerOffset {
-        offset: 0,
-        scale: 1,
-    }
 }
 
 /// A walk over the sublayers of a stack: the stack so far, its names, and the layers on the chain.
@@ -201,7 +190,7 @@ impl<'w> Walk<'w> {
         if !is_present(world.held(name)) {
             return Ok(());
         }
-        self.open(world, most, copy(name)?, identity())?;
+        self.open(world, most, copy(name)?, LayerOffset::identity())?;
         while let Some(frame) = self.frames.pop() {
             self.visit(world, most, frame)?;
         }

@@ -3,6 +3,7 @@ use Rattle.std.proofs.Common.{◌≡◌, ℕ, Bool, true, false, List, [], ◌�
 use Rattle.std.specs.Prelude.{codes, if◌then◌else◌}
 use Rattle.std.specs.List.{list_all}
 use Rattle.std.specs.Str.{is_utf8}
+use Rattle.std.proofs.lemmas.Bool.{and_parts}
 use Rattle.list_ops.specs.declared.op.ListOp.{ListOp}
 use Rattle.sdf_values.specs.Print.{print, quoted}
 use Rattle.sdf_values.specs.declared.value.Value.{Value}
@@ -17,7 +18,6 @@ use Rattle.usda_writer.specs.Fields.{line, edit_line, explicit_line, edit_lines,
 use Rattle.value_texts.specs.Cuts.{Said}
 use Rattle.value_texts.specs.Follows.{anything, may_follow}
 use Rattle.value_texts.specs.ValueWords.{name_said, equals, words_of_value}
-use Rattle.value_texts.proofs.NumberParts.{both}
 use Rattle.layer_texts.specs.Spelled.{IsSpelled, AreLines}
 use Rattle.layer_texts.specs.ListWords.{word, string_words, path_words, bracketed_words, explicit_words, reference_words, sublayer_words}
 use Rattle.layer_texts.specs.FieldWords.{edit_words, explicit_line_words, edits_words, list_words, comment_words, key_words, meta_words, selection_words, spec_words, sublayers_words}
@@ -50,7 +50,7 @@ module _ {T : Type 0} (name : List ℕ) (named : List Said) (name_spelled : IsSp
 
   pub edit_lines_spelled : (level : ℕ) (op : ListOp T) → are_writable_edits w op ≡ true → AreLines (edit_lines level name f op) (edits_words named g op)
   edit_lines_spelled level op h =
-      let deleted = both _ _ h in let added = both _ _ deleted.1 in let prepended = both _ _ added.1 in let appended = both _ _ prepended.1 in
+      let deleted = and_parts _ _ h in let added = and_parts _ _ deleted.1 in let prepended = and_parts _ _ added.1 in let appended = and_parts _ _ prepended.1 in
       more_lines (more_lines (more_lines (more_lines
       (edit_line_spelled level (codes "delete ") (word (codes "delete")) (edit_spelled (codes "delete") delete_word) op.deleted deleted.0)
       (edit_line_spelled level (codes "add ") (word (codes "add")) (edit_spelled (codes "add") add_word) op.added added.0))
@@ -59,14 +59,14 @@ module _ {T : Type 0} (name : List ℕ) (named : List Said) (name_spelled : IsSp
       (edit_line_spelled level (codes "reorder ") (word (codes "reorder")) (edit_spelled (codes "reorder") reorder_word) op.ordered appended.1)
 
   pub list_lines_spelled : (level : ℕ) (op : ListOp T) → is_writable_list w op ≡ true → AreLines (list_lines level name f op) (list_words named g op)
-  list_lines_spelled level op h = let p = both _ _ h in more_lines (explicit_line_spelled level op.explicit p.0) (edit_lines_spelled level op p.1)
+  list_lines_spelled level op h = let p = and_parts _ _ h in more_lines (explicit_line_spelled level op.explicit p.0) (edit_lines_spelled level op p.1)
 
 -- a key's lines, whether it is the comment or not
 comment_said : (level : ℕ) (entry : List ℕ × Value) → is_writable_entry entry ≡ true → AreLines (comment_line level entry) (comment_words entry)
 comment_said level entry h = test (is_comment entry.0)
   where
     test : (b : Bool) → AreLines (if b then line level (print entry.1 level) else []) (if b then words_of_value entry.1 else [])
-    test true = one_line level (print entry.1 level) (value_has_words entry.1) (value_spelled entry.1 (both _ _ h).1 level)
+    test true = one_line level (print entry.1 level) (value_has_words entry.1) (value_spelled entry.1 (and_parts _ _ h).1 level)
     test false = no_lines
 
 key_said : (level : ℕ) (entry : List ℕ × Value) → is_writable_entry entry ≡ true → AreLines (key_line level entry) (key_words entry)
@@ -75,7 +75,7 @@ key_said level entry h = test (is_comment entry.0)
     test : (b : Bool) → AreLines (if b then [] else line level (entry.0 ++ codes " = " ++ print entry.1 level)) (if b then [] else (name_said entry.0 ∷ equals ∷ words_of_value entry.1))
     test true = no_lines
     test false =
-        let p = both _ _ h in
+        let p = and_parts _ _ h in
         one_line level (entry.0 ++ codes " = " ++ print entry.1 level) refl (then_more (joined (word_spelled entry.0 p.0) equals_space (λ rest k. refl)) (value_spelled entry.1 p.1 level))
 
 pub meta_spelled : (level : ℕ) (meta : MetaEntries) → is_writable_meta meta ≡ true → AreLines (meta_lines level meta) (meta_words meta)
@@ -103,9 +103,9 @@ references_spelled level name n op h = list_lines_spelled name (word name) (word
 pub spec_spelled : (level : ℕ) (spec : Spec) → is_writable_spec spec ≡ true → AreLines (spec_lines level spec) (spec_words spec)
 unfolding spec_lines spec_words is_writable_spec
 spec_spelled level spec h =
-    let parts = both _ _ h in
-    let inherits = both _ _ parts.0 in let specializes = both _ _ inherits.1 in let references = both _ _ specializes.1 in let payloads = both _ _ references.1 in let sets = both _ _ payloads.1 in
-    let typed = both _ _ parts.1 in let meta = both _ _ typed.1 in let schemas = both _ _ meta.1 in let clips = both _ _ schemas.1 in
+    let parts = and_parts _ _ h in
+    let inherits = and_parts _ _ parts.0 in let specializes = and_parts _ _ inherits.1 in let references = and_parts _ _ specializes.1 in let payloads = and_parts _ _ references.1 in let sets = and_parts _ _ payloads.1 in
+    let typed = and_parts _ _ parts.1 in let meta = and_parts _ _ typed.1 in let schemas = and_parts _ _ meta.1 in let clips = and_parts _ _ schemas.1 in
     more_lines (more_lines (more_lines (more_lines (more_lines (more_lines (more_lines (more_lines
     (meta_spelled level spec.body.meta meta.0)
     (strings_spelled level (codes "apiSchemas") apiSchemas_word spec.body.api_schemas schemas.0))

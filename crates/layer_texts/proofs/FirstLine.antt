@@ -1,5 +1,5 @@
 -- The first line of a layer's text has no words.
-use Rattle.std.proofs.Common.{◌≡◌, ◌∙◌, ℕ, zero, suc, ◌+◌, ◌-◌, ◌<◌, List, [], ◌∷◌, ◌++◌, drop, Option, Some, None, Result, Ok, Err, ap, sym, refl, arith}
+use Rattle.std.proofs.Common.{◌≡◌, ◌∙◌, ℕ, zero, suc, ◌+◌, ◌-◌, List, [], ◌∷◌, ◌++◌, drop, Option, Some, None, Result, Ok, Err, ap, sym, refl, arith}
 use Rattle.std.specs.Prelude.{codes}
 use Rattle.usda_lexer.specs.declared.token.LexFault.{LexFault}
 use Rattle.usda_lexer.specs.declared.token.LexFault.TheVariants.{Unclosed}
@@ -10,7 +10,7 @@ use Rattle.usda_lexer.proofs.Steps.{one_word, no_word, a_fault}
 use Rattle.usda_writer.specs.Canonical.{first_line}
 use Rattle.value_texts.specs.Cuts.{IsCut}
 use Rattle.value_texts.specs.Follows.{anything}
-use Rattle.value_texts.proofs.Blanks.{next_ends}
+use Rattle.value_texts.proofs.Blanks.{next_ends, Ends}
 use Rattle.value_texts.proofs.Shifts.{up, gap_up}
 use Rattle.layer_texts.specs.Spelled.{IsSpelled}
 use Rattle.layer_texts.proofs.Spelled.{of_cut}
@@ -33,7 +33,7 @@ gap_further zero rest = no_further (gap Blank 0 0 rest)
 gap_further (suc k) rest =
     ap (λ j. gap Blank 0 j rest) (let e : suc k ≡ k + 1 = omega arith in e) ∙ gap_up Blank 0 0 k rest tt ∙ ap up (gap_further k rest) ∙ one_further k (gap Blank 0 0 rest)
 
-abbrev text : List ℕ → List ℕ
+abbrev pub text : List ℕ → List ℕ
 text rest = codes "#usda 1.0\n" ++ rest
 
 dropped : (n : ℕ) (rest : List ℕ) → drop (n + 10) (text rest) ≡ drop n rest
@@ -47,11 +47,6 @@ behind_line at rest (Err n) = ap (λ k. Err (Unclosed k)) (let e : at + (n + 10)
 next_behind : (at : ℕ) (rest : List ℕ) → next_word at (text rest) ≡ next_word (at + 10) rest
 unfolding next_word
 next_behind at rest = ap (word_behind at (text rest)) (gap_further 10 rest) ∙ behind_line at rest (gap Blank 0 0 rest)
-
-abbrev Ends : ℕ → Result (Option Word) LexFault → Type 0
-Ends at (Ok (Some w)) = at < w.end
-Ends at (Ok None) = Unit {0}
-Ends at (Err f) = Unit {0}
 
 lexed_behind : (at : ℕ) (rest : List ℕ) (r : Result (Option Word) LexFault) → next_word (at + 10) rest ≡ r → Ends (at + 10) r → lexing_from 0 at (text rest) ≡ lexing_from 0 (at + 10) rest
 lexed_behind at rest (Ok (Some w)) e lt =

@@ -2,12 +2,12 @@
 use Rattle.std.proofs.Common.{◌≡◌, ℕ, true, List, [], ◌∷◌, refl}
 use Rattle.std.specs.Prelude.{codes}
 use Rattle.std.specs.Str.{chars, is_utf8}
+use Rattle.std.proofs.lemmas.Bool.{and_parts}
 use Rattle.unicode_ident.proofs.Computing.{unicode_ident}
 use Rattle.usd_names.specs.Names.{is_start}
 use Rattle.value_texts.specs.Follows.{may_follow}
 use Rattle.value_texts.specs.ValueWords.{name_said}
 use Rattle.value_texts.proofs.Borders.{border_name}
-use Rattle.value_texts.proofs.NumberParts.{both}
 use Rattle.value_texts.proofs.TokenCuts.{word_cut}
 use Rattle.layer_texts.specs.Spelled.{IsSpelled}
 use Rattle.layer_texts.specs.ListWords.{word}
@@ -17,7 +17,7 @@ use Rattle.layer_texts.proofs.Spelled.{of_cut}
 -- a name, before a blank or a mark
 pub word_spelled : (t : List ℕ) → is_word t ≡ true → IsSpelled may_follow t (word t)
 unfolding is_word
-word_spelled t h = let p = both _ _ h in of_cut may_follow t (name_said t ∷ []) refl (λ at rest k. word_cut at t rest p.0 p.1 (border_name rest k))
+word_spelled t h = let p = and_parts _ _ h in of_cut may_follow t (name_said t ∷ []) refl (λ at rest k. word_cut at t rest p.0 p.1 (border_name rest k))
 
 pub offset_word : is_word (codes "offset") ≡ true
 unfolding is_word is_utf8 chars is_start unicode_ident lib.Utf8.encode

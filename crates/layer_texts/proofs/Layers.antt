@@ -5,6 +5,7 @@ use Rattle.std.specs.List.{list_all}
 use Rattle.std.specs.Map.{lookup}
 use Rattle.std.specs.BTreeMap.{is_at}
 use Rattle.std.specs.Str.{is_utf8}
+use Rattle.std.proofs.lemmas.Bool.{and_parts}
 use Rattle.usd_names.specs.Names.{is_identifier, is_variant}
 use Rattle.sdf_paths.specs.Order.{path_cmp}
 use Rattle.sdf_paths.specs.declared.element.Element.{Element}
@@ -26,7 +27,6 @@ use Rattle.value_texts.specs.Cuts.{Said}
 use Rattle.value_texts.specs.Follows.{anything, may_follow}
 use Rattle.value_texts.specs.Words.{told_of, as_word}
 use Rattle.value_texts.specs.ValueWords.{close_brace}
-use Rattle.value_texts.proofs.NumberParts.{both}
 use Rattle.value_texts.proofs.QuotedNames.{identifier_quoted, variant_quoted}
 use Rattle.layer_texts.specs.Spelled.{IsSpelled, AreLines}
 use Rattle.layer_texts.specs.ListWords.{word, string_words}
@@ -82,10 +82,10 @@ metadata_follows level spec rest k = block_follows level (spec_lines (deeper lev
 
 body_of : (spec : Spec) → is_writable_spec spec ≡ true → is_writable_body spec.body ≡ true
 unfolding is_writable_spec
-body_of spec h = (both _ _ h).1
+body_of spec h = (and_parts _ _ h).1
 
 type_of : (spec : Spec) → is_writable_spec spec ≡ true → none_or is_word spec.body.type_name ≡ true
-type_of spec h = let p = both _ _ (body_of spec h) in p.0
+type_of spec h = let p = and_parts _ _ (body_of spec h) in p.0
 
 -- what stands before the body of a prim, of a variant, and before the variants of a set
 pub prim_head_spelled : (level : ℕ) (name : List ℕ) (spec : Spec) → is_identifier name ≡ true → is_writable_spec spec ≡ true → IsSpelled anything (prim_head level name spec) (prim_head_words name spec)
@@ -104,7 +104,7 @@ set_head_spelled level set h = joined (then_more (then_more (indent level) (edit
 -- what is found among specs that can be written can be written
 found_writable : {K : Type 0} (test : K → Bool) (es : List (K × Spec)) → list_all (λ e. is_writable_spec e.1) es ≡ true → none_or is_writable_spec (lookup test es) ≡ true
 found_writable test [] h = refl
-found_writable test (e ∷ es) h = let p = both _ _ h in cases (test e.0) p.0 (found_writable test es p.1)
+found_writable test (e ∷ es) h = let p = and_parts _ _ h in cases (test e.0) p.0 (found_writable test es p.1)
   where
     cases : (b : Bool) → is_writable_spec e.1 ≡ true → none_or is_writable_spec (lookup test es) ≡ true → none_or is_writable_spec (cond b (Some e.1) (lookup test es)) ≡ true
     cases true here more = here
@@ -134,7 +134,7 @@ module _ (specs : SpecEntries) (good : are_writable_specs specs ≡ true) (body 
 
   set_spelled : (level : ℕ) (path : List Element) (s : VariantSet) → is_writable_set s ≡ true → IsSpelled anything (set_text specs body level path s) (set_words specs said path s)
   set_spelled level path s h =
-      let p = both _ _ h in
+      let p = and_parts _ _ h in
       then_more (then_more (set_head_spelled level s.set p.0)
       (all_spelled (variant_below specs body (deeper level) path s.set) (variant_words_below specs said path s.set) is_variant
       (λ name n. variant_spelled (deeper level) name (spec_below specs path (Selection s.set name)) (path ++ Selection s.set name ∷ []) n
@@ -143,9 +143,9 @@ module _ (specs : SpecEntries) (good : are_writable_specs specs ≡ true) (body 
 
   pub statements_spelled : (level : ℕ) (path : List Element) (spec : Spec) → is_writable_spec spec ≡ true → IsSpelled anything (statements specs body level path spec) (statement_words specs said path spec)
   statements_spelled level path spec h =
-      let typed = both (none_or is_word spec.body.type_name) _ (body_of spec h) in let meta = both (is_writable_meta spec.body.meta) _ typed.1 in
-      let schemas = both (is_writable_list is_utf8 spec.body.api_schemas) _ meta.1 in let clips = both (is_writable_list is_utf8 spec.body.clip_sets) _ schemas.1 in
-      let children = both _ _ clips.1 in let order = both _ _ children.1 in let properties = both _ _ order.1 in let sets = both _ _ properties.1 in
+      let typed = and_parts (none_or is_word spec.body.type_name) _ (body_of spec h) in let meta = and_parts (is_writable_meta spec.body.meta) _ typed.1 in
+      let schemas = and_parts (is_writable_list is_utf8 spec.body.api_schemas) _ meta.1 in let clips = and_parts (is_writable_list is_utf8 spec.body.clip_sets) _ schemas.1 in
+      let children = and_parts _ _ clips.1 in let order = and_parts _ _ children.1 in let properties = and_parts _ _ order.1 in let sets = and_parts _ _ properties.1 in
       then_more (then_more (then_more (then_more
       (order_spelled level (codes "nameChildren") nameChildren_word spec.body.child_order order.0)
       (order_spelled level (codes "properties") properties_word spec.body.property_order sets.0))
@@ -174,8 +174,8 @@ root_order_spelled (n ∷ ns) h = then_more line_feed (order_spelled 0 (codes "r
 
 pub front_spelled : (head : Head) → is_writable_head head ≡ true → IsSpelled anything (layer_front head) (front_words head)
 front_spelled head h =
-    let named = both (none_or is_utf8 head.default_prim) _ h in let meta = both (is_writable_meta head.meta) _ named.1 in
-    let sublayers = both (list_all is_writable_sublayer head.sublayers) _ meta.1 in let names = both (list_all is_identifier head.root_names) _ sublayers.1 in
+    let named = and_parts (none_or is_utf8 head.default_prim) _ h in let meta = and_parts (is_writable_meta head.meta) _ named.1 in
+    let sublayers = and_parts (list_all is_writable_sublayer head.sublayers) _ meta.1 in let names = and_parts (list_all is_identifier head.root_names) _ sublayers.1 in
     then_more (then_more first_line_spelled
     (head_block_spelled (head_lines head) (head_words head) (more_lines (meta_spelled 1 (with_default_prim head.default_prim head.meta) (default_writable head.default_prim head.meta named.0 meta.0)) (sublayers_spelled 1 head.sublayers sublayers.0))))
     (root_order_spelled head.root_order names.1)
@@ -184,9 +184,9 @@ front_spelled head h =
 pub layer_spelled : (layer : LayerTable) → is_writable_layer layer ≡ true → IsSpelled anything (canonical layer) (layer_words layer)
 unfolding canonical layer_words is_writable_layer
 layer_spelled layer h =
-    let p = both _ _ h in
-    let named = both (none_or is_utf8 layer.head.default_prim) _ p.0 in let meta = both (is_writable_meta layer.head.meta) _ named.1 in
-    let sublayers = both (list_all is_writable_sublayer layer.head.sublayers) _ meta.1 in let names = both (list_all is_identifier layer.head.root_names) _ sublayers.1 in
+    let p = and_parts _ _ h in
+    let named = and_parts (none_or is_utf8 layer.head.default_prim) _ p.0 in let meta = and_parts (is_writable_meta layer.head.meta) _ named.1 in
+    let sublayers = and_parts (list_all is_writable_sublayer layer.head.sublayers) _ meta.1 in let names = and_parts (list_all is_identifier layer.head.root_names) _ sublayers.1 in
     then_more (front_spelled layer.head p.0)
     (children_spelled layer.specs p.1 (body_text layer.specs (length layer.specs)) (body_words layer.specs (length layer.specs)) (λ l path spec w. body_spelled layer.specs p.1 (length layer.specs) l path spec w)
     0 [] layer.head.root_names names.0)

@@ -1,12 +1,12 @@
 -- Whole lines, one behind the other.
 use Rattle.std.proofs.Common.{◌≡◌, ◌∙◌, ℕ, ◌&&◌, Bool, true, false, List, [], ◌∷◌, ◌++◌, ap, sym, refl}
 use Rattle.std.specs.List.{list_all, flat_map}
+use Rattle.std.proofs.lemmas.Bool.{and_parts}
 use Rattle.sdf_values.specs.Print.{blanks}
 use Rattle.usda_writer.specs.Fields.{line}
 use Rattle.usda_writer.specs.Texts.{metadata_block}
 use Rattle.value_texts.specs.Cuts.{Said}
 use Rattle.value_texts.specs.Follows.{anything, may_follow}
-use Rattle.value_texts.proofs.NumberParts.{both}
 use Rattle.layer_texts.specs.Spelled.{IsSpelled, AreLines, is_nothing}
 use Rattle.layer_texts.specs.FieldWords.{block_words}
 use Rattle.layer_texts.proofs.Marks.{indent, line_feed, block_start, paren_end}
@@ -43,7 +43,7 @@ more_lines {s = s} {t = t} {x = x} {y = y} p q = record {
 
 pub all_lines : {T : Type 0} (f : T → List ℕ) (g : T → List Said) (w : T → Bool) → ((x : T) → w x ≡ true → AreLines (f x) (g x)) → (xs : List T) → list_all w xs ≡ true → AreLines (flat_map f xs) (flat_map g xs)
 all_lines f g w each [] h = no_lines
-all_lines f g w each (x ∷ xs) h = let p = both (w x) (list_all w xs) h in more_lines (each x p.0) (all_lines f g w each xs p.1)
+all_lines f g w each (x ∷ xs) h = let p = and_parts (w x) (list_all w xs) h in more_lines (each x p.0) (all_lines f g w each xs p.1)
 
 -- metadata between brackets, where there is any
 pub block_spelled : (level : ℕ) (text : List ℕ) (said : List Said) → AreLines text said → IsSpelled may_follow (metadata_block level text) (block_words said)

@@ -4,6 +4,7 @@ use Rattle.std.specs.Prelude.{codes, ℤ, unsigned_abs}
 use Rattle.std.specs.Fmt.{signed_decimal}
 use Rattle.std.specs.List.{list_all}
 use Rattle.std.proofs.lemmas.Bool.Decides.{nat_tests}
+use Rattle.std.proofs.lemmas.Bool.{and_parts}
 use Rattle.sdf_paths.specs.Paths.{printed}
 use Rattle.sdf_paths.specs.declared.element.Element.{Element}
 use Rattle.sdf_values.specs.Print.{asset_text, quoted, whole_text}
@@ -16,7 +17,6 @@ use Rattle.value_texts.specs.Follows.{anything, may_follow, begins_not}
 use Rattle.value_texts.specs.ValueWords.{name_said, number_said, string_said, asset_said, path_said, open_paren, semicolon, equals}
 use Rattle.value_texts.specs.Writable.{is_writable_asset}
 use Rattle.value_texts.proofs.Borders.{border_number, border_string, border_asset}
-use Rattle.value_texts.proofs.NumberParts.{both}
 use Rattle.value_texts.proofs.TokenCuts as cut
 use Rattle.value_texts.proofs.WholeLeaves.{small_writable}
 use Rattle.layer_texts.specs.Spelled.{IsSpelled}
@@ -51,11 +51,11 @@ module _ {T : Type 0} (f : T → List ℕ) (g : T → List Said) (w : T → Bool
 
   more_spelled : (xs : List T) → list_all w xs ≡ true → IsSpelled may_follow (more_items f xs) (more_words g xs)
   more_spelled [] h = nothing may_follow
-  more_spelled (x ∷ xs) h = let p = both (w x) (list_all w xs) h in joined (then_more comma_space (each x p.0)) (more_spelled xs p.1) (more_follow xs)
+  more_spelled (x ∷ xs) h = let p = and_parts (w x) (list_all w xs) h in joined (then_more comma_space (each x p.0)) (more_spelled xs p.1) (more_follow xs)
 
   listed_spelled : (xs : List T) → list_all w xs ≡ true → IsSpelled may_follow (listed f xs) (listed_words g xs)
   listed_spelled [] h = nothing may_follow
-  listed_spelled (x ∷ xs) h = let p = both (w x) (list_all w xs) h in joined (each x p.0) (more_spelled xs p.1) (more_follow xs)
+  listed_spelled (x ∷ xs) h = let p = and_parts (w x) (list_all w xs) h in joined (each x p.0) (more_spelled xs p.1) (more_follow xs)
 
   pub bracketed_spelled : (xs : List T) → list_all w xs ≡ true → IsSpelled anything (bracketed f xs) (bracketed_words g xs)
   bracketed_spelled xs h = joined (then_more bracket (listed_spelled xs h)) bracket_end (λ rest k. refl)
@@ -74,7 +74,7 @@ scale_start = joined (then_more semicolon_space (word_spelled (codes "scale") sc
 offset_said : (b : Bool) (o : Offset) → is_writable_offset o ≡ true → IsSpelled may_follow (unless_identity b o) (words_unless_identity b o)
 offset_said true o h = nothing may_follow
 offset_said false o h =
-    let p = both _ _ h in
+    let p = and_parts _ _ h in
     weaker (joined (then_more (joined (then_more offset_start (number_spelled o.offset p.0)) scale_start (λ rest k. refl)) (number_spelled o.scale p.1)) paren_end (λ rest k. refl))
 
 offset_spelled : (o : Offset) → is_writable_offset o ≡ true → IsSpelled may_follow (offset_text o) (offset_words o)
@@ -94,10 +94,10 @@ target_spelled (Some a) (Some p) h k = joined (asset_spelled a h) (weaker (path_
 -- an item of references
 pub reference_spelled : (r : RefItem) → is_writable_reference r ≡ true → IsSpelled may_follow (reference_text r) (reference_words r)
 reference_spelled r h =
-    let p = both _ _ h in let q = both _ _ p.1 in
+    let p = and_parts _ _ h in let q = and_parts _ _ p.1 in
     joined (target_spelled r.asset r.path p.0 q.0) (offset_spelled r.offset q.1) (offset_follows (is_identity r.offset) r.offset)
 
 pub sublayer_spelled : (s : SubLayer) → is_writable_sublayer s ≡ true → IsSpelled may_follow (sublayer_text s) (sublayer_words s)
 sublayer_spelled s h =
-    let p = both _ _ h in
+    let p = and_parts _ _ h in
     joined (asset_spelled s.asset p.0) (offset_spelled s.offset p.1) (offset_follows (is_identity s.offset) s.offset)

@@ -2,6 +2,7 @@
 use Rattle.std.proofs.Common.{◌≡◌, ℕ, Bool, true, false, List, [], ◌∷◌, ◌++◌, append_assoc, append-nil, Option, Some, None, sym, refl}
 use Rattle.std.specs.Prelude.{codes, if◌then◌else◌, ℤ, nat_le, unsigned_abs, ◌^◌}
 use Rattle.std.specs.List.{list_all}
+use Rattle.std.proofs.lemmas.Bool.{and_parts}
 use Rattle.list_ops.specs.declared.op.ListOp.{ListOp}
 use Rattle.sdf_paths.specs.declared.element.Element.{Element}
 use Rattle.sdf_values.specs.Print.{deeper, time_text}
@@ -20,7 +21,6 @@ use Rattle.value_texts.specs.ValueWords.{name_said, number_said, open_bracket, c
 use Rattle.value_texts.specs.Writable.{is_writable}
 use Rattle.value_texts.proofs.Borders.{border_name}
 use Rattle.value_texts.proofs.Dotted.{dotted}
-use Rattle.value_texts.proofs.NumberParts.{both}
 use Rattle.value_texts.proofs.TokenCuts as cut
 use Rattle.value_texts.proofs.TypeTexts.{type_is_text, type_is_name, type_is_word}
 use Rattle.layer_texts.specs.Spelled.{IsSpelled}
@@ -63,7 +63,7 @@ typed_spelled ty name h = then_more (typed_start ty) (word_spelled name h)
 part_spelled : (name part : List ℕ) → is_word name ≡ true → is_word part ≡ true → IsSpelled may_follow (name ++ 46 ∷ part) (name_said name ∷ dot ∷ name_said part ∷ [])
 unfolding is_word
 part_spelled name part h k =
-    let p = both _ _ h in let q = both _ _ k in
+    let p = and_parts _ _ h in let q = and_parts _ _ k in
     record { worded = λ at b rest n e. dotted at b name part rest p.0 p.1 q.0 q.1 (border_name rest e) n }
 
 joined_spelled : (ty : TypeName) (name part : List ℕ) → is_word name ≡ true → is_word part ≡ true → IsSpelled may_follow ((type_text ty ++ codes " " ++ name) ++ 46 ∷ part) (joined_words ty name part)
@@ -76,7 +76,7 @@ timed_start t h =
 
 sample_spelled : (level : ℕ) (s : ℤ × Value) → is_writable_sample s ≡ true → IsSpelled anything (sample_line level s) (sample_words s)
 sample_spelled level s h =
-    let p = both _ _ h in
+    let p = and_parts _ _ h in
     line_spelled level _ (weaker (joined (then_more (timed_start s.0 p.0) (value_spelled s.1 p.1 level)) comma_mark (λ rest k. refl)))
 
 samples_start : (level : ℕ) (ty : TypeName) (name : List ℕ) → is_word name ≡ true
@@ -125,7 +125,7 @@ named_spelled name h = then_more (edit_spelled (codes "rel") rel_word) (word_spe
 relationship_spelled : (level : ℕ) (name : List ℕ) (custom : Bool) (targets : ListOp (List Element)) (meta : MetaEntries) → is_word name ≡ true → is_writable_list is_writable_target targets ≡ true → is_writable_meta meta ≡ true
     → IsSpelled anything (relationship_lines level (codes "rel " ++ name) custom targets meta) (relationship_words name custom targets meta)
 relationship_spelled level name custom targets meta n t m =
-    let p = both _ _ t in
+    let p = and_parts _ _ t in
     then_more
     (line_spelled level _ (joined
     (joined (then_more (flag_spelled custom (codes "custom") custom_word) (named_spelled name n)) (targets_spelled targets.explicit p.0) (targets_follow targets.explicit))
@@ -136,10 +136,10 @@ relationship_spelled level name custom targets meta n t m =
 -- the lines of a property
 pub property_spelled : (level : ℕ) (p : Property) → is_writable_property p ≡ true → IsSpelled anything (property_lines level p) (property_words p)
 property_spelled level (Attr name ty custom uniform default samples connections meta) h =
-    let named = both _ _ h in let valued = both _ _ named.1 in let sampled = both _ _ valued.1 in let connected = both _ _ sampled.1 in
+    let named = and_parts _ _ h in let valued = and_parts _ _ named.1 in let sampled = and_parts _ _ valued.1 in let connected = and_parts _ _ sampled.1 in
     then_more (then_more (attribute_spelled level ty name custom uniform default meta named.0 valued.0 connected.1) (samples_spelled level ty name named.0 samples sampled.0))
     (list_lines_spelled ((type_text ty ++ codes " " ++ name) ++ codes ".connect") (joined_words ty name (codes "connect")) (joined_spelled ty name (codes "connect") named.0 connect_word)
     path_text path_words is_writable_target (λ q u. weaker (path_spelled q u)) level connections connected.0).spelled
 property_spelled level (Rel name custom targets meta) h =
-    let named = both _ _ h in let targeted = both _ _ named.1 in
+    let named = and_parts _ _ h in let targeted = and_parts _ _ named.1 in
     relationship_spelled level name custom targets meta named.0 targeted.0 targeted.1

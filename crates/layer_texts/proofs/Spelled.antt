@@ -1,10 +1,10 @@
 -- Texts that spell words, one behind the other.
 use Rattle.std.proofs.Common.{◌≡◌, ℕ, ◌+◌, Bool, true, List, [], ◌∷◌, ◌++◌, append-nil, length, refl, subst}
 use Rattle.std.specs.List.{list_all, flat_map}
+use Rattle.std.proofs.lemmas.Bool.{and_parts}
 use Rattle.value_texts.specs.Cuts.{Said, IsCut}
 use Rattle.value_texts.specs.Follows.{anything}
 use Rattle.value_texts.specs.Words.{is_no_dot}
-use Rattle.value_texts.proofs.NumberParts.{both}
 use Rattle.value_texts.proofs.Pieces.{nothing_cut}
 use Rattle.value_texts.proofs.WordCuts.{cut_worded, both_worded}
 use Rattle.layer_texts.specs.Spelled.{IsSpelled}
@@ -42,4 +42,4 @@ same_text {F = F} {x = x} e p = subst (λ u. IsSpelled F u x) e p
 pub all_spelled : {T : Type 0} (f : T → List ℕ) (g : T → List Said) (w : T → Bool) → ((x : T) → w x ≡ true → IsSpelled anything (f x) (g x))
     → (xs : List T) → list_all w xs ≡ true → IsSpelled anything (flat_map f xs) (flat_map g xs)
 all_spelled f g w each [] h = nothing anything
-all_spelled f g w each (x ∷ xs) h = let p = both (w x) (list_all w xs) h in then_more (each x p.0) (all_spelled f g w each xs p.1)
+all_spelled f g w each (x ∷ xs) h = let p = and_parts (w x) (list_all w xs) h in then_more (each x p.0) (all_spelled f g w each xs p.1)

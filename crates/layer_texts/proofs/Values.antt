@@ -2,12 +2,12 @@
 use Rattle.std.proofs.Common.{◌≡◌, ℕ, true, false, List, ap}
 use Rattle.sdf_values.specs.Print.{print}
 use Rattle.sdf_values.specs.declared.value.Value.{Value}
+use Rattle.sdf_values.proofs.Values.{by_cases}
 use Rattle.value_texts.specs.Cuts.{Said}
 use Rattle.value_texts.specs.Follows.{may_follow}
 use Rattle.value_texts.specs.ValueWords.{words_of_value, said_step, said_item}
 use Rattle.value_texts.specs.Writable.{is_writable}
-use Rattle.value_texts.proofs.Values as fold
-use Rattle.value_texts.proofs.Values.{by_cases}
+use Rattle.sdf_values.proofs.Values as fold
 use Rattle.value_texts.proofs.WordCuts.{value_worded}
 use Rattle.layer_texts.specs.Spelled.{IsSpelled, is_nothing}
 

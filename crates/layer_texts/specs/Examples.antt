@@ -9,7 +9,7 @@ use Rattle.spec_parts.specs.Blank.{blank_arcs, blank_body, blank_head, blank_spe
 use Rattle.spec_parts.specs.declared.items.Specifier.TheVariants.{Def, Over}
 use Rattle.sdf_specs.specs.Layers.{LayerTable}
 use Rattle.usda_grammar.specs.declared.kinds.Keyword.TheVariants as keyword
-use Rattle.usda_grammar.specs.declared.kinds.TokenKind.TheVariants as kind
+use Rattle.usda_grammar.specs.declared.kinds.WordKind.TheVariants as kind
 use Rattle.usda_words.specs.Words.{words_of}
 use Rattle.usda_writer.specs.Examples.{forms}
 use Rattle.value_texts.specs.Cuts.{Said}

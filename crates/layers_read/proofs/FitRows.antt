@@ -1,7 +1,10 @@
 -- What a row of the grammar's table has to keep of the places where keys may stand.
-use Rattle.std.proofs.Common.{Bool, true, false, not, ◌&&◌, ◌||◌, List, [], ◌∷◌, Option, Some, None}
+use Rattle.std.proofs.Common.{Bool, true, false, not, ◌&&◌, ◌||◌, List, [], ◌∷◌, Option, Some, None, ◌≡◌, refl}
 use Rattle.usda_grammar.specs.declared.symbols.Symbol.{Symbol}
 use Rattle.usda_grammar.specs.declared.symbols.Symbol.TheVariants as symbol
+use Rattle.usda_grammar.specs.Table.{starts}
+use Rattle.usda_grammar.specs.declared.kinds.WordKind.{WordKind}
+use Rattle.usda_productions.proofs.AllSymbols.{every_row}
 
 -- the symbols of metadata of the layer, of prims and of variants
 abbrev pub is_part : Symbol → Bool
@@ -30,3 +33,7 @@ are_partless (s ∷ pushed) = not (is_part s) && are_partless pushed
 abbrev pub is_fit_row : Symbol → Option (List Symbol) → Bool
 is_fit_row s None = true
 is_fit_row s (Some pushed) = may_part s || are_partless pushed
+
+-- each row of the table keeps it
+pub fit_rows : (s : Symbol) (k : WordKind) → is_fit_row s (starts s k) ≡ true
+fit_rows = every_row (λ s k. is_fit_row s (starts s k)) refl

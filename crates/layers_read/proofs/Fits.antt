@@ -1,17 +1,16 @@
 -- Where a key of the layer may stand no body is still to be closed, and where a key of a prim or a variant may stand, one more than prims
 -- are to be named.
 use Rattle.std.proofs.Common.{◌≡◌, ◌∙◌, ◌+◌, ◌<◌, ◌≤◌, Bool, true, false, not, ◌&&◌, ◌||◌, List, [], ◌∷◌, ◌++◌, Option, Some, None, ap, sym, refl, subst, arith}
-use Rattle.usda_grammar.proofs.AllKinds.{all_kinds-at}
 use Rattle.usda_grammar.specs.Machine.{step, choose}
 use Rattle.usda_grammar.specs.Table.{starts, may_be_absent}
 use Rattle.usda_grammar.specs.declared.kinds.Keyword.TheVariants as word
-use Rattle.usda_grammar.specs.declared.kinds.TokenKind.{TokenKind}
-use Rattle.usda_grammar.specs.declared.kinds.TokenKind.TheVariants as token
+use Rattle.usda_grammar.specs.declared.kinds.WordKind.{WordKind}
+use Rattle.usda_grammar.specs.declared.kinds.WordKind.TheVariants as token
 use Rattle.usda_grammar.specs.declared.symbols.Symbol.{Symbol}
 use Rattle.usda_grammar.specs.declared.symbols.Symbol.TheVariants as symbol
 use Rattle.trees_read.specs.Stacks.{end_of, ends, name_of, names, AreBalanced}
-use Rattle.layers_read.proofs.FitRows.{is_part, may_part, are_partless, is_fit_row}
-use Rattle.layers_read.proofs.AllFitRows.{fit_rows}
+use Rattle.trees_read.proofs.Stacks.{balanced_whole}
+use Rattle.layers_read.proofs.FitRows.{is_part, may_part, are_partless, is_fit_row, fit_rows}
 
 -- what of prims and bodies is left behind a symbol of metadata
 abbrev pub FitsHere : Symbol → List Symbol → Type 0
@@ -49,16 +48,16 @@ partless (s ∷ pushed) below h fits = by (is_part s) refl h (λ g. partless pus
     by true is g more = absurd cc
     by false is g more = (here_partless s (pushed ++ below) is, more g)
 
-others : (s : Symbol) (k : TokenKind) (below : List Symbol) → may_part s ≡ false → Fits below → FitsAfter (starts s k) below
+others : (s : Symbol) (k : WordKind) (below : List Symbol) → may_part s ≡ false → Fits below → FitsAfter (starts s k) below
 others s k below h fits = by (starts s k) refl
   where
     by : (o : Option (List Symbol)) → starts s k ≡ o → FitsAfter o below
     by None is = tt
-    by (Some pushed) is = partless pushed below (ap (λ c. c || are_partless pushed) (sym h) ∙ subst (λ o. is_fit_row s o ≡ true) is (all_kinds-at (λ k. is_fit_row s (starts s k)) (fit_rows s) k)) fits
+    by (Some pushed) is = partless pushed below (ap (λ c. c || are_partless pushed) (sym h) ∙ subst (λ o. is_fit_row s o ≡ true) is (fit_rows s k)) fits
 
 -- ---- each symbol
 
-fits_after : (s : Symbol) (k : TokenKind) (below : List Symbol) → FitsHere s below → names below ≤ ends below → Fits below → FitsAfter (starts s k) below
+fits_after : (s : Symbol) (k : WordKind) (below : List Symbol) → FitsHere s below → names below ≤ ends below → Fits below → FitsAfter (starts s k) below
 fits_after symbol.MaybeHead token.OpenParen below here balanced fits = (omega (arith, here), (tt, fits))
 fits_after symbol.MaybeHead k below here balanced fits = tt
 fits_after symbol.HeadItems (token.Word word.SubLayers) below here balanced fits = (tt, (tt, (tt, (here, fits))))
@@ -99,10 +98,6 @@ absent_ends symbol.BodyEnd h = absurd cc
 absent_ends symbol.PrimName h = absurd cc
 absent_ends s h = (refl, refl)
 
-balanced_top : (stack : List Symbol) → AreBalanced stack → names stack ≤ ends stack
-balanced_top [] h = omega arith
-balanced_top (s ∷ stack) h = h.0
-
 pub record Fitted (stack : List Symbol) (s : Symbol) (after : List Symbol) : Type 0 where
   pub fits : Fits after
   pub below : List Symbol
@@ -110,7 +105,7 @@ pub record Fitted (stack : List Symbol) (s : Symbol) (after : List Symbol) : Typ
   pub ends_here : ends stack ≡ end_of s + ends below
   pub names_here : names stack ≡ name_of s + names below
 
-pub fitted : (stack : List Symbol) (k : TokenKind) (s : Symbol) (after : List Symbol) → Fits stack → AreBalanced stack → step stack k ≡ Some (s, after) → Fitted stack s after
+pub fitted : (stack : List Symbol) (k : WordKind) (s : Symbol) (after : List Symbol) → Fits stack → AreBalanced stack → step stack k ≡ Some (s, after) → Fitted stack s after
 fitted [] k s after fits balanced e = absurd cc
 fitted (u ∷ stack) k s after fits balanced e = cases (starts u k) refl (may_be_absent u) refl e (λ f. fitted stack k s after fits.1 balanced.1 f)
   where
@@ -118,7 +113,7 @@ fitted (u ∷ stack) k s after fits balanced e = cases (starts u k) refl (may_be
     cases (Some a) is b absent f more =
         let same : ◌≡◌ {A = Symbol × List Symbol} (u, a ++ stack) (s, after) = cc f in
         let one : Fitted (u ∷ stack) u (a ++ stack) = record {
-          fits = subst (λ o. FitsAfter o stack) is (fits_after u k stack fits.0 (balanced_top stack balanced.1) fits.1);
+          fits = subst (λ o. FitsAfter o stack) is (fits_after u k stack fits.0 (balanced_whole stack balanced.1) fits.1);
           below = stack;
           here = fits.0;
           ends_here = refl;

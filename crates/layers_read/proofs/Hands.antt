@@ -20,8 +20,8 @@ use Rattle.usda_fields.specs.declared.owner.OwnerDraft.{OwnerDraft}
 use Rattle.usda_grammar.specs.Table.{starts}
 use Rattle.usda_grammar.specs.declared.kinds.Keyword.{Keyword}
 use Rattle.usda_grammar.specs.declared.kinds.Keyword.TheVariants as word
-use Rattle.usda_grammar.specs.declared.kinds.TokenKind.{TokenKind}
-use Rattle.usda_grammar.specs.declared.kinds.TokenKind.TheVariants as token
+use Rattle.usda_grammar.specs.declared.kinds.WordKind.{WordKind}
+use Rattle.usda_grammar.specs.declared.kinds.WordKind.TheVariants as token
 use Rattle.usda_grammar.specs.declared.symbols.Symbol.{Symbol}
 use Rattle.usda_grammar.specs.declared.symbols.Symbol.TheVariants as symbol
 use Rattle.usda_lexer.specs.Meanings.{asset_text, path_text}
@@ -38,14 +38,16 @@ use Rattle.fields_read.specs.Sound.{IsSaid, IsSoundSaid, HasOpenItems}
 use Rattle.fields_read.proofs.FieldActs.{lists_read}
 use Rattle.fields_read.proofs.Proper.{sublayers_read}
 use Rattle.layer_reads.specs.Keys.{is_plain_key}
-use Rattle.layer_reads.specs.Lists.{AreAll}
 use Rattle.layer_texts.specs.Writable.{is_word}
 use Rattle.value_returns.specs.Fields.{IsText, IsAssetName, IsProperSublayer}
 use Rattle.trees_read.proofs.Fields.{IfMade, if_made}
 use Rattle.trees_read.proofs.ListActs.{then_known, then_any}
 use Rattle.trees_read.proofs.ListRows.{Part, none, begun, brackets, sublayers, part, is_none, has_item, has_parts}
+use Rattle.trees_read.proofs.ListHands.{weaker, nothing}
+use Rattle.value_texts.specs.Each.{AreAll}
+use Rattle.value_texts.proofs.EachOf.{all_push}
 use Rattle.layers_read.proofs.Others.{key_beside, samples_beside, comment_quiet, variants_quiet}
-use Rattle.layers_read.proofs.States.{name_for, IsNoted, Rest, Quiet, Held, Busy, quiet_made, rest_said, all_push}
+use Rattle.layers_read.proofs.States.{name_for, IsNoted, Rest, Quiet, Held, Busy, quiet_made, rest_said}
 use Rattle.layers_read.proofs.Words.{IsKnownAs}
 
 made : (P : OwnerDraft → Type 0) (r : Result OwnerDraft RefusalKind) → ((next : OwnerDraft) → r ≡ Ok next → P next) → IfMade P r
@@ -77,14 +79,6 @@ held_lone : (is_name : Keyword → Bool) (most : ℕ) (l : OpenList) (edit : Lis
 held_lone is_name most (open_list.Field f) edit said few h = (lists_read is_name).lone f edit most said few h
 held_lone is_name most open_list.Property edit said few h = h
 held_lone is_name most open_list.SubLayers edit said few h = h
-
-nothing : {E : Type 0} (r : Result Draft E) → IfMade (λ n. Unit {0}) r
-nothing (Ok d) = tt
-nothing (Err e) = tt
-
-pub weaker : {E : Type 0} (P Q : Draft → Type 0) (r : Result Draft E) → ((n : Draft) → P n → Q n) → IfMade P r → IfMade Q r
-weaker P Q (Ok n) make h = make n h
-weaker P Q (Err e) make h = tt
 
 module _ (b : Bool) where
   pub rest_property : (d : Draft) (p : PropertyDraft) → Rest b d → Rest b (with_property d p)
@@ -223,7 +217,7 @@ module _ (b : Bool) where
   pushed_item : {E : Type 0} (d : Draft) (r : Result Draft E) → IfMade (Taken (Some 1) d.list d) r → IfMade (State none true) r
   pushed_item d r h = weaker (Busy b (Some 1)) (State none true) r (λ n k. (short_quiet n k, λ t. k)) (busy_made (Some 1) d r h)
 
-  pub string_list : (k : TokenKind) (w : Word) (d : Draft) → Busy b (Some 0) d → IfMade (Landed (starts symbol.StringList k)) (in_list_act k w d)
+  pub string_list : (k : WordKind) (w : Word) (d : Draft) → Busy b (Some 0) d → IfMade (Landed (starts symbol.StringList k)) (in_list_act k w d)
   unfolding in_list_act
   string_list token.Quoted w d h = pushed_bare d (string_act d.list w d) (string_taken (Some 0) d.list w d h.0 h.1)
   string_list (token.Word word.NoneWord) w d h = bare d (empty_quiet d h)
@@ -232,7 +226,7 @@ module _ (b : Bool) where
   string_list token.CloseBracket w d h = nothing (end_act d.list d)
   string_list k w d h = tt
 
-  pub path_list : (k : TokenKind) (w : Word) (d : Draft) → IsKnownAs k w.text → Busy b (Some 0) d → IfMade (Landed (starts symbol.PathList k)) (in_list_act k w d)
+  pub path_list : (k : WordKind) (w : Word) (d : Draft) → IsKnownAs k w.text → Busy b (Some 0) d → IfMade (Landed (starts symbol.PathList k)) (in_list_act k w d)
   unfolding in_list_act
   path_list token.Path w d known h = pushed_bare d (list_path_act d.list w d) (path_taken (Some 0) d.list w d known h.0 h.1)
   path_list (token.Word word.NoneWord) w d known h = bare d (empty_quiet d h)
@@ -241,7 +235,7 @@ module _ (b : Bool) where
   path_list token.CloseBracket w d known h = nothing (end_act d.list d)
   path_list k w d known h = tt
 
-  pub reference_list : (k : TokenKind) (w : Word) (d : Draft) → IsKnownAs k w.text → Busy b (Some 0) d → IfMade (Landed (starts symbol.ReferenceList k)) (in_references_act k w d)
+  pub reference_list : (k : WordKind) (w : Word) (d : Draft) → IsKnownAs k w.text → Busy b (Some 0) d → IfMade (Landed (starts symbol.ReferenceList k)) (in_references_act k w d)
   unfolding in_references_act
   reference_list token.Asset w d known h = pushed_item d (asset_act d.list w d) (asset_taken (Some 0) d.list w d known h.0 h.1)
   reference_list token.Path w d known h = pushed_item d (lone_path_act d.list w d) (lone_path_taken (Some 0) d.list w d known h.0 h.1)
@@ -250,14 +244,14 @@ module _ (b : Bool) where
   reference_list token.CloseBracket w d known h = nothing (end_act d.list d)
   reference_list k w d known h = tt
 
-  pub strings_or_end : (k : TokenKind) (w : Word) (d : Draft) → Busy b None d → IfMade (Landed (starts symbol.StringsOrEnd k)) (in_list_act k w d)
+  pub strings_or_end : (k : WordKind) (w : Word) (d : Draft) → Busy b None d → IfMade (Landed (starts symbol.StringsOrEnd k)) (in_list_act k w d)
   unfolding in_list_act
   strings_or_end token.Quoted w d h = busy_made None d (string_act d.list w d) (string_taken None d.list w d h.0 h.1)
   strings_or_end token.CloseBracket w d h = quiet_bare (end_act d.list d) (end_quiet d.list d h.0 h.1)
   strings_or_end token.Path w d h = nothing (list_path_act d.list w d)
   strings_or_end k w d h = tt
 
-  pub more_strings : (k : TokenKind) (w : Word) (d : Draft) → Busy b None d → IfMade (Landed (starts symbol.MoreStrings k)) (in_list_act k w d)
+  pub more_strings : (k : WordKind) (w : Word) (d : Draft) → Busy b None d → IfMade (Landed (starts symbol.MoreStrings k)) (in_list_act k w d)
   unfolding in_list_act
   more_strings token.Comma w d h = h
   more_strings token.CloseBracket w d h = quiet_bare (end_act d.list d) (end_quiet d.list d h.0 h.1)
@@ -265,14 +259,14 @@ module _ (b : Bool) where
   more_strings token.Path w d h = nothing (list_path_act d.list w d)
   more_strings k w d h = tt
 
-  pub paths_or_end : (k : TokenKind) (w : Word) (d : Draft) → IsKnownAs k w.text → Busy b None d → IfMade (Landed (starts symbol.PathsOrEnd k)) (in_list_act k w d)
+  pub paths_or_end : (k : WordKind) (w : Word) (d : Draft) → IsKnownAs k w.text → Busy b None d → IfMade (Landed (starts symbol.PathsOrEnd k)) (in_list_act k w d)
   unfolding in_list_act
   paths_or_end token.Path w d known h = busy_made None d (list_path_act d.list w d) (path_taken None d.list w d known h.0 h.1)
   paths_or_end token.CloseBracket w d known h = quiet_bare (end_act d.list d) (end_quiet d.list d h.0 h.1)
   paths_or_end token.Quoted w d known h = nothing (string_act d.list w d)
   paths_or_end k w d known h = tt
 
-  pub more_paths : (k : TokenKind) (w : Word) (d : Draft) → Busy b None d → IfMade (Landed (starts symbol.MorePaths k)) (in_list_act k w d)
+  pub more_paths : (k : WordKind) (w : Word) (d : Draft) → Busy b None d → IfMade (Landed (starts symbol.MorePaths k)) (in_list_act k w d)
   unfolding in_list_act
   more_paths token.Comma w d h = h
   more_paths token.CloseBracket w d h = quiet_bare (end_act d.list d) (end_quiet d.list d h.0 h.1)
@@ -280,14 +274,14 @@ module _ (b : Bool) where
   more_paths token.Path w d h = nothing (list_path_act d.list w d)
   more_paths k w d h = tt
 
-  pub references_or_end : (k : TokenKind) (w : Word) (d : Draft) → IsKnownAs k w.text → Busy b None d → IfMade (Landed (starts symbol.ReferencesOrEnd k)) (in_references_act k w d)
+  pub references_or_end : (k : WordKind) (w : Word) (d : Draft) → IsKnownAs k w.text → Busy b None d → IfMade (Landed (starts symbol.ReferencesOrEnd k)) (in_references_act k w d)
   unfolding in_references_act
   references_or_end token.Asset w d known h = busy_made None d (asset_act d.list w d) (asset_taken None d.list w d known h.0 h.1)
   references_or_end token.Path w d known h = busy_made None d (lone_path_act d.list w d) (lone_path_taken None d.list w d known h.0 h.1)
   references_or_end token.CloseBracket w d known h = quiet_bare (end_act d.list d) (end_quiet d.list d h.0 h.1)
   references_or_end k w d known h = tt
 
-  pub more_references : (k : TokenKind) (w : Word) (d : Draft) → Busy b None d → IfMade (Landed (starts symbol.MoreReferences k)) (in_references_act k w d)
+  pub more_references : (k : WordKind) (w : Word) (d : Draft) → Busy b None d → IfMade (Landed (starts symbol.MoreReferences k)) (in_references_act k w d)
   unfolding in_references_act
   more_references token.Comma w d h = h
   more_references token.CloseBracket w d h = quiet_bare (end_act d.list d) (end_quiet d.list d h.0 h.1)
@@ -345,7 +339,7 @@ module _ (b : Bool) where
   unfolding edit_act
   edit_quiet w d name q = (record { specs = q.0.specs; outer = q.0.outer; typed = q.0.typed; opening = q.0.opening; sublayers = q.0.sublayers; aim = q.0.aim; word = λ n. name }, q.1)
 
-  pub head_items : (k : TokenKind) (w : Word) (d : Draft) → IsKnownAs k w.text → Quiet b d → IfMade (Landed (starts symbol.HeadItems k)) (head_item_act k w d)
+  pub head_items : (k : WordKind) (w : Word) (d : Draft) → IsKnownAs k w.text → Quiet b d → IfMade (Landed (starts symbol.HeadItems k)) (head_item_act k w d)
   unfolding head_item_act sublayers_act
   head_items token.Quoted w d known q = landed_quiet (starts symbol.HeadItems token.Quoted) _ refl (comment_quiet b w d q)
   head_items (token.Word word.SubLayers) w d known q =
@@ -354,7 +348,7 @@ module _ (b : Bool) where
   head_items (token.Word x) w d known q = landed_quiet (starts symbol.HeadItems (token.Word x)) _ refl (key_quiet w.text w.start d known.0 q)
   head_items k w d known q = nothing (key_act w.text w.start d)
 
-  pub prim_items : (k : TokenKind) (w : Word) (d : Draft) → IsKnownAs k w.text → Quiet b d → IfMade (Landed (starts symbol.PrimMetadata k)) (prim_item_act k w d)
+  pub prim_items : (k : WordKind) (w : Word) (d : Draft) → IsKnownAs k w.text → Quiet b d → IfMade (Landed (starts symbol.PrimMetadata k)) (prim_item_act k w d)
   unfolding prim_item_act
   prim_items token.Quoted w d known q = landed_quiet (starts symbol.PrimMetadata token.Quoted) _ refl (comment_quiet b w d q)
   prim_items (token.Word word.Edit) w d known q = landed_quiet (starts symbol.PrimMetadata (token.Word word.Edit)) _ refl (edit_quiet w d (known.0, ap is_plain_key known.1) q)
@@ -366,7 +360,7 @@ module _ (b : Bool) where
   prim_items (token.Word x) w d known q = landed_quiet (starts symbol.PrimMetadata (token.Word x)) _ refl (key_quiet w.text w.start d known.0 q)
   prim_items k w d known q = nothing (key_act w.text w.start d)
 
-  pub edited_fields : (k : TokenKind) (w : Word) (d : Draft) → b ≡ true → Quiet b d → IfMade (Landed (starts symbol.EditedField k)) (edited_act k w d)
+  pub edited_fields : (k : WordKind) (w : Word) (d : Draft) → b ≡ true → Quiet b d → IfMade (Landed (starts symbol.EditedField k)) (edited_act k w d)
   unfolding edited_act
   edited_fields token.Equals w d noted q = landed_quiet (starts symbol.EditedField token.Equals) _ refl (key_quiet d.word d.word_at d (q.0.word noted).0 q)
   edited_fields (token.Word word.StringField) w d noted q = string_field_busy d.edit w d q
@@ -374,17 +368,17 @@ module _ (b : Bool) where
   edited_fields (token.Word word.ReferenceField) w d noted q = reference_field_busy d.edit w d q
   edited_fields k w d noted q = tt
 
-  pub targets : (k : TokenKind) (d : Draft) → Quiet b d → IfMade (Landed (starts symbol.MaybeTargets k)) (list_begun d)
+  pub targets : (k : WordKind) (d : Draft) → Quiet b d → IfMade (Landed (starts symbol.MaybeTargets k)) (list_begun d)
   targets token.Equals d q = property_list_busy d q
   targets k d q = nothing (list_begun d)
 
-  pub after_dot : (k : TokenKind) (at : ℕ) (d : Draft) → Quiet b d → IfMade (Landed (starts symbol.AfterDot k)) (dot_act k at d)
+  pub after_dot : (k : WordKind) (at : ℕ) (d : Draft) → Quiet b d → IfMade (Landed (starts symbol.AfterDot k)) (dot_act k at d)
   unfolding dot_act
   after_dot (token.Word word.TimeSamples) at d q = landed_quiet (starts symbol.AfterDot (token.Word word.TimeSamples)) _ refl (quiet_made b d (samples_begun d) (samples_beside d) q)
   after_dot (token.Word word.Connect) at d q = property_list_busy d q
   after_dot k at d q = tt
 
-  pub connect_words : (k : TokenKind) (at : ℕ) (d : Draft) → Quiet b d → IfMade (Landed (starts symbol.ConnectWord k)) (dot_act k at d)
+  pub connect_words : (k : WordKind) (at : ℕ) (d : Draft) → Quiet b d → IfMade (Landed (starts symbol.ConnectWord k)) (dot_act k at d)
   unfolding dot_act
   connect_words (token.Word word.TimeSamples) at d q = nothing (samples_begun d)
   connect_words (token.Word word.Connect) at d q = property_list_busy d q
@@ -392,17 +386,17 @@ module _ (b : Bool) where
 
   -- ---- the sublayers
 
-  pub sublayers_or_end : (k : TokenKind) (w : Word) (d : Draft) → IsKnownAs k w.text → Quiet b d → d.list ≡ open_list.SubLayers → IfMade (Landed (starts symbol.SubLayersOrEnd k)) (sublayer_act k w d)
+  pub sublayers_or_end : (k : WordKind) (w : Word) (d : Draft) → IsKnownAs k w.text → Quiet b d → d.list ≡ open_list.SubLayers → IfMade (Landed (starts symbol.SubLayersOrEnd k)) (sublayer_act k w d)
   unfolding sublayer_act
   sublayers_or_end token.Asset w d known q is = ((record { specs = q.0.specs; outer = q.0.outer; typed = q.0.typed; opening = q.0.opening; sublayers = all_push IsProperSublayer d.sublayers (sublayer_of w.text) q.0.sublayers (sublayers_read.asset w.text known); aim = q.0.aim; word = q.0.word }, q.1), is)
   sublayers_or_end token.CloseBracket w d known q is = bare d q
   sublayers_or_end k w d known q is = tt
 
-  pub sub_list : (k : TokenKind) (d : Draft) → State sublayers false d → Landed (starts symbol.SubLayerList k) d
+  pub sub_list : (k : WordKind) (d : Draft) → State sublayers false d → Landed (starts symbol.SubLayerList k) d
   sub_list token.OpenBracket d s = s
   sub_list k d s = tt
 
-  pub sub_more : (k : TokenKind) (d : Draft) → State sublayers false d → Landed (starts symbol.MoreSubLayers k) d
+  pub sub_more : (k : WordKind) (d : Draft) → State sublayers false d → Landed (starts symbol.MoreSubLayers k) d
   sub_more token.Comma d s = s
   sub_more token.CloseBracket d s = bare d s.0
   sub_more k d s = tt

@@ -1,9 +1,11 @@
 -- Each word of a text keeps what is said sound.
 use Rattle.fields_read.specs.Sound.{IsSaid}
 use Rattle.std.proofs.Common.{◌≡◌, ◌∙◌, ◌⊎◌, inl, inr, ℕ, ◌+◌, ◌<◌, length, Bool, true, false, List, Option, Some, None, Result, Ok, sym, refl, subst, arith, ap, [], ◌∷◌, ◌++◌}
+use Rattle.std.proofs.lemmas.Bool.{false_from_ne_true}
 use Rattle.sdf_paths.specs.Paths.{IsPath}
 use Rattle.sdf_values.specs.declared.value.Value.{Value}
 use Rattle.text_syntax.specs.Open.{IsOfValue, begins_value}
+use Rattle.text_syntax.proofs.Tokens.{acted_by}
 use Rattle.usda_drafts.specs.Acts.{act, bodies_act, prims_act, layers_act}
 use Rattle.usda_drafts.specs.Lists.{item_path_act, number_act, offset_key_act}
 use Rattle.usda_drafts.specs.Metadata.{prim_item_act, edit_act}
@@ -17,13 +19,11 @@ use Rattle.usda_drafts.specs.declared.draft.OpenList.TheVariants as open_list
 use Rattle.usda_fields.specs.Keys.{key_rule, rule_shape}
 use Rattle.usda_fields.specs.Owners.{value_act}
 use Rattle.usda_fields.specs.Variants.{selections_act}
-use Rattle.usda_fields.specs.declared.keys.KeyRule.{KeyRule}
-use Rattle.usda_fields.specs.declared.keys.KeyRule.TheVariants.{Relocates, Comment, Boolean, DefaultPrim, Free}
 use Rattle.usda_grammar.specs.Machine.{step}
 use Rattle.usda_grammar.specs.Table.{starts}
 use Rattle.usda_grammar.specs.declared.kinds.Keyword.TheVariants as word
-use Rattle.usda_grammar.specs.declared.kinds.TokenKind.{TokenKind}
-use Rattle.usda_grammar.specs.declared.kinds.TokenKind.TheVariants as token
+use Rattle.usda_grammar.specs.declared.kinds.WordKind.{WordKind}
+use Rattle.usda_grammar.specs.declared.kinds.WordKind.TheVariants as token
 use Rattle.usda_grammar.specs.declared.symbols.Symbol.{Symbol}
 use Rattle.usda_grammar.specs.declared.symbols.Symbol.TheVariants as symbol
 use Rattle.usda_lists.specs.Offsets.{offset_key}
@@ -31,50 +31,45 @@ use Rattle.usda_statements.specs.OpenValues.{is_open, no_value}
 use Rattle.usda_statements.specs.PropertyDrafts.{meta_act, with_default, with_sample}
 use Rattle.usda_words.specs.Words.{Word}
 use Rattle.value_texts.specs.Following.{IsOfToken}
-use Rattle.value_texts.specs.Readable.{is_read_as}
 use Rattle.fields_read.specs.Laws.{IsReadFor}
 use Rattle.fields_read.proofs.Keys.{keys_read}
 use Rattle.fields_read.proofs.Others.{others_read}
 use Rattle.values_read.specs.Owners.{ArePlaced}
-use Rattle.values_read.specs.Sound.{IsSound, is_kept_as}
+use Rattle.values_read.specs.Sound.{IsSound}
 use Rattle.values_read.specs.Tokens.{IsLexedWord}
 use Rattle.values_read.specs.Words.{IsOpenSound, ValueGoesOn}
 use Rattle.values_read.proofs.Acts.{words_keep}
 use Rattle.values_read.proofs.Placed.{owners_have_paths}
+use Rattle.values_read.proofs.Proper.{kept_read}
 use Rattle.trees_read.proofs.Fields.{IfMade}
 use Rattle.trees_read.specs.Drafts.{IsNested, Follows as TreeFollows}
 use Rattle.trees_read.specs.Stacks.{ends, names, is_opening, is_of_statement}
 use Rattle.trees_read.proofs.Stacks.{opened_by}
-use Rattle.trees_read.proofs.Texts.{read_trees}
+use Rattle.trees_read.proofs.Texts.{read_trees, none_left}
 use Rattle.properties_read.specs.Aims.{awaits_value, IsAiming}
-use Rattle.properties_read.specs.Drafts.{IsNameWord}
 use Rattle.properties_read.proofs.Aiming.{Aimed, found, steps_aimed}
-use Rattle.trees_read.proofs.Kept.{acted_by, made_of, value_symbol}
+use Rattle.properties_read.proofs.Aimed.{token_aimed}
+use Rattle.trees_read.proofs.Kept.{made_of, value_symbol}
 use Rattle.trees_read.proofs.ListActs.{then_any}
 use Rattle.trees_read.proofs.ListRows.{Part, none, begun, brackets, sublayers, part_of, part, is_none, is_of_item, has_item, is_light, are_on_top, begins_list}
 use Rattle.trees_read.proofs.ListStacks.{NoParts, Listed, listed, is_the_none}
 use Rattle.trees_read.proofs.Prims.{placed_made}
+use Rattle.trees_read.proofs.ListHands.{weaker}
 use Rattle.layers_read.proofs.Rows.{is_edited, has_edited, is_edit, is_noted}
 use Rattle.usda_grammar.specs.Words.{keyword_of}
 use Rattle.usda_grammar.specs.declared.kinds.Keyword.{Keyword}
 use Rattle.usda_drafts.specs.declared.owner.Owner.{Owner}
 use Rattle.layer_reads.specs.Keys.{is_plain_key}
 use Rattle.layers_read.proofs.Fits.{Fits, Fitted, fitted}
-use Rattle.layers_read.proofs.KeyAims.{IsAimedAt, IsAimed, aimed_again, token_aimed, IsAt, word_aimed}
+use Rattle.layers_read.proofs.KeyAims.{IsAimedAt, IsAimed, aimed_again, IsAt, word_aimed, expects}
 use Rattle.layers_read.proofs.States.{name_for, IsInside, IsNoted, IsAimedFor, Rest, Quiet, Busy, Same, quiet_beside, quiet_made, busy_same, rest_said}
 use Rattle.layers_read.proofs.Words.{IsKnownAs, known}
 use Rattle.layers_read.proofs.Others.{IfPlaced, set_beside, said_quiet, said_made, root_order_quiet, order_name_quiet, after_reorder_quiet, body_quiet, after_custom_quiet, after_variability_quiet, after_edit_quiet, brackets_quiet, name_quiet, tail_quiet, sample_quiet, property_item_quiet, root_quiet, open_quiet, type_quiet, prim_quiet, variant_quiet, end_quiet}
-use Rattle.layers_read.proofs.Hands.{weaker, rest_property, short_quiet, item_path_busy, number_busy, sub_path, sub_number, State, Landed, string_list, path_list, reference_list, strings_or_end, more_strings, paths_or_end, more_paths, references_or_end, more_references, head_items, prim_items, edited_fields, targets, after_dot, connect_words, sublayers_or_end, sub_list, sub_more}
+use Rattle.layers_read.proofs.Hands.{rest_property, short_quiet, item_path_busy, number_busy, sub_path, sub_number, State, Landed, string_list, path_list, reference_list, strings_or_end, more_strings, paths_or_end, more_paths, references_or_end, more_references, head_items, prim_items, edited_fields, targets, after_dot, connect_words, sublayers_or_end, sub_list, sub_more}
 use Rattle.layers_read.proofs.Stacks.{Took, took, edited_after, path_known, type_known, value_bare, no_parts}
+use Rattle.layers_read.proofs.Properties.{begun_awaited, name_known}
 
 -- ---- values
-
-kept_read : (rule : KeyRule) (v : Value) → is_kept_as v (rule_shape rule) true ≡ true → is_read_as v (rule_shape rule) true ≡ true
-kept_read Relocates v h = h
-kept_read Comment v h = h
-kept_read Boolean v h = h
-kept_read DefaultPrim v h = h
-kept_read Free v h = h
 
 read_for : (is_name : Keyword → Bool) (a : Aim) (v : Value) → IsAimedFor goal.OwnerKey a → is_name (keyword_of a.key) ≡ true → IsSound 0 a.shape true v → IsReadFor is_name a.key v
 read_for is_name a v aim name is =
@@ -242,7 +237,7 @@ module _ (b : Bool) where
 
   -- ---- a word
 
-  landed_state : (k : TokenKind) (s : Symbol) (rest after : List Symbol) (next : Draft) → starts s k ≡ Some rest → part after ≡ part rest → has_item after ≡ has_item rest → Landed b (starts s k) next → State b (part after) (has_item after) next
+  landed_state : (k : WordKind) (s : Symbol) (rest after : List Symbol) (next : Draft) → starts s k ≡ Some rest → part after ≡ part rest → has_item after ≡ has_item rest → Landed b (starts s k) next → State b (part after) (has_item after) next
   landed_state k s rest after next is p item h =
       subst (λ x. State b x (has_item after) next) (sym p) (subst (λ x. State b (part rest) x next) (sym item) (subst (λ (o : Option (List Symbol)). Landed b o next) is h))
 
@@ -257,7 +252,7 @@ restate b c begun item d h s = (rest_again b c d h s.0, s.1)
 restate b c brackets item d h s = (rest_again b c d h s.0, s.1)
 restate b c sublayers item d h s = ((rest_again b c d h s.0.0, s.0.1), s.1)
 
-noted_item : (k : TokenKind) (w : Word) (d : Draft) → is_edit k ≡ true → IsKnownAs k w.text → IfMade (λ n. IsNoted n.word) (prim_item_act k w d)
+noted_item : (k : WordKind) (w : Word) (d : Draft) → is_edit k ≡ true → IsKnownAs k w.text → IfMade (λ n. IsNoted n.word) (prim_item_act k w d)
 unfolding prim_item_act edit_act
 noted_item (token.Word word.Edit) w d h is = (is.0, ap is_plain_key is.1)
 noted_item (token.Word word.Reorder) w d h is = (is.0, ap is_plain_key is.1)
@@ -268,7 +263,7 @@ unfolding bodies_act prims_act
 noted_word symbol.PrimMetadata w d h is = noted_item w.kind w d h is
 noted_word _ w d h is = absurd cc
 
-noted_apart : (s : Symbol) (k : TokenKind) → is_of_statement s ≡ false → is_noted s k ≡ false
+noted_apart : (s : Symbol) (k : WordKind) → is_of_statement s ≡ false → is_noted s k ≡ false
 noted_apart symbol.PrimMetadata k h = absurd cc
 noted_apart s k h = refl
 
@@ -294,16 +289,12 @@ pub record Follows (stack : List Symbol) (d : Draft) : Type 0 where
   pub state : State (has_edited stack) (part stack) (has_item stack) d
   pub aimed : (is_open d.value ≡ true) ⊎ (awaits_value stack ≡ true) → IsAimed d
 
-isnt : (c : Bool) → (c ≡ true → ⊥) → c ≡ false
-isnt true h = absurd (h refl)
-isnt false h = refl
-
 module _ (stack : List Symbol) (d : Draft) (w : Word) (s : Symbol) (after : List Symbol) (next : Draft) (f : Follows stack d) (l : Listed stack w.kind s after) (t : Took stack w.kind s after) (is : IsKnownAs w.kind w.text) where
   opened_state : part stack ≡ none → has_item stack ≡ false → is_of_statement s ≡ false → Quiet (has_edited stack) next → State (has_edited stack) (part after) (has_item after) next
   opened_state no_part no_item apart q = by (is_light s) refl
     where
       by : (c : Bool) → is_light s ≡ c → State (has_edited stack) (part after) (has_item after) next
-      by true light = bare_state (has_edited stack) after next ((l.light light).0 ∙ no_part) (isnt (has_item after) (λ h. let bad : true ≡ false = sym ((l.light light).1 h) ∙ no_item in absurd cc)) q
+      by true light = bare_state (has_edited stack) after next ((l.light light).0 ∙ no_part) (false_from_ne_true (has_item after) (λ h. let bad : true ≡ false = sym ((l.light light).1 h) ∙ no_item in absurd cc)) q
       by false heavy =
           let h = l.heavy heavy in
           let n : NoParts after = l.plain heavy (begins_apart s apart) (sym h.2 ∙ no_part) in
@@ -336,15 +327,11 @@ module _ (stack : List Symbol) (d : Draft) (w : Word) (s : Symbol) (after : List
 
 -- ---- where keys may stand
 
-none_left : {A : Type 0} (xs : List A) → length xs ≡ 0 → xs ≡ []
-none_left [] h = refl
-none_left (x ∷ xs) h = absurd (omega arith)
-
 inside_of : (outer : List Owner) → 0 < length outer → IsInside outer
 inside_of [] h = absurd (omega arith)
 inside_of (o ∷ outer) h = tt
 
-count_of : (stack : List Symbol) (k : TokenKind) (s : Symbol) (after : List Symbol) (d : Draft) → IsNested stack d → step stack k ≡ Some (s, after) → is_opening s ≡ false → length d.outer + names stack ≡ ends stack
+count_of : (stack : List Symbol) (k : WordKind) (s : Symbol) (after : List Symbol) (d : Draft) → IsNested stack d → step stack k ≡ Some (s, after) → is_opening s ≡ false → length d.outer + names stack ≡ ends stack
 count_of stack k s after d nested taken apart = nested.counted (by d.opening.is_too_deep refl)
   where
     by : (c : Bool) → d.opening.is_too_deep ≡ c → d.opening.is_too_deep ≡ false
@@ -357,19 +344,10 @@ at_of symbol.PrimMetadata stack after d count fit noted = inside_of d.outer (ome
 at_of symbol.EditedField stack after d count fit noted = (noted refl, inside_of d.outer (omega (arith, count refl, fit.ends_here, fit.names_here, fit.here)))
 at_of s stack after d count fit noted = tt
 
-begun_awaited : (s : Symbol) (below : List Symbol) → begins_value s ≡ true → awaits_value (s ∷ below) ≡ true
-begun_awaited symbol.Value below h = refl
-begun_awaited symbol.Dictionary below h = refl
-begun_awaited _ below h = absurd cc
-
-name_word : (k : TokenKind) (w : Word) → IsKnownAs k w.text → IsNameWord k w
-name_word (token.Word x) w h = h.0
-name_word k w h = tt
-
 pub kept : (stack : List Symbol) (d : Draft) (w : Word) (s : Symbol) (after : List Symbol) (next : Draft) → IsOfToken w → IsLexedWord w → Follows stack d → step stack w.kind ≡ Some (s, after) → act s w d ≡ Ok next → Follows after next
 kept stack d w s after next token lexed f taken acted = record {
   tree = read_trees.kept stack d w s after next token f.tree taken acted;
-  aiming = steps_aimed.kept stack after s w d next taken acted (name_word w.kind w is) f.aiming;
+  aiming = steps_aimed.kept stack after s w d next taken acted (name_known w.kind w is) f.aiming;
   on_top = l.on_top;
   fits = fit.fits;
   sound = words_keep.kept s w d next t.rest lexed base f.sound t.starts_it acted;
@@ -406,7 +384,7 @@ kept stack d w s after next token lexed f taken acted = record {
     aimed h = by_act (is_open d.value) refl
       where
         by_act : (c : Bool) → is_open d.value ≡ c → IsAimed next
-        by_act true opened = token_aimed w d next (acted_by s w d next true opened acted) (f.aimed (inl opened))
+        by_act true opened = token_aimed IsAimedAt expects w d next (acted_by s w d next true opened acted) (f.aimed (inl opened))
         by_act false shut = word_aimed s w d next at.pushed at.below at.starts_is at.calm is at_owner (λ g. f.aimed (inr (at.awaited g))) shut (acted_by s w d next false shut acted) h
 
     goes : IsOfValue s d → ValueGoesOn d w next

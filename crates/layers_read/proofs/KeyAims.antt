@@ -1,8 +1,7 @@
 -- Where the value of a key of an owner is open or comes next, the key may stand there.
-use Rattle.std.proofs.Common.{◌≡◌, ◌∙◌, sym, ap, refl, subst, ℕ, Bool, true, false, not, List, [], ◌∷◌, ◌++◌, Option, Some, Ok, Err, ◌⊎◌, inl, inr}
-use Rattle.std.specs.Prelude.{Result, if◌then◌else◌}
+use Rattle.std.proofs.Common.{◌≡◌, ◌∙◌, sym, ap, refl, subst, ℕ, true, false, not, List, [], ◌∷◌, ◌++◌, Some, Ok, ◌⊎◌, inl, inr}
+use Rattle.std.proofs.lemmas.Bool.{not-true}
 use Rattle.plain_data.specs.Exact.{both_true}
-use Rattle.sdf_values.specs.declared.refusal.RefusalKind.{RefusalKind}
 use Rattle.sdf_values.specs.declared.value.Value.{Value}
 use Rattle.usda_fields.specs.Owners as owner
 use Rattle.usda_fields.specs.Variants as variants
@@ -10,31 +9,29 @@ use Rattle.usda_fields.specs.declared.keys.KeyRule.{KeyRule}
 use Rattle.usda_grammar.specs.Table.{starts}
 use Rattle.usda_grammar.specs.Words.{keyword_of}
 use Rattle.usda_grammar.specs.declared.kinds.Keyword.TheVariants as word
-use Rattle.usda_grammar.specs.declared.kinds.TokenKind.{TokenKind}
-use Rattle.usda_grammar.specs.declared.kinds.TokenKind.TheVariants as token
+use Rattle.usda_grammar.specs.declared.kinds.WordKind.{WordKind}
+use Rattle.usda_grammar.specs.declared.kinds.WordKind.TheVariants as token
 use Rattle.usda_grammar.specs.declared.symbols.Symbol.{Symbol}
 use Rattle.usda_grammar.specs.declared.symbols.Symbol.TheVariants as symbol
-use Rattle.usda_statements.specs.OpenValues.{no_value, is_open, given, value_in}
+use Rattle.usda_statements.specs.OpenValues.{is_open}
 use Rattle.usda_statements.specs.PropertyDrafts.{with_default, with_sample, meta_act, default_act}
 use Rattle.usda_lexer.specs.Meanings.{number_of}
 use Rattle.usda_statements.specs.declared.open_value.OpenValue.{OpenValue}
 use Rattle.usda_words.specs.Words.{Word}
 use Rattle.usda_drafts.specs.Acts.{layers_act, prims_act, bodies_act}
-use Rattle.usda_statements.specs.Headings.{with_brackets}
 use Rattle.usda_statements.specs.declared.heading.Heading.{Heading}
-use Rattle.usda_drafts.specs.Bodies.{headed, brackets_act, default_begun, tail_act, sample_act}
+use Rattle.usda_drafts.specs.Bodies.{headed, default_begun, tail_act, sample_act}
 use Rattle.usda_drafts.specs.Metadata.{key_act, variants_act, edited_act, prim_item_act, head_item_act, property_rule, property_key_act, property_item_act}
-use Rattle.usda_drafts.specs.Values.{aimed, aimed_at_key, aimed_at_default, aimed_at_sample, time_of_number, time_act, with_said, with_property, completed, after_token, token_act, first_act, with_value_begun}
+use Rattle.usda_drafts.specs.Values.{aimed, aimed_at_key, aimed_at_default, aimed_at_sample, time_of_number, time_act, with_said, with_property, completed}
 use Rattle.usda_drafts.specs.declared.aim.Goal.{Goal}
 use Rattle.usda_drafts.specs.declared.aim.Goal.TheVariants as goal
 use Rattle.usda_drafts.specs.declared.draft.Draft.{Draft}
 use Rattle.layer_reads.specs.Keys.{is_plain_key, is_plain_head_key}
 use Rattle.properties_read.specs.Aims.{awaits_value, is_calm}
-use Rattle.properties_read.specs.Drafts.{begins_values}
-use Rattle.properties_read.proofs.Aiming.{is_not, none_behind, await_joined, mark_pushes, equals_pushes, colon_pushes, brace_pushes, bracket_pushes, same_draft}
+use Rattle.properties_read.proofs.Aiming.{none_behind, mark_pushes, equals_pushes, colon_pushes, brace_pushes, bracket_pushes}
 use Rattle.properties_read.proofs.Awaiting.{opens_still, starts_still}
 use Rattle.properties_read.proofs.Drafts.{then_made}
-use Rattle.properties_read.proofs.ValuesStay.{bodies_value}
+use Rattle.properties_read.proofs.Aimed.{same_draft, first_aimed, AimsOr, still, unless_still, mark_aimed, brackets_aimed, tail_aims, samples_aim, Expects}
 use Rattle.layers_read.proofs.States.{name_for, IsInside, plain_inside, root_head, IsNoted}
 use Rattle.layers_read.proofs.Words.{IsKnownAs}
 
@@ -76,22 +73,6 @@ completed_aimed goal.Sample v at d next is a e =
     let same : with_property d (with_sample d.aim.time v d.property) ≡ next = cc e in
     subst IsAimed {x = with_property d (with_sample d.aim.time v d.property)} same (subst (λ g. IsAimedAt g (with_property d (with_sample d.aim.time v d.property))) (sym is) tt)
 
-pub token_aimed : (w : Word) (d next : Draft) → token_act w d ≡ Ok next → IsAimed d → IsAimed next
-unfolding token_act
-token_aimed w d next e a = by (given d.owner.said.base w.token w.text d.value) e
-  where
-    whole : (v : OpenValue) (b : Bool) → (if b then Ok (record d { value = v }) else completed d.aim.goal (value_in v) w.start (record d { value = no_value })) ≡ Ok next → IsAimed next
-    whole v true e = let same : ◌≡◌ {A = Draft} (record d { value = v }) next = cc e in subst IsAimed {x = record d { value = v }} same (aimed_again d.aim.goal d v a)
-    whole v false e = completed_aimed d.aim.goal (value_in v) w.start (record d { value = no_value }) next refl (aimed_again d.aim.goal d no_value a) e
-
-    by : (r : Result OpenValue RefusalKind) → after_token r w.start d ≡ Ok next → IsAimed next
-    by (Err k) e = absurd cc
-    by (Ok v) e = whole v (is_open v) e
-
-first_aimed : (w : Word) (d next : Draft) → first_act w d ≡ Ok next → IsAimed d → IsAimed next
-unfolding first_act
-first_aimed w d next e a = token_aimed w (with_value_begun d) next e (aimed_again d.aim.goal d (with_value_begun d).value a)
-
 -- ---- words of owners
 
 key_aims : (key : List ℕ) (at : ℕ) (d next : Draft) → name_for d.outer (keyword_of key) ≡ true → key_act key at d ≡ Ok next → IsAimed next
@@ -116,84 +97,6 @@ sample_aimed : (w : Word) (d next : Draft) → sample_act token.Number w d ≡ O
 unfolding sample_act time_act
 sample_aimed w d next e = let m = then_made w.start (time_of_number (number_of w.text)) (λ time. aimed_at_sample time d) next e in subst IsAimed {x = aimed_at_sample m.0 d} m.1.1 tt
 
-key_aimed : (w : Word) (d next : Draft) → property_key_act w d ≡ Ok next → IsAimed next
-unfolding property_key_act aimed_at_key
-key_aimed w d next e = let m = then_made w.start (property_rule w.text d.property) (λ rule. aimed_at_key goal.PropertyKey w.text rule d) next e in subst IsAimed {x = aimed_at_key goal.PropertyKey w.text m.0 d} m.1.1 tt
-
--- ---- words behind which a value may come next
-
--- what is expected fits, or no value comes next
-abbrev AimsOr : List Symbol → Draft → Type 0
-AimsOr pushed next = IsAimed next ⊎ (awaits_value pushed ≡ false)
-
-still : (expected pushed : List Symbol) (next : Draft) → awaits_value expected ≡ false → ◌≡◌ {A = Option (List Symbol)} (Some expected) (Some pushed) → AimsOr pushed next
-still expected pushed next h e = let same : expected ≡ pushed = cc e in inr (subst (λ p. awaits_value p ≡ false) same h)
-
-metadata_aims : (k : TokenKind) (w : Word) (d next : Draft) (pushed : List Symbol) → starts symbol.PrimMetadata k ≡ Some pushed → IsKnownAs k w.text → IsInside d.outer → prim_item_act k w d ≡ Ok next → AimsOr pushed next
-unfolding prim_item_act
-metadata_aims (token.Word word.StringField) w d next pushed e is inside a = still (symbol.Equals ∷ symbol.StringList ∷ symbol.MaybeSemicolon ∷ symbol.PrimMetadata ∷ []) pushed next refl e
-metadata_aims (token.Word word.PathField) w d next pushed e is inside a = still (symbol.Equals ∷ symbol.PathList ∷ symbol.MaybeSemicolon ∷ symbol.PrimMetadata ∷ []) pushed next refl e
-metadata_aims (token.Word word.ReferenceField) w d next pushed e is inside a = still (symbol.Equals ∷ symbol.ReferenceList ∷ symbol.MaybeSemicolon ∷ symbol.PrimMetadata ∷ []) pushed next refl e
-metadata_aims (token.Word word.Edit) w d next pushed e is inside a = still (symbol.EditedField ∷ symbol.MaybeSemicolon ∷ symbol.PrimMetadata ∷ []) pushed next refl e
-metadata_aims (token.Word word.Reorder) w d next pushed e is inside a = still (symbol.EditedField ∷ symbol.MaybeSemicolon ∷ symbol.PrimMetadata ∷ []) pushed next refl e
-metadata_aims token.Quoted w d next pushed e is inside a = still (symbol.MaybeSemicolon ∷ symbol.PrimMetadata ∷ []) pushed next refl e
-metadata_aims (token.Word word.Variants) w d next pushed e is inside a = inl (variants_aims w d next a)
-metadata_aims (token.Word x) w d next pushed e is inside a = inl (key_aims w.text w.start d next (ap (λ f. f (keyword_of w.text)) (plain_inside d.outer inside) ∙ ap is_plain_key is.1 ∙ refl) a)
-metadata_aims k w d next pushed e is inside a = absurd cc
-
-head_aims : (k : TokenKind) (w : Word) (d next : Draft) (pushed : List Symbol) → starts symbol.HeadItems k ≡ Some pushed → IsKnownAs k w.text → d.outer ≡ [] → head_item_act k w d ≡ Ok next → AimsOr pushed next
-unfolding head_item_act
-head_aims (token.Word word.SubLayers) w d next pushed e is root a = still (symbol.Equals ∷ symbol.SubLayerList ∷ symbol.MaybeSemicolon ∷ symbol.HeadItems ∷ []) pushed next refl e
-head_aims token.Quoted w d next pushed e is root a = still (symbol.MaybeSemicolon ∷ symbol.HeadItems ∷ []) pushed next refl e
-head_aims (token.Word x) w d next pushed e is root a = inl (key_aims w.text w.start d next (ap (λ f. f (keyword_of w.text)) (root_head d.outer root) ∙ ap is_plain_head_key is.1 ∙ refl) a)
-head_aims k w d next pushed e is root a = absurd cc
-
-edited_aims : (k : TokenKind) (w : Word) (d next : Draft) (pushed : List Symbol) → starts symbol.EditedField k ≡ Some pushed → IsNoted d.word → IsInside d.outer → edited_act k w d ≡ Ok next → AimsOr pushed next
-unfolding edited_act
-edited_aims token.Equals w d next pushed e noted inside a = inl (key_aims d.word d.word_at d next (ap (λ f. f (keyword_of d.word)) (plain_inside d.outer inside) ∙ noted.1) a)
-edited_aims (token.Word word.StringField) w d next pushed e noted inside a = still (symbol.Equals ∷ symbol.StringList ∷ []) pushed next refl e
-edited_aims (token.Word word.PathField) w d next pushed e noted inside a = still (symbol.Equals ∷ symbol.PathList ∷ []) pushed next refl e
-edited_aims (token.Word word.ReferenceField) w d next pushed e noted inside a = still (symbol.Equals ∷ symbol.ReferenceList ∷ []) pushed next refl e
-edited_aims k w d next pushed e noted inside a = absurd cc
-
-tail_aims : (k : TokenKind) (d next : Draft) (pushed : List Symbol) → starts symbol.MaybeAttributeTail k ≡ Some pushed → tail_act k d ≡ Ok next → AimsOr pushed next
-tail_aims token.Equals d next pushed e a = inl (default_aimed d next a)
-tail_aims token.OpenParen d next pushed e a = still (symbol.PropertyMetadata ∷ symbol.CloseParen ∷ []) pushed next refl e
-tail_aims token.Dot d next pushed e a = still (symbol.AfterDot ∷ []) pushed next refl e
-tail_aims k d next pushed e a = absurd cc
-
-samples_aim : (k : TokenKind) (w : Word) (d next : Draft) (pushed : List Symbol) → starts symbol.SamplesOrEnd k ≡ Some pushed → sample_act k w d ≡ Ok next → AimsOr pushed next
-samples_aim token.Number w d next pushed e a = inl (sample_aimed w d next a)
-samples_aim token.CloseBrace w d next pushed e a = still [] pushed next refl e
-samples_aim k w d next pushed e a = absurd cc
-
-property_aims : (k : TokenKind) (w : Word) (d next : Draft) (pushed : List Symbol) → starts symbol.PropertyMetadata k ≡ Some pushed → property_item_act k w d ≡ Ok next → AimsOr pushed next
-unfolding property_item_act
-property_aims (token.Word x) w d next pushed e a = inl (key_aimed w d next a)
-property_aims token.Quoted w d next pushed e a = still (symbol.MaybeSemicolon ∷ symbol.PropertyMetadata ∷ []) pushed next refl e
-property_aims k w d next pushed e a = absurd cc
-
--- ---- all symbols
-
--- no value is open behind the word, and none comes next
-unaimed : (s : Symbol) (w : Word) (d next : Draft) (pushed below : List Symbol) → begins_values s ≡ false → is_open d.value ≡ false → bodies_act s w d ≡ Ok next → awaits_value (pushed ++ below) ≡ false
-    → (is_open next.value ≡ true) ⊎ (awaits_value (pushed ++ below) ≡ true) → IsAimed next
-unaimed s w d next pushed below v shut b none (inl o) = absurd (let same : is_open next.value ≡ is_open d.value = ap is_open (bodies_value s w d next v b) in cc)
-unaimed s w d next pushed below v shut b none (inr h) = absurd cc
-
-unless_still : (s : Symbol) (w : Word) (d next : Draft) (pushed below : List Symbol) → begins_values s ≡ false → is_open d.value ≡ false → bodies_act s w d ≡ Ok next → awaits_value below ≡ false → AimsOr pushed next
-    → (is_open next.value ≡ true) ⊎ (awaits_value (pushed ++ below) ≡ true) → IsAimed next
-unless_still s w d next pushed below v shut b none (inl a) h = a
-unless_still s w d next pushed below v shut b none (inr p) h = unaimed s w d next pushed below v shut b (await_joined pushed below none ∙ p) h
-
--- what a plain word does to a value that comes next
--- marks, which are one word
--- behind a mark that says nothing, what came next still does
-mark_aimed : (d next : Draft) (pushed below : List Symbol) → pushed ≡ [] → (awaits_value below ≡ true → IsAimed d) → is_open d.value ≡ false → d ≡ next
-    → (is_open next.value ≡ true) ⊎ (awaits_value (pushed ++ below) ≡ true) → IsAimed next
-mark_aimed d next pushed below p aimed shut same (inl o) = absurd (let one : is_open d.value ≡ is_open next.value = ap (λ (x : Draft). is_open x.value) same in cc)
-mark_aimed d next pushed below p aimed shut same (inr g) = subst IsAimed same (aimed (ap (λ q. awaits_value (q ++ below)) (sym p) ∙ g))
-
 headed_aimed : (g : Goal) (d : Draft) (h : Heading) → IsAimedAt g d → IsAimedAt g (headed h d)
 headed_aimed goal.Nothing d h a = a
 headed_aimed goal.OwnerKey d h a = a
@@ -202,14 +105,50 @@ headed_aimed goal.PropertyKey d h a = a
 headed_aimed goal.Default d h a = a
 headed_aimed goal.Sample d h a = a
 
-brackets_aimed : (w : Word) (d next : Draft) (pushed below : List Symbol) → pushed ≡ symbol.CloseBracket ∷ [] → (awaits_value below ≡ true → IsAimed d) → is_open d.value ≡ false → brackets_act d ≡ Ok next
-    → (is_open next.value ≡ true) ⊎ (awaits_value (pushed ++ below) ≡ true) → IsAimed next
-unfolding brackets_act
-brackets_aimed w d next pushed below p aimed shut b h = by (same_draft (headed (with_brackets d.heading) d) next b) h
-  where
-    by : headed (with_brackets d.heading) d ≡ next → (is_open next.value ≡ true) ⊎ (awaits_value (pushed ++ below) ≡ true) → IsAimed next
-    by same (inl o) = absurd (let one : is_open d.value ≡ is_open next.value = ap (λ (x : Draft). is_open x.value) same in cc)
-    by same (inr g) = subst IsAimed {x = headed (with_brackets d.heading) d} same (headed_aimed d.aim.goal d (with_brackets d.heading) (aimed (ap (λ q. awaits_value (q ++ below)) (sym p) ∙ g)))
+-- what is expected of a value that goes to a key of an owner
+pub expects : Expects IsAimedAt
+expects = record { again = aimed_again; under = headed_aimed; complete = completed_aimed; default = default_aimed; sample = sample_aimed }
+
+key_aimed : (w : Word) (d next : Draft) → property_key_act w d ≡ Ok next → IsAimed next
+unfolding property_key_act aimed_at_key
+key_aimed w d next e = let m = then_made w.start (property_rule w.text d.property) (λ rule. aimed_at_key goal.PropertyKey w.text rule d) next e in subst IsAimed {x = aimed_at_key goal.PropertyKey w.text m.0 d} m.1.1 tt
+
+-- ---- words behind which a value may come next
+
+metadata_aims : (k : WordKind) (w : Word) (d next : Draft) (pushed : List Symbol) → starts symbol.PrimMetadata k ≡ Some pushed → IsKnownAs k w.text → IsInside d.outer → prim_item_act k w d ≡ Ok next → AimsOr IsAimedAt pushed next
+unfolding prim_item_act
+metadata_aims (token.Word word.StringField) w d next pushed e is inside a = still IsAimedAt (symbol.Equals ∷ symbol.StringList ∷ symbol.MaybeSemicolon ∷ symbol.PrimMetadata ∷ []) pushed next refl e
+metadata_aims (token.Word word.PathField) w d next pushed e is inside a = still IsAimedAt (symbol.Equals ∷ symbol.PathList ∷ symbol.MaybeSemicolon ∷ symbol.PrimMetadata ∷ []) pushed next refl e
+metadata_aims (token.Word word.ReferenceField) w d next pushed e is inside a = still IsAimedAt (symbol.Equals ∷ symbol.ReferenceList ∷ symbol.MaybeSemicolon ∷ symbol.PrimMetadata ∷ []) pushed next refl e
+metadata_aims (token.Word word.Edit) w d next pushed e is inside a = still IsAimedAt (symbol.EditedField ∷ symbol.MaybeSemicolon ∷ symbol.PrimMetadata ∷ []) pushed next refl e
+metadata_aims (token.Word word.Reorder) w d next pushed e is inside a = still IsAimedAt (symbol.EditedField ∷ symbol.MaybeSemicolon ∷ symbol.PrimMetadata ∷ []) pushed next refl e
+metadata_aims token.Quoted w d next pushed e is inside a = still IsAimedAt (symbol.MaybeSemicolon ∷ symbol.PrimMetadata ∷ []) pushed next refl e
+metadata_aims (token.Word word.Variants) w d next pushed e is inside a = inl (variants_aims w d next a)
+metadata_aims (token.Word x) w d next pushed e is inside a = inl (key_aims w.text w.start d next (ap (λ f. f (keyword_of w.text)) (plain_inside d.outer inside) ∙ ap is_plain_key is.1 ∙ refl) a)
+metadata_aims k w d next pushed e is inside a = absurd cc
+
+head_aims : (k : WordKind) (w : Word) (d next : Draft) (pushed : List Symbol) → starts symbol.HeadItems k ≡ Some pushed → IsKnownAs k w.text → d.outer ≡ [] → head_item_act k w d ≡ Ok next → AimsOr IsAimedAt pushed next
+unfolding head_item_act
+head_aims (token.Word word.SubLayers) w d next pushed e is root a = still IsAimedAt (symbol.Equals ∷ symbol.SubLayerList ∷ symbol.MaybeSemicolon ∷ symbol.HeadItems ∷ []) pushed next refl e
+head_aims token.Quoted w d next pushed e is root a = still IsAimedAt (symbol.MaybeSemicolon ∷ symbol.HeadItems ∷ []) pushed next refl e
+head_aims (token.Word x) w d next pushed e is root a = inl (key_aims w.text w.start d next (ap (λ f. f (keyword_of w.text)) (root_head d.outer root) ∙ ap is_plain_head_key is.1 ∙ refl) a)
+head_aims k w d next pushed e is root a = absurd cc
+
+edited_aims : (k : WordKind) (w : Word) (d next : Draft) (pushed : List Symbol) → starts symbol.EditedField k ≡ Some pushed → IsNoted d.word → IsInside d.outer → edited_act k w d ≡ Ok next → AimsOr IsAimedAt pushed next
+unfolding edited_act
+edited_aims token.Equals w d next pushed e noted inside a = inl (key_aims d.word d.word_at d next (ap (λ f. f (keyword_of d.word)) (plain_inside d.outer inside) ∙ noted.1) a)
+edited_aims (token.Word word.StringField) w d next pushed e noted inside a = still IsAimedAt (symbol.Equals ∷ symbol.StringList ∷ []) pushed next refl e
+edited_aims (token.Word word.PathField) w d next pushed e noted inside a = still IsAimedAt (symbol.Equals ∷ symbol.PathList ∷ []) pushed next refl e
+edited_aims (token.Word word.ReferenceField) w d next pushed e noted inside a = still IsAimedAt (symbol.Equals ∷ symbol.ReferenceList ∷ []) pushed next refl e
+edited_aims k w d next pushed e noted inside a = absurd cc
+
+property_aims : (k : WordKind) (w : Word) (d next : Draft) (pushed : List Symbol) → starts symbol.PropertyMetadata k ≡ Some pushed → property_item_act k w d ≡ Ok next → AimsOr IsAimedAt pushed next
+unfolding property_item_act
+property_aims (token.Word x) w d next pushed e a = inl (key_aimed w d next a)
+property_aims token.Quoted w d next pushed e a = still IsAimedAt (symbol.MaybeSemicolon ∷ symbol.PropertyMetadata ∷ []) pushed next refl e
+property_aims k w d next pushed e a = absurd cc
+
+-- ---- all symbols
 
 -- what is known of the owner where a key may stand next
 abbrev pub IsAt : Symbol → Draft → Type 0
@@ -222,8 +161,8 @@ pub word_aimed : (s : Symbol) (w : Word) (d next : Draft) (pushed below : List S
     → (awaits_value (s ∷ below) ≡ true → IsAimed d) → is_open d.value ≡ false → bodies_act s w d ≡ Ok next
     → (is_open next.value ≡ true) ⊎ (awaits_value (pushed ++ below) ≡ true) → IsAimed next
 unfolding bodies_act prims_act layers_act
-word_aimed symbol.Value w d next pushed below e calm is at aimed shut b h = first_aimed w d next b (aimed refl)
-word_aimed symbol.Dictionary w d next pushed below e calm is at aimed shut b h = first_aimed w d next b (aimed refl)
+word_aimed symbol.Value w d next pushed below e calm is at aimed shut b h = first_aimed IsAimedAt expects w d next b (aimed refl)
+word_aimed symbol.Dictionary w d next pushed below e calm is at aimed shut b h = first_aimed IsAimedAt expects w d next b (aimed refl)
 word_aimed symbol.MembersOrEnd w d next pushed below e calm is at aimed shut b h = subst IsAimed (same_draft d next b) (aimed refl)
 word_aimed symbol.MoreMembers w d next pushed below e calm is at aimed shut b h = subst IsAimed (same_draft d next b) (aimed refl)
 word_aimed symbol.ElementsOrEnd w d next pushed below e calm is at aimed shut b h = subst IsAimed (same_draft d next b) (aimed refl)
@@ -231,22 +170,22 @@ word_aimed symbol.MoreElements w d next pushed below e calm is at aimed shut b h
 word_aimed symbol.DictionaryEntries w d next pushed below e calm is at aimed shut b h = subst IsAimed (same_draft d next b) (aimed refl)
 word_aimed symbol.EntryKey w d next pushed below e calm is at aimed shut b h = subst IsAimed (same_draft d next b) (aimed refl)
 word_aimed symbol.MaybeSeparator w d next pushed below e calm is at aimed shut b h = subst IsAimed (same_draft d next b) (aimed refl)
-word_aimed symbol.Equals w d next pushed below e calm is at aimed shut b h = mark_aimed d next pushed below (equals_pushes w.kind pushed e) aimed shut (same_draft d next b) h
-word_aimed symbol.Colon w d next pushed below e calm is at aimed shut b h = mark_aimed d next pushed below (colon_pushes w.kind pushed e) aimed shut (same_draft d next b) h
-word_aimed symbol.CloseBrace w d next pushed below e calm is at aimed shut b h = mark_aimed d next pushed below (brace_pushes w.kind pushed e) aimed shut (same_draft d next b) h
-word_aimed symbol.CloseBracket w d next pushed below e calm is at aimed shut b h = mark_aimed d next pushed below (bracket_pushes w.kind pushed e) aimed shut (same_draft d next b) h
-word_aimed symbol.MaybeBrackets w d next pushed below e calm is at aimed shut b h = brackets_aimed w d next pushed below (mark_pushes w.kind pushed e) aimed shut b h
+word_aimed symbol.Equals w d next pushed below e calm is at aimed shut b h = mark_aimed IsAimedAt d next pushed below (equals_pushes w.kind pushed e) aimed shut (same_draft d next b) h
+word_aimed symbol.Colon w d next pushed below e calm is at aimed shut b h = mark_aimed IsAimedAt d next pushed below (colon_pushes w.kind pushed e) aimed shut (same_draft d next b) h
+word_aimed symbol.CloseBrace w d next pushed below e calm is at aimed shut b h = mark_aimed IsAimedAt d next pushed below (brace_pushes w.kind pushed e) aimed shut (same_draft d next b) h
+word_aimed symbol.CloseBracket w d next pushed below e calm is at aimed shut b h = mark_aimed IsAimedAt d next pushed below (bracket_pushes w.kind pushed e) aimed shut (same_draft d next b) h
+word_aimed symbol.MaybeBrackets w d next pushed below e calm is at aimed shut b h = brackets_aimed IsAimedAt expects w d next pushed below (mark_pushes w.kind pushed e) aimed shut b h
 word_aimed symbol.PrimMetadata w d next pushed below e calm is at aimed shut b h =
-    unless_still symbol.PrimMetadata w d next pushed below refl shut b (none_behind symbol.PrimMetadata below refl calm) (metadata_aims w.kind w d next pushed e is at b) h
+    unless_still IsAimedAt symbol.PrimMetadata w d next pushed below refl shut b (none_behind symbol.PrimMetadata below refl calm) (metadata_aims w.kind w d next pushed e is at b) h
 word_aimed symbol.HeadItems w d next pushed below e calm is at aimed shut b h =
-    unless_still symbol.HeadItems w d next pushed below refl shut b (none_behind symbol.HeadItems below refl calm) (head_aims w.kind w d next pushed e is at b) h
+    unless_still IsAimedAt symbol.HeadItems w d next pushed below refl shut b (none_behind symbol.HeadItems below refl calm) (head_aims w.kind w d next pushed e is at b) h
 word_aimed symbol.EditedField w d next pushed below e calm is at aimed shut b h =
-    unless_still symbol.EditedField w d next pushed below refl shut b (none_behind symbol.EditedField below refl calm) (edited_aims w.kind w d next pushed e at.0 at.1 b) h
+    unless_still IsAimedAt symbol.EditedField w d next pushed below refl shut b (none_behind symbol.EditedField below refl calm) (edited_aims w.kind w d next pushed e at.0 at.1 b) h
 word_aimed symbol.MaybeAttributeTail w d next pushed below e calm is at aimed shut b h =
-    unless_still symbol.MaybeAttributeTail w d next pushed below refl shut b (none_behind symbol.MaybeAttributeTail below refl calm) (tail_aims w.kind d next pushed e b) h
+    unless_still IsAimedAt symbol.MaybeAttributeTail w d next pushed below refl shut b (none_behind symbol.MaybeAttributeTail below refl calm) (tail_aims IsAimedAt expects w.kind d next pushed e b) h
 word_aimed symbol.SamplesOrEnd w d next pushed below e calm is at aimed shut b h =
-    unless_still symbol.SamplesOrEnd w d next pushed below refl shut b (none_behind symbol.SamplesOrEnd below refl calm) (samples_aim w.kind w d next pushed e b) h
+    unless_still IsAimedAt symbol.SamplesOrEnd w d next pushed below refl shut b (none_behind symbol.SamplesOrEnd below refl calm) (samples_aim IsAimedAt expects w.kind w d next pushed e b) h
 word_aimed symbol.PropertyMetadata w d next pushed below e calm is at aimed shut b h =
-    unless_still symbol.PropertyMetadata w d next pushed below refl shut b (none_behind symbol.PropertyMetadata below refl calm) (property_aims w.kind w d next pushed e b) h
+    unless_still IsAimedAt symbol.PropertyMetadata w d next pushed below refl shut b (none_behind symbol.PropertyMetadata below refl calm) (property_aims w.kind w d next pushed e b) h
 word_aimed s w d next pushed below e calm is at aimed shut b h =
-    unless_still s w d next pushed below refl shut b (none_behind s below refl calm) (inr (is_not (awaits_value pushed) (both_true (is_calm pushed) (not (awaits_value pushed)) (ap opens_still (sym e) ∙ starts_still s w.kind refl)).1)) h
+    unless_still IsAimedAt s w d next pushed below refl shut b (none_behind s below refl calm) (inr (not-true (awaits_value pushed) (both_true (is_calm pushed) (not (awaits_value pushed)) (ap opens_still (sym e) ∙ starts_still s w.kind refl)).1)) h

@@ -1,7 +1,5 @@
 pub mod Rows
-pub mod AllRows
 pub mod FitRows
-pub mod AllFitRows
 pub mod Fits
 pub mod States
 pub mod Words

@@ -31,8 +31,8 @@ use Rattle.usda_fields.specs.declared.owner.OrderWord.{OrderWord}
 use Rattle.usda_fields.specs.declared.owner.OrderWord.TheVariants.{NameChildren}
 use Rattle.usda_fields.specs.declared.owner.OwnerDraft.{OwnerDraft}
 use Rattle.usda_grammar.specs.declared.kinds.Keyword.TheVariants as word
-use Rattle.usda_grammar.specs.declared.kinds.TokenKind.{TokenKind}
-use Rattle.usda_grammar.specs.declared.kinds.TokenKind.TheVariants as token
+use Rattle.usda_grammar.specs.declared.kinds.WordKind.{WordKind}
+use Rattle.usda_grammar.specs.declared.kinds.WordKind.TheVariants as token
 use Rattle.usda_lexer.specs.Meanings.{number_of}
 use Rattle.usda_lists.specs.Acts.{and_then}
 use Rattle.usda_lists.specs.declared.edit.ListEdit.TheVariants.{Explicit}
@@ -45,9 +45,9 @@ use Rattle.fields_read.specs.Sound.{IsSaid}
 use Rattle.fields_read.proofs.Begun.{owners_begin}
 use Rattle.fields_read.proofs.Keys.{keys_read}
 use Rattle.fields_read.proofs.Others.{others_read}
-use Rattle.fields_read.proofs.Tables.{all_with}
 use Rattle.layer_texts.specs.Writable.{is_word}
 use Rattle.value_returns.specs.Fields.{AreProperFields}
+use Rattle.value_returns.proofs.Tables.{all_with}
 use Rattle.trees_read.proofs.Fields.{IfMade, and_made, if_made}
 use Rattle.trees_read.proofs.ListActs.{then_known, then_any}
 use Rattle.layers_read.proofs.States.{IsOwner, Quiet, Beside, itself, quiet_beside, quiet_made, rest_said, owner_said, name_for, plain_inside, inside_last, owners_push, owners_front, owners_last}
@@ -79,22 +79,22 @@ type_beside : (w : Word) (d : Draft) → IfMade (Beside d) (type_act w d)
 unfolding type_act
 type_beside w d = then_any (Beside d) w.start (with_type w.text d.heading) (λ h. headed h d) (λ h. record { specs = refl; outer = refl; said = refl; type_name = refl; opening = λ h. h; sublayers = refl; aim = λ a. a; word = refl })
 
-after_variability_beside : (k : TokenKind) (w : Word) (d : Draft) → IfMade (Beside d) (after_variability_act k w d)
+after_variability_beside : (k : WordKind) (w : Word) (d : Draft) → IfMade (Beside d) (after_variability_act k w d)
 unfolding after_variability_act
 after_variability_beside (token.Word word.Rel) w d = record { specs = refl; outer = refl; said = refl; type_name = refl; opening = λ h. h; sublayers = refl; aim = λ a. a; word = refl }
 after_variability_beside k w d = type_beside w d
 
-after_custom_beside : (k : TokenKind) (w : Word) (d : Draft) → IfMade (Beside d) (after_custom_act k w d)
+after_custom_beside : (k : WordKind) (w : Word) (d : Draft) → IfMade (Beside d) (after_custom_act k w d)
 unfolding after_custom_act
 after_custom_beside (token.Word word.Variability) w d = record { specs = refl; outer = refl; said = refl; type_name = refl; opening = λ h. h; sublayers = refl; aim = λ a. a; word = refl }
 after_custom_beside k w d = after_variability_beside k w d
 
-after_edit_beside : (k : TokenKind) (w : Word) (d : Draft) → IfMade (Beside d) (after_edit_act k w d)
+after_edit_beside : (k : WordKind) (w : Word) (d : Draft) → IfMade (Beside d) (after_edit_act k w d)
 unfolding after_edit_act
 after_edit_beside (token.Word word.Custom) w d = record { specs = refl; outer = refl; said = refl; type_name = refl; opening = λ h. h; sublayers = refl; aim = λ a. a; word = refl }
 after_edit_beside k w d = after_custom_beside k w d
 
-statement_beside : (k : TokenKind) (w : Word) (d : Draft) → IfMade (Beside d) (statement_act k w d)
+statement_beside : (k : WordKind) (w : Word) (d : Draft) → IfMade (Beside d) (statement_act k w d)
 unfolding statement_act
 statement_beside (token.Word word.Specifier) w d = specifier_beside w.text d
 statement_beside (token.Word word.VariantSet) w d = itself d
@@ -130,7 +130,7 @@ default_beside : (d : Draft) → IfMade (Beside d) (default_begun d)
 unfolding default_begun aimed_at_default
 default_beside d = then_any (Beside d) d.name_at (default_act d.property) (λ p. aimed_at_default (with_property d p)) (λ p. record { specs = refl; outer = refl; said = refl; type_name = refl; opening = λ h. h; sublayers = refl; aim = λ a. tt; word = refl })
 
-tail_beside : (k : TokenKind) (d : Draft) → IfMade (Beside d) (tail_act k d)
+tail_beside : (k : WordKind) (d : Draft) → IfMade (Beside d) (tail_act k d)
 unfolding tail_act
 tail_beside token.Equals d = default_beside d
 tail_beside k d = itself d
@@ -139,7 +139,7 @@ pub samples_beside : (d : Draft) → IfMade (Beside d) (samples_begun d)
 unfolding samples_begun
 samples_beside d = then_any (Beside d) d.name_at (samples_act d.property) (with_property d) (λ p. record { specs = refl; outer = refl; said = refl; type_name = refl; opening = λ h. h; sublayers = refl; aim = λ a. a; word = refl })
 
-sample_beside : (k : TokenKind) (w : Word) (d : Draft) → IfMade (Beside d) (sample_act k w d)
+sample_beside : (k : WordKind) (w : Word) (d : Draft) → IfMade (Beside d) (sample_act k w d)
 unfolding sample_act time_act
 sample_beside token.Number w d = then_any (Beside d) w.start (time_of_number (number_of w.text)) (λ time. aimed_at_sample time d) (λ time. record { specs = refl; outer = refl; said = refl; type_name = refl; opening = λ h. h; sublayers = refl; aim = λ a. tt; word = refl })
 sample_beside k w d = itself d
@@ -148,7 +148,7 @@ property_key_beside : (w : Word) (d : Draft) → IfMade (Beside d) (property_key
 unfolding property_key_act aimed_at_key
 property_key_beside w d = then_any (Beside d) w.start (property_rule w.text d.property) (λ rule. aimed_at_key goal.PropertyKey w.text rule d) (λ rule. record { specs = refl; outer = refl; said = refl; type_name = refl; opening = λ h. h; sublayers = refl; aim = λ a. tt; word = refl })
 
-property_item_beside : (k : TokenKind) (w : Word) (d : Draft) → IfMade (Beside d) (property_item_act k w d)
+property_item_beside : (k : WordKind) (w : Word) (d : Draft) → IfMade (Beside d) (property_item_act k w d)
 unfolding property_item_act
 property_item_beside token.Quoted w d = then_any (Beside d) w.start (meta_comment_act w.text d.property) (with_property d) (λ p. record { specs = refl; outer = refl; said = refl; type_name = refl; opening = λ h. h; sublayers = refl; aim = λ a. a; word = refl })
 property_item_beside k w d = property_key_beside w d
@@ -161,7 +161,7 @@ pub set_beside : (t : List ℕ) (d : Draft) → IfMade (Beside d) (set_name_act 
 unfolding set_name_act
 set_beside t d = and_made (Beside d) (identifier_of t) (λ name. begun_set name d) (λ name. begun_set_beside name d)
 
-root_beside : (k : TokenKind) (w : Word) (d : Draft) → IfMade (Beside d) (root_act k w d)
+root_beside : (k : WordKind) (w : Word) (d : Draft) → IfMade (Beside d) (root_act k w d)
 unfolding root_act
 root_beside (token.Word word.Specifier) w d = specifier_beside w.text d
 root_beside k w d = itself d
@@ -217,12 +217,12 @@ module _ (b : Bool) where
   unfolding root_order_act
   root_order_quiet w d q = ordered_quiet NameChildren w.start d q
 
-  pub order_name_quiet : (k : TokenKind) (w : Word) (d : Draft) → Quiet b d → IfMade (Quiet b) (order_name_act k w d)
+  pub order_name_quiet : (k : WordKind) (w : Word) (d : Draft) → Quiet b d → IfMade (Quiet b) (order_name_act k w d)
   unfolding order_name_act
   order_name_quiet token.Quoted w d q = said_quiet w.start (owner.ordered_act d.order w.text d.owner.said) d q (said_made (IsSaid (name_for d.outer)) d.owner.said _ (λ next e. (others_read (name_for d.outer)).ordered d.order w.text d.owner.said next q.1 e))
   order_name_quiet k w d q = q
 
-  pub after_reorder_quiet : (k : TokenKind) (w : Word) (d : Draft) → Quiet b d → IfMade (Quiet b) (after_reorder_act k w d)
+  pub after_reorder_quiet : (k : WordKind) (w : Word) (d : Draft) → Quiet b d → IfMade (Quiet b) (after_reorder_act k w d)
   unfolding after_reorder_act
   after_reorder_quiet (token.Word word.OrderedField) w d q = order_quiet w d q
   after_reorder_quiet k w d q = quiet_made b d (after_edit_act k w d) (after_edit_beside k w d) q
@@ -247,16 +247,16 @@ module _ (b : Bool) where
   pub name_quiet : (w : Word) (d : Draft) → Quiet b d → IfMade (Quiet b) (name_act w d)
   name_quiet w d q = quiet_made b d (name_act w d) (name_beside w d) q
 
-  pub tail_quiet : (k : TokenKind) (d : Draft) → Quiet b d → IfMade (Quiet b) (tail_act k d)
+  pub tail_quiet : (k : WordKind) (d : Draft) → Quiet b d → IfMade (Quiet b) (tail_act k d)
   tail_quiet k d q = quiet_made b d (tail_act k d) (tail_beside k d) q
 
-  pub sample_quiet : (k : TokenKind) (w : Word) (d : Draft) → Quiet b d → IfMade (Quiet b) (sample_act k w d)
+  pub sample_quiet : (k : WordKind) (w : Word) (d : Draft) → Quiet b d → IfMade (Quiet b) (sample_act k w d)
   sample_quiet k w d q = quiet_made b d (sample_act k w d) (sample_beside k w d) q
 
-  pub property_item_quiet : (k : TokenKind) (w : Word) (d : Draft) → Quiet b d → IfMade (Quiet b) (property_item_act k w d)
+  pub property_item_quiet : (k : WordKind) (w : Word) (d : Draft) → Quiet b d → IfMade (Quiet b) (property_item_act k w d)
   property_item_quiet k w d q = quiet_made b d (property_item_act k w d) (property_item_beside k w d) q
 
-  pub root_quiet : (k : TokenKind) (w : Word) (d : Draft) → Quiet b d → IfMade (Quiet b) (root_act k w d)
+  pub root_quiet : (k : WordKind) (w : Word) (d : Draft) → Quiet b d → IfMade (Quiet b) (root_act k w d)
   root_quiet k w d q = quiet_made b d (root_act k w d) (root_beside k w d) q
 
   pub open_quiet : (at : ℕ) (d : Draft) → Quiet b d → IfMade (Quiet b) (open_act at d)

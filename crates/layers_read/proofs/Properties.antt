@@ -1,32 +1,31 @@
 -- The properties of each text are proper.
-use Rattle.std.proofs.Common.{◌≡◌, ◌∙◌, inl, inr, Bool, true, false, not, List, ◌∷◌, Some, None, Ok, ap, sym, refl, arith}
+use Rattle.std.proofs.Common.{◌≡◌, ◌∙◌, inl, inr, true, List, ◌∷◌, Some, Ok, ap, sym, refl, arith}
+use Rattle.std.proofs.lemmas.Bool.{not-true}
 use Rattle.sdf_paths.specs.Paths.{IsPath}
 use Rattle.sdf_values.specs.declared.value.Value.{Value}
-use Rattle.text_syntax.specs.Open.{Follows as ValueFollows, IsAwaited}
+use Rattle.text_syntax.specs.Open.{Follows as ValueFollows, IsAwaited, begins_value}
 use Rattle.text_syntax.proofs.Texts.{followed as values}
 use Rattle.usda_drafts.specs.Acts.{act}
 use Rattle.usda_drafts.specs.Drafts.{blank, layer_of, layer_by}
 use Rattle.usda_drafts.specs.Values.{is_selections, with_value_begun}
-use Rattle.usda_drafts.specs.declared.aim.Goal.{Goal}
 use Rattle.usda_drafts.specs.declared.aim.Goal.TheVariants as goal
 use Rattle.usda_drafts.specs.declared.draft.Draft.{Draft}
 use Rattle.usda_grammar.specs.Machine.{step}
-use Rattle.usda_grammar.specs.Table.{layer, starts}
-use Rattle.usda_grammar.specs.declared.kinds.TokenKind.{TokenKind}
-use Rattle.usda_grammar.specs.declared.kinds.TokenKind.TheVariants as token
+use Rattle.usda_grammar.specs.Table.{layer}
+use Rattle.usda_grammar.specs.declared.kinds.WordKind.{WordKind}
+use Rattle.usda_grammar.specs.declared.kinds.WordKind.TheVariants as token
 use Rattle.usda_grammar.specs.declared.symbols.Symbol.{Symbol}
 use Rattle.usda_grammar.specs.declared.symbols.Symbol.TheVariants as symbol
 use Rattle.usda_statements.specs.OpenValues.{is_open, value_in}
-use Rattle.usda_statements.specs.declared.open_value.OpenValue.{OpenValue}
 use Rattle.usda_values.specs.Drafts.{is_complete}
 use Rattle.usda_values.specs.declared.shape.Shape.{Shape}
 use Rattle.usda_values.specs.declared.shape.Shape.TheVariants.{Untyped}
 use Rattle.usda_words.specs.Words.{Word}
 use Rattle.value_texts.specs.Following.{IsOfToken}
-use Rattle.properties_read.specs.Aims.{IsAimedAt, IsAimed, awaits_value, IsAiming, IsReadWhere, IsWhole}
-use Rattle.properties_read.specs.Drafts.{CompletesWell, IsNameWord, IsUtf8Path, takes_values, begins_values}
+use Rattle.properties_read.specs.Aims.{IsAimed, awaits_value, IsAiming, IsReadWhere, IsWhole}
+use Rattle.properties_read.specs.Drafts.{CompletesWell, IsNameWord, IsUtf8Path, takes_values}
 use Rattle.properties_read.specs.Stacks.{IsReading, IsReady}
-use Rattle.properties_read.proofs.Aiming.{Aimed, found, steps_aimed}
+use Rattle.properties_read.proofs.Aiming.{Aimed, found, steps_aimed, aimed_again}
 use Rattle.properties_read.proofs.Aims.{values_aimed}
 use Rattle.properties_read.proofs.OpenValues.{words_taken}
 use Rattle.properties_read.proofs.Steps.{steps_keep}
@@ -34,31 +33,23 @@ use Rattle.values_read.specs.Owners.{ArePlaced}
 use Rattle.values_read.specs.Sound.{IsSound, IsSoundDraft, is_kept_as}
 use Rattle.values_read.specs.Tokens.{is_lexed, IsLexedWord}
 use Rattle.values_read.specs.Words.{IsOpenSound}
-use Rattle.values_read.proofs.Acts.{words_keep}
+use Rattle.values_read.proofs.Acts.{words_keep, is_token}
 use Rattle.values_read.proofs.Open.{open_sound}
 use Rattle.values_read.proofs.Placed.{owners_have_paths}
-use Rattle.layers_read.specs.Laws.{PropertiesAreRead}
-use Rattle.layers_read.proofs.Runs.{IsAtEnd, holds_behind}
+use Rattle.trees_read.proofs.Runs.{IsAtEnd}
+use Rattle.layers_read.specs.Laws.{SaidPropertiesAreProper}
+use Rattle.layers_read.proofs.Runs.{holds_behind}
 use Rattle.layers_read.proofs.Words.{IsKnownAs, known}
 
 -- ---- words
 
-name_known : (k : TokenKind) (w : Word) → IsKnownAs k w.text → IsNameWord k w
+pub name_known : (k : WordKind) (w : Word) → IsKnownAs k w.text → IsNameWord k w
 name_known (token.Word x) w h = h.0
 name_known k w h = tt
 
-path_known : (k : TokenKind) (w : Word) → IsKnownAs k w.text → IsUtf8Path k w
+path_known : (k : WordKind) (w : Word) → IsKnownAs k w.text → IsUtf8Path k w
 path_known token.Path w h = h
 path_known k w h = tt
-
--- no symbol takes a fault
-no_start : (s : Symbol) → starts s token.Fault ≡ None
-no_start symbol.Value = refl
-no_start _ = refl
-
-is_token : (s : Symbol) (w : Word) (after : List Symbol) → IsLexedWord w → starts s w.kind ≡ Some after → is_lexed w.token w.text ≡ true
-is_token s w after (inl is) took = is
-is_token s w after (inr fault) took = absurd (let none : None ≡ Some after = sym (no_start s) ∙ ap (starts s) (sym fault) ∙ took in cc)
 
 -- ---- values
 
@@ -73,22 +64,10 @@ completes : (w : Word) (d : Draft) → IsAimed d → is_lexed w.token w.text ≡
 completes w d aim lexed path sound =
     values_aimed.completes w d aim (λ v e shut. whole d.aim.shape (value_in v) (open_sound.complete d.aim.shape v (open_sound.kept d.aim.shape d.owner.said.base d.value v w.token w.text path lexed sound e) shut))
 
-aimed_again : (g : Goal) (d : Draft) (o : OpenValue) → IsAimedAt g d → IsAimedAt g (record d { value = o })
-aimed_again goal.Nothing d o a = a
-aimed_again goal.OwnerKey d o a = a
-aimed_again goal.Variants d o a = a
-aimed_again goal.PropertyKey d o a = a
-aimed_again goal.Default d o a = a
-aimed_again goal.Sample d o a = a
-
-begun_awaited : (s : Symbol) (below : List Symbol) → begins_values s ≡ true → awaits_value (s ∷ below) ≡ true
+pub begun_awaited : (s : Symbol) (below : List Symbol) → begins_value s ≡ true → awaits_value (s ∷ below) ≡ true
 begun_awaited symbol.Value below h = refl
 begun_awaited symbol.Dictionary below h = refl
 begun_awaited _ below h = absurd cc
-
-not_so : (b : Bool) → not b ≡ true → b ≡ false
-not_so true h = absurd cc
-not_so false h = refl
 
 -- ---- each word
 
@@ -124,7 +103,7 @@ kept stack d w s after next token lexed f taken acted = record {
     apart : is_open d.value ≡ true → takes_values s ≡ true
     apart opened =
         let a : IsAwaited stack d.value.draft = f.value opened in
-        words_taken d.value.draft a.0 after w.kind s a.1 (not_so (is_complete d.value.draft) opened) (ap (λ x. step x w.kind) (sym a.2) ∙ taken)
+        words_taken d.value.draft a.0 after w.kind s a.1 (not-true (is_complete d.value.draft) opened) (ap (λ x. step x w.kind) (sym a.2) ∙ taken)
 
     ready : IsReady s w d
     ready = record {
@@ -140,6 +119,6 @@ kept stack d w s after next token lexed f taken acted = record {
 begins : Follows layer blank
 begins = record { value = values.begins; sound = words_keep.begins; owners = owners_have_paths.begins; reading = steps_keep.begins; aiming = steps_aimed.begins }
 
-pub properties_read : PropertiesAreRead
+pub properties_read : SaidPropertiesAreProper
 unfolding layer_of layer_by
 properties_read bytes d utf8 made = let e : IsAtEnd Follows d = holds_behind Follows kept bytes d utf8 begins made in steps_keep.proper e.stack d e.holds.reading

@@ -1,19 +1,13 @@
 -- What each word of a text keeps holds behind all of them.
-use Rattle.std.proofs.Common.{◌≡◌, ℕ, Bool, true, false, List, [], ◌∷◌, Option, Some, None, Result, Ok, Err, refl, subst}
+use Rattle.std.proofs.Common.{◌≡◌, ℕ, true, List, Some, Ok}
 use Rattle.std.specs.Str.{is_utf8}
-use Rattle.sdf_values.specs.declared.refusal.RefusalKind.TheVariants.{Syntax}
 use Rattle.text_syntax.specs.Open.{kind_in}
 use Rattle.usda_drafts.specs.Acts.{act}
 use Rattle.usda_drafts.specs.Drafts.{blank}
-use Rattle.usda_drafts.specs.Refusals.{refused}
 use Rattle.usda_drafts.specs.declared.draft.Draft.{Draft}
-use Rattle.usda_drafts.specs.declared.fault.Refused.{Refused}
-use Rattle.usda_grammar.specs.Machine.{step, is_done}
+use Rattle.usda_grammar.specs.Machine.{step}
 use Rattle.usda_grammar.specs.Table.{layer}
 use Rattle.usda_grammar.specs.declared.symbols.Symbol.{Symbol}
-use Rattle.usda_machine.proofs.Running.{only}
-use Rattle.usda_machine.specs.Reading.{after_act, after_step, at_end, run}
-use Rattle.usda_productions.proofs.Simulation.{read as by_table}
 use Rattle.usda_productions.specs.Rules.{layer_forms}
 use Rattle.usda_productions.specs.Texts.{MakeBy}
 use Rattle.usda_words.specs.Words.{Word, words_of}
@@ -21,38 +15,12 @@ use Rattle.value_texts.proofs.Following.{followed as values_followed}
 use Rattle.value_texts.specs.Following.{IsOfToken, AreOfTokens}
 use Rattle.values_read.specs.Tokens.{IsLexedWord, AreLexedWords}
 use Rattle.values_read.proofs.Words.{words_lexed}
-
--- what the grammar still awaits behind all words, where the text may end, and the draft
-pub record IsAtEnd (P : List Symbol → Draft → Type 0) (d : Draft) : Type 0 where
-  pub stack : List Symbol
-  pub holds : P stack d
-  pub done : is_done stack ≡ true
-
-refused_as : Option Word → Refused
-refused_as w = refused Syntax 0
+use Rattle.trees_read.proofs.Runs.{IsAtEnd, held_behind}
 
 -- What each word keeps holds behind all of them, where each is what its token is to the grammar, and is as a text has it.
-module _ (P : List Symbol → Draft → Type 0)
-    (keeps : (stack : List Symbol) (d : Draft) (w : Word) (s : Symbol) (after : List Symbol) (next : Draft) → IsOfToken w → IsLexedWord w → P stack d → step stack w.kind ≡ Some (s, after) → act s w d ≡ Ok next → P after next) where
-  ran : (ws : List Word) (stack : List Symbol) (d out : Draft) → AreOfTokens ws → AreLexedWords ws → P stack d → run kind_in act refused_as stack d ws ≡ Ok out → IsAtEnd P out
-  ran [] stack d out words lexed holds h = by (is_done stack) refl h
-    where
-      by : (b : Bool) → is_done stack ≡ b → at_end kind_in act refused_as b d ≡ Ok out → IsAtEnd P out
-      by true done e = let same : d ≡ out = cc in record { stack = stack; holds = subst (P stack) same holds; done = done }
-      by false done e = absurd cc
-  ran (w ∷ ws) stack d out words lexed holds h = by_step (step stack w.kind) refl h (λ left next f e. ran ws left next out words.1 lexed.1 f e)
-    where
-      by_act : (s : Symbol) (left : List Symbol) → step stack w.kind ≡ Some (s, left) → (r : Result Draft Refused) → act s w d ≡ r → after_act kind_in act refused_as r (λ next. run kind_in act refused_as left next ws) ≡ Ok out
-          → ((left : List Symbol) (next : Draft) → P left next → run kind_in act refused_as left next ws ≡ Ok out → IsAtEnd P out) → IsAtEnd P out
-      by_act s left took (Ok next) acted e more = more left next (keeps stack d w s left next words.0 lexed.0 holds took acted) e
-      by_act s left took (Err r) acted e more = absurd cc
-
-      by_step : (o : Option (Symbol × List Symbol)) → step stack w.kind ≡ o → after_step kind_in act refused_as o d w (λ left next. run kind_in act refused_as left next ws) ≡ Ok out
-          → ((left : List Symbol) (next : Draft) → P left next → run kind_in act refused_as left next ws ≡ Ok out → IsAtEnd P out) → IsAtEnd P out
-      by_step None took e more = absurd cc
-      by_step (Some (s, left)) took e more = by_act s left took (act s w d) refl e more
-
-  -- the draft that the words of a text make
-  pub holds_behind : (bytes : List ℕ) (d : Draft) → is_utf8 bytes ≡ true → P layer blank → MakeBy kind_in act layer_forms blank (words_of bytes) d → IsAtEnd P d
-  holds_behind bytes d utf8 begins made =
-      ran (words_of bytes) layer blank d (values_followed.words bytes) (words_lexed bytes utf8) begins (only kind_in act refused_as blank (words_of bytes) d (by_table kind_in act refused_as blank (words_of bytes) d made))
+pub holds_behind : (P : List Symbol → Draft → Type 0)
+    → ((stack : List Symbol) (d : Draft) (w : Word) (s : Symbol) (after : List Symbol) (next : Draft) → IsOfToken w → IsLexedWord w → P stack d → step stack w.kind ≡ Some (s, after) → act s w d ≡ Ok next → P after next)
+    → (bytes : List ℕ) (d : Draft) → is_utf8 bytes ≡ true → P layer blank → MakeBy kind_in act layer_forms blank (words_of bytes) d → IsAtEnd P d
+holds_behind P keeps bytes d utf8 begins made =
+    held_behind (λ w. IsOfToken w × IsLexedWord w) (λ ws. AreOfTokens ws × AreLexedWords ws) (λ w ws h. ((h.0.0, h.1.0), (h.0.1, h.1.1))) P (λ stack d w s after next is. keeps stack d w s after next is.0 is.1) bytes d
+    (values_followed.words bytes, words_lexed bytes utf8) begins made

@@ -1,13 +1,15 @@
 -- A step of the machine, by what its stack tells of the list that is read, and of edit words.
 use Rattle.std.proofs.Common.{◌≡◌, ◌∙◌, ◌⊎◌, inl, inr, ℕ, Bool, true, false, not, ◌&&◌, ◌||◌, List, [], ◌∷◌, ◌++◌, Option, Some, None, ap, sym, refl, subst}
 use Rattle.std.proofs.lemmas.List.Folds.{list_any-append}
+use Rattle.std.proofs.lemmas.Bool.{and_from, not-true, or_right, or_left}
+use Rattle.std.proofs.lemmas.Option.{same_Some}
 use Rattle.text_syntax.specs.Open.{Follows as ValueFollows, IsAwaited}
 use Rattle.usda_drafts.specs.declared.draft.Draft.{Draft}
-use Rattle.usda_grammar.proofs.AllKinds.{all_kinds-at, front, back}
+use Rattle.usda_grammar.proofs.AllKinds.{front, back}
 use Rattle.usda_grammar.specs.Machine.{step, choose}
 use Rattle.usda_grammar.specs.Table.{starts, may_be_absent}
-use Rattle.usda_grammar.specs.declared.kinds.TokenKind.{TokenKind}
-use Rattle.usda_grammar.specs.declared.kinds.TokenKind.TheVariants as token
+use Rattle.usda_grammar.specs.declared.kinds.WordKind.{WordKind}
+use Rattle.usda_grammar.specs.declared.kinds.WordKind.TheVariants as token
 use Rattle.usda_grammar.specs.declared.symbols.Symbol.{Symbol}
 use Rattle.usda_grammar.specs.declared.symbols.Symbol.TheVariants as symbol
 use Rattle.usda_lexer.specs.Meanings.{path_text}
@@ -24,13 +26,12 @@ use Rattle.layer_texts.specs.Writable.{is_word}
 use Rattle.value_returns.specs.Fields.{IsText}
 use Rattle.trees_read.proofs.ListRows.{Part, none, begun, brackets, sublayers, part_of, or_part, part, is_none, is_of_item, has_item, is_light, has_parts, are_on_top}
 use Rattle.trees_read.proofs.ListStacks.{is_the_none}
-use Rattle.layers_read.proofs.AllRows.{edited_rows}
-use Rattle.layers_read.proofs.Rows.{is_edited, has_edited, is_noted, is_edited_after, is_edited_row}
+use Rattle.layers_read.proofs.Rows.{is_edited, has_edited, is_noted, is_edited_after, edited_rows}
 use Rattle.layers_read.proofs.Words.{IsKnownAs}
 
 -- ---- steps
 
-pub record Took (stack : List Symbol) (k : TokenKind) (s : Symbol) (after : List Symbol) : Type 0 where
+pub record Took (stack : List Symbol) (k : WordKind) (s : Symbol) (after : List Symbol) : Type 0 where
   pub below : List Symbol
   pub rest : List Symbol
   pub starts_it : starts s k ≡ Some rest
@@ -38,24 +39,13 @@ pub record Took (stack : List Symbol) (k : TokenKind) (s : Symbol) (after : List
   pub edited : has_edited below ≡ true → has_edited stack ≡ true
   pub here : is_edited s ≡ true → has_edited stack ≡ true
 
-some_is : {A : Type 0} (x y : A) → Some x ≡ Some y → x ≡ y
-some_is x y h = cc
-
-or_right : (a b : Bool) → b ≡ true → (a || b) ≡ true
-or_right true b h = refl
-or_right false b h = h
-
-or_left : (a b : Bool) → a ≡ true → (a || b) ≡ true
-or_left true b h = refl
-or_left false b h = absurd cc
-
-pub took : (stack : List Symbol) (k : TokenKind) (s : Symbol) (after : List Symbol) → step stack k ≡ Some (s, after) → Took stack k s after
+pub took : (stack : List Symbol) (k : WordKind) (s : Symbol) (after : List Symbol) → step stack k ≡ Some (s, after) → Took stack k s after
 took [] k s after e = absurd cc
 took (u ∷ stack) k s after e = cases (starts u k) refl (may_be_absent u) e (λ f. took stack k s after f)
   where
     cases : (o : Option (List Symbol)) → starts u k ≡ o → (b : Bool) → choose u stack o b (step stack k) ≡ Some (s, after) → (step stack k ≡ Some (s, after) → Took stack k s after) → Took (u ∷ stack) k s after
     cases (Some a) is b f more =
-        let same : (u, a ++ stack) ≡ (s, after) = some_is (u, a ++ stack) (s, after) f in
+        let same : (u, a ++ stack) ≡ (s, after) = same_Some (u, a ++ stack) (s, after) f in
         subst (λ (x : Symbol). Took (u ∷ stack) k x after) (ap (λ (x : Symbol × List Symbol). x.0) same)
         (record {
           below = stack;
@@ -77,22 +67,22 @@ took (u ∷ stack) k s after e = cases (starts u k) refl (may_be_absent u) e (λ
         }
     cases None is false f more = absurd cc
 
-edited_row : (s : Symbol) (k : TokenKind) (rest : List Symbol) → starts s k ≡ Some rest → (not (has_edited rest) || is_noted s k) ≡ true
-edited_row s k rest e = subst (λ o. is_edited_after s k o ≡ true) e (all_kinds-at (is_edited_row s) (edited_rows s) k)
+edited_row : (s : Symbol) (k : WordKind) (rest : List Symbol) → starts s k ≡ Some rest → (not (has_edited rest) || is_noted s k) ≡ true
+edited_row s k rest e = subst (λ o. is_edited_after s k o ≡ true) e (edited_rows s k)
 
 -- a field behind an edit word was awaited before, unless the word is an edit word
-pub edited_after : (stack : List Symbol) (k : TokenKind) (s : Symbol) (after : List Symbol) → Took stack k s after → has_edited after ≡ true → (is_noted s k ≡ true) ⊎ (has_edited stack ≡ true)
+pub edited_after : (stack : List Symbol) (k : WordKind) (s : Symbol) (after : List Symbol) → Took stack k s after → has_edited after ≡ true → (is_noted s k ≡ true) ⊎ (has_edited stack ≡ true)
 edited_after stack k s after t h = by (has_edited t.rest) refl (sym (list_any-append is_edited t.rest t.below) ∙ sym (ap has_edited t.leaves) ∙ h)
   where
     by : (c : Bool) → has_edited t.rest ≡ c → (has_edited t.rest || has_edited t.below) ≡ true → (is_noted s k ≡ true) ⊎ (has_edited stack ≡ true)
     by true is e = inl (ap (λ c. not c || is_noted s k) (sym is) ∙ edited_row s k t.rest t.starts_it)
     by false is e = inr (t.edited (ap (λ c. c || has_edited t.below) (sym is) ∙ e))
 
-pub path_known : (k : TokenKind) (text : List ℕ) (rest : List Symbol) → starts symbol.MaybePath k ≡ Some rest → IsKnownAs k text → IsText (path_text text)
+pub path_known : (k : WordKind) (text : List ℕ) (rest : List Symbol) → starts symbol.MaybePath k ≡ Some rest → IsKnownAs k text → IsText (path_text text)
 path_known token.Path text rest e h = h
 path_known k text rest e h = absurd cc
 
-pub type_known : (k : TokenKind) (text : List ℕ) (rest : List Symbol) → starts symbol.MaybeTypeName k ≡ Some rest → IsKnownAs k text → is_word text ≡ true
+pub type_known : (k : WordKind) (text : List ℕ) (rest : List Symbol) → starts symbol.MaybeTypeName k ≡ Some rest → IsKnownAs k text → is_word text ≡ true
 type_known (token.Word x) text rest e h = h.0
 type_known k text rest e h = absurd cc
 
@@ -109,14 +99,10 @@ abbrev has_heavy : List Symbol → Bool
 has_heavy [] = false
 has_heavy (s ∷ stack) = not (is_light s) || has_heavy stack
 
-not_so : (a : Bool) → not a ≡ true → a ≡ false
-not_so true h = absurd cc
-not_so false h = refl
-
 plain_parts : (s : Symbol) (x : List Symbol) → is_plain s ≡ true → has_parts (s ∷ x) ≡ has_parts x
 plain_parts s x h =
     ap (λ p. not (is_none (or_part p (part x))) || (is_of_item s || has_item x)) (is_the_none (part_of s) (front (is_none (part_of s)) (not (is_of_item s)) h))
-    ∙ ap (λ c. not (is_none (part x)) || (c || has_item x)) (not_so (is_of_item s) (back (is_none (part_of s)) (not (is_of_item s)) h))
+    ∙ ap (λ c. not (is_none (part x)) || (c || has_item x)) (not-true (is_of_item s) (back (is_none (part_of s)) (not (is_of_item s)) h))
 
 heavy_bare : (a below : List Symbol) → has_heavy a ≡ true → are_plain a ≡ true → are_on_top (a ++ below) ≡ true → not (has_parts (a ++ below)) ≡ true
 heavy_bare [] below heavy plain top = absurd cc
@@ -129,13 +115,9 @@ heavy_bare (s ∷ a) below heavy plain top =
     by true h e more = more h
     by false h e more = e
 
-both : (x y : Bool) → x ≡ true → y ≡ true → (x && y) ≡ true
-both true y p q = q
-both false y p q = absurd cc
-
 plain_joined : (a b : List Symbol) → are_plain a ≡ true → are_plain b ≡ true → are_plain (a ++ b) ≡ true
 plain_joined [] b h g = g
-plain_joined (s ∷ a) b h g = both (is_plain s) (are_plain (a ++ b)) (front (is_plain s) (are_plain a) h) (plain_joined a b (back (is_plain s) (are_plain a) h) g)
+plain_joined (s ∷ a) b h g = and_from (is_plain s) (are_plain (a ++ b)) (front (is_plain s) (are_plain a) h) (plain_joined a b (back (is_plain s) (are_plain a) h) g)
 
 heavy_joined : (a b : List Symbol) → has_heavy a ≡ true → has_heavy (a ++ b) ≡ true
 heavy_joined [] b h = absurd cc
@@ -198,7 +180,7 @@ value_bare stack d follows top opened =
     let f : IsAwaited stack d.value.draft = follows opened in
     let v : ValueDraft = d.value.draft in
     ap (λ x. not (has_parts x)) f.2
-    ∙ heavy_bare (awaited v) f.0 (heavy_joined (awaited_at v.place v.level.bracket) (awaited_outside v.outer) (at_heavy v.place v.level.bracket (not_so (is_complete_at v.place) opened) (front (is_place_of v.place v.level.bracket) (are_levels v.outer v.level.bracket) f.1)))
+    ∙ heavy_bare (awaited v) f.0 (heavy_joined (awaited_at v.place v.level.bracket) (awaited_outside v.outer) (at_heavy v.place v.level.bracket (not-true (is_complete_at v.place) opened) (front (is_place_of v.place v.level.bracket) (are_levels v.outer v.level.bracket) f.1)))
     (plain_joined (awaited_at v.place v.level.bracket) (awaited_outside v.outer) (at_plain v.place v.level.bracket) (outside_plain v.outer))
     (ap are_on_top (sym f.2) ∙ top)
 

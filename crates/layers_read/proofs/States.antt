@@ -19,10 +19,11 @@ use Rattle.fields_read.specs.Laws.{reading}
 use Rattle.fields_read.specs.Sound.{IsSaid, IsSoundSaid}
 use Rattle.fields_read.proofs.Proper.{said_proper}
 use Rattle.layer_reads.specs.Keys.{is_plain_key, is_plain_head_key}
-use Rattle.layer_reads.specs.Lists.{AreAll}
 use Rattle.layer_texts.specs.Writable.{is_word, none_or}
 use Rattle.trees_read.proofs.Fields.{IfMade}
 use Rattle.value_returns.specs.Fields.{IsProperSublayer, AreProperFields}
+use Rattle.value_texts.specs.Each.{AreAll}
+use Rattle.value_texts.proofs.EachOf.{all_push, all_front, all_last}
 
 -- ---- definitions
 
@@ -142,20 +143,6 @@ pub rest_fewer : (b c : Bool) (d : Draft) → (c ≡ true → b ≡ true) → Re
 rest_fewer b c d h r = record { specs = r.specs; outer = r.outer; typed = r.typed; opening = r.opening; sublayers = r.sublayers; aim = r.aim; word = λ n. r.word (h n) }
 
 -- ---- lists of owners
-
-pub all_push : {T : Type 0} (P : T → Type 0) (xs : List T) (x : T) → AreAll P xs → P x → AreAll P (xs ++ x ∷ [])
-all_push P [] x h one = (one, tt)
-all_push P (y ∷ xs) x h one = (h.0, all_push P xs x h.1 one)
-
-pub all_front : {T : Type 0} (P : T → Type 0) (xs : List T) → AreAll P xs → AreAll P (front xs)
-all_front P [] h = tt
-all_front P (x ∷ []) h = tt
-all_front P (x ∷ y ∷ xs) h = (h.0, all_front P (y ∷ xs) h.1)
-
-pub all_last : {T : Type 0} (P : T → Type 0) (xs : List T) (x : T) → AreAll P xs → last xs ≡ Some x → P x
-all_last P [] x h is = absurd cc
-all_last P (y ∷ []) x h is = let same : y ≡ x = cc in subst P same h.0
-all_last P (y ∷ z ∷ xs) x h is = all_last P (z ∷ xs) x h.1 is
 
 -- an owner that begins stands inside the innermost one
 pub owners_push : (outer : List Owner) (o : Owner) → AreOwners outer → IsOwner (name_for outer) o → AreOwners (outer ++ o ∷ [])

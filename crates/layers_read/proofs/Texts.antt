@@ -19,7 +19,8 @@ use Rattle.layers_read.proofs.Rows.{has_edited}
 use Rattle.layers_read.proofs.States.{root_head, Quiet}
 use Rattle.properties_read.proofs.Aiming.{steps_aimed}
 use Rattle.trees_read.proofs.Texts.{read_trees}
-use Rattle.layers_read.proofs.Runs.{IsAtEnd, holds_behind}
+use Rattle.trees_read.proofs.Runs.{IsAtEnd}
+use Rattle.layers_read.proofs.Runs.{holds_behind}
 
 -- ---- the first word and the last
 

@@ -2,12 +2,12 @@
 use Rattle.usda_grammar.specs.Words.{keyword_of}
 use Rattle.std.proofs.Common.{◌≡◌, inl, inr, ℕ, Bool, true, false, ◌&&◌, List, sym, refl, subst}
 use Rattle.std.specs.Str.{is_utf8}
-use Rattle.usda_grammar.specs.declared.kinds.TokenKind.{TokenKind}
-use Rattle.usda_grammar.specs.declared.kinds.TokenKind.TheVariants as token
+use Rattle.usda_grammar.specs.declared.kinds.WordKind.{WordKind}
+use Rattle.usda_grammar.specs.declared.kinds.WordKind.TheVariants as token
 use Rattle.usda_lexer.specs.Meanings.{asset_text, path_text}
 use Rattle.usda_lexer.specs.declared.token.Mark.{Mark}
 use Rattle.usda_lexer.specs.declared.token.Mark.TheVariants as mark
-use Rattle.usda_lexer.specs.declared.token.TokenKind.{TokenKind as Form}
+use Rattle.usda_lexer.specs.declared.token.TokenKind.{TokenKind}
 use Rattle.usda_lexer.specs.declared.token.TokenKind.TheVariants as form
 use Rattle.usda_words.specs.Words.{Word, kind_of, kind_of_mark}
 use Rattle.value_texts.specs.Following.{IsOfToken}
@@ -17,7 +17,7 @@ use Rattle.value_returns.specs.Fields.{IsText, IsAssetName}
 use Rattle.values_read.specs.Tokens.{is_lexed, IsLexedWord}
 
 -- a name is one, what a path stands for is UTF-8, and an asset has a name
-abbrev pub IsKnownAs : TokenKind → List ℕ → Type 0
+abbrev pub IsKnownAs : WordKind → List ℕ → Type 0
 IsKnownAs (token.Word x) text = (is_word text ≡ true) × (keyword_of text ≡ x)
 IsKnownAs token.Path text = IsText (path_text text)
 IsKnownAs token.Asset text = IsAssetName (asset_text text)
@@ -44,7 +44,7 @@ second_so : (a b : Bool) → (a && b) ≡ true → b ≡ true
 second_so true b h = h
 second_so false b h = absurd cc
 
-forms_known : (f : Form) (text : List ℕ) → is_lexed f text ≡ true → IsKnownAs (kind_of f text) text
+forms_known : (f : TokenKind) (text : List ℕ) → is_lexed f text ≡ true → IsKnownAs (kind_of f text) text
 unfolding is_word
 forms_known form.Name text h = (h, refl)
 forms_known form.Number text h = tt

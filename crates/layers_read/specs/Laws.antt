@@ -11,10 +11,10 @@ use Rattle.usda_productions.specs.Texts.{MakeBy}
 use Rattle.usda_reader.specs.Texts.{IsText}
 use Rattle.usda_words.specs.Words.{words_of}
 use Rattle.usda_writer.specs.Canonical.{canonical}
-use Rattle.layer_reads.specs.Lists.{AreAll}
 use Rattle.proper_layers.specs.Proper.{IsProper}
 use Rattle.properties_read.specs.Drafts.{IsProperEntry}
 use Rattle.value_returns.specs.Fields.{AreProperFields, IsProperHead}
+use Rattle.value_texts.specs.Each.{AreAll}
 
 -- the fields of the layer of a draft are proper, and those of each of its prims and variants
 pub record IsAllSaid (d : Draft) : Type 0 where
@@ -26,8 +26,8 @@ abbrev pub SaidIsRead : Type 0
 SaidIsRead = (bytes : List ℕ) (d : Draft) → is_utf8 bytes ≡ true → MakeBy kind_in act layer_forms blank (words_of bytes) d → IsAllSaid d
 
 -- Of each text that is UTF-8: each property that its words make is proper, and stands once.
-abbrev pub PropertiesAreRead : Type 0
-PropertiesAreRead = (bytes : List ℕ) (d : Draft) → is_utf8 bytes ≡ true → MakeBy kind_in act layer_forms blank (words_of bytes) d → AreAll IsProperEntry (layer_of d).specs
+abbrev pub SaidPropertiesAreProper : Type 0
+SaidPropertiesAreProper = (bytes : List ℕ) (d : Draft) → is_utf8 bytes ≡ true → MakeBy kind_in act layer_forms blank (words_of bytes) d → AreAll IsProperEntry (layer_of d).specs
 
 -- Each layer that a text says is proper, where its canonical text has at most 64 MiB.
 abbrev pub LayersAreRead : Type 0

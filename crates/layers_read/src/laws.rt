@@ -1,5 +1,5 @@
 // What holds of each layer that a text says, each law as the clause of a function that does nothing.
-ghost use Rattle.layers_read.specs.Laws.{SaidIsRead, PropertiesAreRead, LayersAreRead};
+ghost use Rattle.layers_read.specs.Laws.{SaidIsRead, SaidPropertiesAreProper, LayersAreRead};
 
 /// What a text says of the layer, of its prims and of its variants in their metadata and their orders is proper.
 pub fn said_is_read()
@@ -7,8 +7,8 @@ pub fn said_is_read()
 {}
 
 /// Each property that a text says is proper.
-pub fn properties_are_read()
-    ensures { PropertiesAreRead }
+pub fn said_properties_are_proper()
+    ensures { SaidPropertiesAreProper }
 {}
 
 /// Each layer that a text says is proper, where its canonical text is no longer than a text may be.

@@ -7,4 +7,4 @@
 
 mod laws;
 
-pub use laws::{layers_are_read, properties_are_read, said_is_read};
+pub use laws::{layers_are_read, said_is_read, said_properties_are_proper};

@@ -1,5 +1,5 @@
 -- Places of items, and steps of the loops over lists.
-use Rattle.std.proofs.Common.{◌≡◌, ℕ, zero, suc, ◌+◌, ◌<◌, Bool, true, false, cond, List, [], ◌∷◌, ◌++◌, Option, Some, None, ◌⊎◌, inl, inr, refl, sym, ap, ◌∙◌, subst, append_assoc, arith, length, take, drop, flat_map, get_or, nat_lt, add-zero, zero-add, length-take}
+use Rattle.std.proofs.Common.{◌≡◌, ℕ, zero, suc, ◌+◌, ◌<◌, Bool, true, false, cond, List, [], ◌∷◌, ◌++◌, Option, Some, None, ◌⊎◌, inl, inr, refl, sym, ap, ◌∙◌, subst, append_assoc, arith, length, take, drop, flat_map, get_or, nat_lt, add-zero, zero-add}
 use Rattle.std.specs.Option.{is_some}
 use Rattle.std.specs.List.{list_any, position_from}
 use Rattle.std.proofs.lemmas.Bool.{cases_Bool}
@@ -67,62 +67,6 @@ any_take p i (suc k) (x ∷ xs) = elim (cases_Bool (p x)) [
     further : (i k : ℕ) → (i + 1) + k ≡ i + suc k
     further i k = omega arith
 
-or_else : {X : Type 0} → Option X → Option X → Option X
-or_else None o = o
-or_else (Some x) o = Some x
-
--- the place with one more item at the end
-place_push : {T : Type 0} (p : T → Bool) (i : ℕ) (xs : List T) (x : T) → position_from p i (xs ++ x ∷ []) ≡ or_else (position_from p i xs) (cond (p x) (Some (i + length xs)) None)
-unfolding or_else
-place_push p i [] x = ap (λ k. cond (p x) (Some k) None) (sym (add-zero i))
-place_push p i (y ∷ ys) x = elim (cases_Bool (p y)) [
-  | inl equal ↦ rw equal refl
-  | inr other ↦ rw other (place_push p (i + 1) ys x ∙ ap (λ k. or_else (position_from p (i + 1) ys) (cond (p x) (Some k) None)) (further i (length ys)))
-]
-  where
-    further : (i k : ℕ) → (i + 1) + k ≡ i + suc k
-    further i k = omega arith
-
-or_else_none : {X : Type 0} (o : Option X) → or_else o None ≡ o
-unfolding or_else
-or_else_none None = refl
-or_else_none (Some x) = refl
-
-or_else_some : {X : Type 0} (o p : Option X) → is_some o ≡ true → or_else o p ≡ o
-unfolding or_else
-or_else_some None p h = absurd cc
-or_else_some (Some x) p h = refl
-
-or_else_first : {X : Type 0} (o p : Option X) → is_some o ≡ false → or_else o p ≡ p
-unfolding or_else
-or_else_first None p h = refl
-or_else_first (Some x) p h = absurd cc
-
--- places stay where an item is there already
-pub places_stay : {T : Type 0} (same : T → T → Bool) → ((a b : T) → same a b ≡ true → a ≡ b) → (xs : List T) (x : T) (old : T → Option ℕ)
-    → ((q : T) → old q ≡ position_from (λ y. same y q) 0 xs) → is_some (old x) ≡ true → (q : T) → old q ≡ position_from (λ y. same y q) 0 (xs ++ x ∷ [])
-places_stay same exact xs x old h there q = elim (cases_Bool (same x q)) [
-  | inl equal ↦
-      let is : x ≡ q = exact x q equal in
-      let some : is_some (position_from (λ y. same y q) 0 xs) ≡ true = ap is_some (sym (h q)) ∙ ap (λ z. is_some (old z)) (sym is) ∙ there in
-      h q ∙ sym (or_else_some _ _ some) ∙ sym (place_push (λ y. same y q) 0 xs x)
-  | inr other ↦ h q ∙ sym (or_else_none _) ∙ ap (λ b. or_else (position_from (λ y. same y q) 0 xs) (cond b (Some (0 + length xs)) None)) (sym other) ∙ sym (place_push (λ y. same y q) 0 xs x)
-]
-
--- a new item gets its place
-pub places_more : {T : Type 0} (same : T → T → Bool) → ((a b : T) → same a b ≡ true → a ≡ b) → (xs : List T) (x : T) (i : ℕ) (old new : T → Option ℕ)
-    → ((q : T) → old q ≡ position_from (λ y. same y q) 0 xs) → is_some (old x) ≡ false → i ≡ length xs → ((q : T) → new q ≡ cond (same x q) (Some i) (old q))
-    → (q : T) → new q ≡ position_from (λ y. same y q) 0 (xs ++ x ∷ [])
-places_more same exact xs x i old new h absent at written q = elim (cases_Bool (same x q)) [
-  | inl equal ↦
-      let is : x ≡ q = exact x q equal in
-      let none : is_some (position_from (λ y. same y q) 0 xs) ≡ false = ap is_some (sym (h q)) ∙ ap (λ z. is_some (old z)) (sym is) ∙ absent in
-      written q ∙ ap (λ b. cond b (Some i) (old q)) equal ∙ ap Some (at ∙ sym (zero-add (length xs))) ∙ ap (λ b. cond b (Some (0 + length xs)) None) (sym equal)
-      ∙ sym (or_else_first _ _ none) ∙ sym (place_push (λ y. same y q) 0 xs x)
-  | inr other ↦ written q ∙ ap (λ b. cond b (Some i) (old q)) other ∙ h q ∙ sym (or_else_none _)
-      ∙ ap (λ b. or_else (position_from (λ y. same y q) 0 xs) (cond b (Some (0 + length xs)) None)) (sym other) ∙ sym (place_push (λ y. same y q) 0 xs x)
-]
-
 -- ---- lists without others
 
 pub without_none : {T : Type 0} (same : T → T → Bool) (xs : List T) → without same xs [] ≡ xs
@@ -184,17 +128,3 @@ pub group_more : {T : Type 0} (f : T → List T) (order next after : List T) (i 
 group_more f order next after i x whole within is grown before =
     ap (λ l. l ++ flat_map f (drop (i + 1) order)) (grown ∙ ap (λ y. next ++ f y) is) ∙ append_assoc next (f (get_or order i x)) (flat_map f (drop (i + 1) order))
     ∙ ap (λ l. next ++ l) (sym (at_drop_more (flat_map f) order i x within)) ∙ before
-
--- one more item of the list whose places are noted
-pub noted : {T : Type 0} (same : T → T → Bool) → ((a b : T) → same a b ≡ true → a ≡ b) → (xs : List T) (i : ℕ) (x : T) (old new : T → Option ℕ) → i < length xs → x ≡ get_or xs i x
-    → ((q : T) → new q ≡ cond (is_some (old x)) (old q) (cond (same x q) (Some i) (old q))) → ((q : T) → old q ≡ position_from (λ y. same y q) 0 (take i xs))
-    → (q : T) → new q ≡ position_from (λ y. same y q) 0 (take (i + 1) xs)
-noted {T} same exact xs i x old new within is written before q =
-    let grown : take (i + 1) xs ≡ take i xs ++ x ∷ [] = take_more xs i x within ∙ ap (λ y. take i xs ++ y ∷ []) (sym is) in
-    let last : new q ≡ position_from (λ y. same y q) 0 (take i xs ++ x ∷ []) = elim (cases_Bool (is_some (old x))) [
-      | inl there ↦ written q ∙ ap (λ b. cond b (old q) (cond (same x q) (Some i) (old q))) there ∙ places_stay same exact (take i xs) x old before there q
-      | inr absent ↦
-          let some : (z : T) → new z ≡ cond (same x z) (Some i) (old z) = λ z. written z ∙ ap (λ b. cond b (old z) (cond (same x z) (Some i) (old z))) absent in
-          places_more same exact (take i xs) x i old new before absent (sym (omega (arith, length-take i xs))) some q
-    ] in
-    last ∙ ap (λ (l : List T). position_from (λ y. same y q) 0 l) (sym grown)

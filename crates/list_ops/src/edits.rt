@@ -122,7 +122,7 @@ fn joined<T: ExactClone + Drop>(items: Items<T>, more: &[T]) -> Result<Items<T>,
 }
 
 /// Appends copies.
-fn push_all<T: ExactClone + Drop>(out: &mut Items<T>, items: &[T]) -> Result<(), AllocError>
+pub fn push_all<T: ExactClone + Drop>(out: &mut Items<T>, items: &[T]) -> Result<(), AllocError>
     ensures { OnOk result (out.new ≡ out.old ++ items.now) }
 {
     for item in items {
@@ -169,7 +169,7 @@ fn without<P: Places<T>, T: Eq + ExactClone + Drop>(
 }
 
 /// The first of each item.
-fn firsts<P: Places<T>, T: Eq + ExactClone + Drop>(
+pub fn firsts<P: Places<T>, T: Eq + ExactClone + Drop>(
     alloc: Global,
     items: &[T],
 ) -> Result<Items<T>, AllocError>

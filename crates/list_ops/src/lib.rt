@@ -7,4 +7,5 @@ mod exact;
 mod op;
 mod places;
 
-pub use op::{ListOp, fold, fold_ordered, reorder, reorder_ordered};
+pub use edits::push_all;
+pub use op::{ListOp, firsts_ordered, fold, fold_ordered, reorder, reorder_ordered};

@@ -1,5 +1,5 @@
 ghost use Rattle.std.specs.Prelude.{◌≡◌, IfOk, OnOk, OnErr};
-ghost use Rattle.list_ops.specs.ListEdits.{folded, reordered};
+ghost use Rattle.list_ops.specs.ListEdits.{firsts, folded, reordered};
 
 use crate::edits;
 use crate::places::{Scanned, Sorted};
@@ -10,11 +10,17 @@ use std::alloc::{AllocError, Global};
 /// edit it: delete, add, prepend, append and reorder, in this order.
 #[derive(Debug, Drop, PartialEq, Eq)]
 pub struct ListOp<T> {
+    /// The list that replaces what weaker opinions made; none where this opinion edits it.
     pub explicit: Option<Items<T>>,
+    /// Items that are taken out.
     pub deleted: Items<T>,
+    /// Items that are put to the end unless they are there.
     pub added: Items<T>,
+    /// Items that are put to the front, wherever they were.
     pub prepended: Items<T>,
+    /// Items that are put to the end, wherever they were.
     pub appended: Items<T>,
+    /// Items that come into this order, each with what follows it.
     pub ordered: Items<T>,
 }
 
@@ -84,6 +90,16 @@ pub fn fold_ordered<T: ExactEq + ExactOrd + ExactClone + Drop>(
     ensures { IfOk result (λ list. list.items ≡ folded T.eq ops.now) }
 {
     Ok(edits::fold::<Sorted<T>, T>(alloc, ops)?.into_vec())
+}
+
+/// The first of each item, by an order of the items: with `n` items it makes `n log n` comparisons.
+pub fn firsts_ordered<T: ExactEq + ExactOrd + ExactClone + Drop>(
+    alloc: Global,
+    items: &[T],
+) -> Result<Items<T>, AllocError>
+    ensures { IfOk result (λ kept. kept ≡ firsts T.eq items.now) }
+{
+    edits::firsts::<Sorted<T>, T>(alloc, items)
 }
 
 /// Puts the groups of the listed items into listed order. A group is a listed item and the unlisted

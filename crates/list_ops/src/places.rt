@@ -12,9 +12,11 @@ use std::collections::BTreeMap;
 pub trait Places<T: Eq>: Drop {
     ghost place_of: { Self → T → Option ℕ };
 
+    /// Notes where the items of a list stand.
     fn of(alloc: Global, items: &[T]) -> Result<Self, AllocError>
         ensures { IfOk result (λ places. (x : T) → place_of places x ≡ position_from (λ y. T.eq y x) 0 items.now) };
 
+    /// The place, from 0, of the first item that is equal to this one; `None` where no item is.
     fn place(&self, item: &T) -> Option<usize>
         ensures { result ≡ place_of self.now item.now };
 }

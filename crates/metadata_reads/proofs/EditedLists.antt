@@ -10,7 +10,7 @@ use Rattle.usda_fields.specs.declared.field.ListField.{ListField}
 use Rattle.usda_fields.specs.declared.owner.OwnerDraft.{OwnerDraft}
 use Rattle.usda_grammar.specs.declared.kinds.Keyword.{Keyword}
 use Rattle.usda_grammar.specs.declared.kinds.Keyword.TheVariants as keyword
-use Rattle.usda_grammar.specs.declared.kinds.TokenKind.TheVariants as token
+use Rattle.usda_grammar.specs.declared.kinds.WordKind.TheVariants as token
 use Rattle.usda_grammar.specs.declared.symbols.Symbol.{Symbol}
 use Rattle.usda_grammar.specs.declared.symbols.Symbol.TheVariants as symbol
 use Rattle.usda_grammar.specs.Machine.{step}
@@ -32,9 +32,9 @@ use Rattle.usda_drafts.specs.declared.draft.Draft.{Draft}
 use Rattle.usda_drafts.specs.declared.draft.OpenList.TheVariants as open_list_of
 use Rattle.value_texts.specs.Cuts.{Said}
 use Rattle.value_texts.specs.ValueWords.{name_said, equals}
+use Rattle.value_texts.specs.Each.{AreAll}
 use Rattle.layer_texts.specs.FieldWords.{edit_words, list_words}
 use Rattle.layer_texts.specs.ListWords.{word, bracketed_words}
-use Rattle.layer_reads.specs.Lists.{AreAll}
 use Rattle.layer_reads.specs.Taking.{AreTaken}
 use Rattle.layer_reads.proofs.Taking.{together, weaker, above}
 use Rattle.metadata_reads.specs.Items.{AreItems}

@@ -28,14 +28,14 @@ use Rattle.usda_drafts.specs.Values.{with_said}
 use Rattle.usda_drafts.specs.declared.draft.Draft.{Draft}
 use Rattle.usda_drafts.specs.declared.draft.OpenList.TheVariants as open_list_of
 use Rattle.value_texts.specs.Cuts.{Said}
+use Rattle.value_texts.specs.Each.{AreAll}
 use Rattle.layer_texts.specs.ListWords.{string_words, path_words, reference_words, bracketed_words}
 use Rattle.layer_reads.specs.FieldLists.{with_field_list, IsPathHere}
-use Rattle.layer_reads.specs.Lists.{AreAll}
 use Rattle.layer_reads.specs.Taking.{AreTaken}
-use Rattle.layer_reads.proofs.FieldLists.{strings_taken, paths_taken}
-use Rattle.metadata_reads.proofs.Lists.{list_again}
+use Rattle.layer_reads.proofs.FieldLists.{strings_taken, paths_taken, list_again}
 use Rattle.layer_reads.proofs.Taking.{weaker}
-use Rattle.metadata_reads.specs.Fields.{text_word, path_word, reference_word, with_strings, with_path_lists, with_references, IsString, IsReferenceHere, AreListsRead}
+use Rattle.layer_reads.specs.Lists.{IsString}
+use Rattle.metadata_reads.specs.Fields.{text_word, path_word, reference_word, with_strings, with_path_lists, with_references, IsReferenceHere, AreListsRead}
 use Rattle.metadata_reads.proofs.EditedLists.{IsListField, list_items}
 use Rattle.metadata_reads.proofs.References.{references_taken}
 

@@ -2,14 +2,14 @@
 use Rattle.std.proofs.Common.{◌≡◌, ◌∙◌, true, List, [], ◌∷◌, ◌++◌, None, refl}
 use Rattle.usda_grammar.specs.Machine.{step}
 use Rattle.usda_grammar.specs.Table.{starts}
-use Rattle.usda_grammar.specs.declared.kinds.TokenKind.{TokenKind}
-use Rattle.usda_grammar.specs.declared.kinds.TokenKind.TheVariants as token
+use Rattle.usda_grammar.specs.declared.kinds.WordKind.{WordKind}
+use Rattle.usda_grammar.specs.declared.kinds.WordKind.TheVariants as token
 use Rattle.usda_grammar.specs.declared.symbols.Symbol.{Symbol}
 use Rattle.usda_grammar.specs.declared.symbols.Symbol.TheVariants as symbol
 use Rattle.usda_drafts.specs.declared.draft.Draft.{Draft}
 use Rattle.value_texts.specs.Cuts.{Said}
 use Rattle.value_texts.specs.Words.{as_word}
-use Rattle.layer_reads.specs.Lists.{AreAll}
+use Rattle.value_texts.specs.Each.{AreAll}
 use Rattle.layer_reads.specs.Taking.{AreTaken}
 use Rattle.layer_reads.proofs.Taking.{taken_nothing, together, weaker}
 use Rattle.metadata_reads.specs.Items.{begins_item, IsLeft, Left, AreItems}
@@ -41,7 +41,7 @@ nothing_left = record { symbols = []; each = tt }
 pub semicolon : IsLeft symbol.MaybeSemicolon
 semicolon = record { absent = refl; begins_none = none }
   where
-    none : (k : TokenKind) → begins_item k ≡ true → starts symbol.MaybeSemicolon k ≡ None
+    none : (k : WordKind) → begins_item k ≡ true → starts symbol.MaybeSemicolon k ≡ None
     none (token.Word w) h = refl
     none token.Quoted h = refl
     none token.CloseBrace h = refl
@@ -56,7 +56,7 @@ past_left [] from to d x said Is each begins h = h
 past_left (s ∷ ss) from to d x said Is each begins h = past s (ss ++ from) to d x said Is each.0.absent (each.0.begins_none (as_word x).kind begins) (past_left ss from to d x said Is each.1 begins h)
 
 -- a word that ends the items
-pub step_left : (ss : List Symbol) (s : Symbol) (a b : List Symbol) (k : TokenKind) → AreAll IsLeft ss → begins_item k ≡ true → step (((ss ++ s ∷ []) ++ a) ++ b) k ≡ step ((s ∷ a) ++ b) k
+pub step_left : (ss : List Symbol) (s : Symbol) (a b : List Symbol) (k : WordKind) → AreAll IsLeft ss → begins_item k ≡ true → step (((ss ++ s ∷ []) ++ a) ++ b) k ≡ step ((s ∷ a) ++ b) k
 step_left [] s a b k each begins = refl
 step_left (t ∷ ss) s a b k each begins = step_past t (((ss ++ s ∷ []) ++ a) ++ b) k each.0.absent (each.0.begins_none k begins) ∙ step_left ss s a b k each.1 begins
 

@@ -1,6 +1,5 @@
 pub mod Words
 pub mod Items
-pub mod Lists
 pub mod EditChain
 pub mod EditedLists
 pub mod Offsets

@@ -25,9 +25,9 @@ use Rattle.usda_writer.specs.Fields.{is_comment}
 use Rattle.usda_drafts.specs.declared.draft.Draft.{Draft}
 use Rattle.value_texts.specs.Cuts.{Said}
 use Rattle.value_texts.specs.ValueWords.{words_of_value, said_step, said_item, name_said, string_said, equals}
-use Rattle.value_texts.proofs.Values as fold
+use Rattle.value_texts.specs.Each.{AreAll}
+use Rattle.sdf_values.proofs.Values as fold
 use Rattle.layer_texts.specs.FieldWords.{comment_words, key_words, meta_words}
-use Rattle.layer_reads.specs.Lists.{AreAll}
 use Rattle.layer_reads.specs.Taking.{AreTaken}
 use Rattle.metadata_reads.specs.Items.{AreItems}
 use Rattle.metadata_reads.specs.Meta.{IsCommentKept, IsKeyKept, IsKeptAs, IsEntryKept, IsMetaKept}

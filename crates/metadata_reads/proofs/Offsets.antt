@@ -1,9 +1,8 @@
 -- The words of an offset and a scale behind an item.
 use Rattle.std.proofs.Common.{◌≡◌, ◌∙◌, ◌<◌, ◌^◌, ◌&&◌, Bool, true, false, T, List, [], ◌∷◌, Some, Ok, Err, ap, sym, refl, arith}
-use Rattle.std.specs.Prelude.{if◌then◌else◌, codes, ℤ, pos, negsuc, unsigned_abs, ◌≤ℤ◌, nat_le, int_le}
+use Rattle.std.specs.Prelude.{if◌then◌else◌, codes, ℤ, pos, unsigned_abs, nat_le, int_le}
 use Rattle.std.specs.Fmt.{signed_decimal}
 use Rattle.std.proofs.lemmas.Bool.Decides.{nat_tests}
-use Rattle.std.proofs.lemmas.Int.{ints}
 use Rattle.sdf_values.specs.Scales.{Offset, IsOffset}
 use Rattle.sdf_values.specs.declared.refusal.RefusalKind.TheVariants.{OffsetRange}
 use Rattle.usda_grammar.specs.declared.symbols.Symbol.{Symbol}
@@ -19,6 +18,7 @@ use Rattle.usda_drafts.specs.declared.draft.Draft.{Draft}
 use Rattle.value_texts.specs.ValueWords.{name_said, number_said, open_paren, close_paren, equals, semicolon}
 use Rattle.value_texts.proofs.WholeLeaves.{small_writable, whole_read}
 use Rattle.layer_texts.specs.ListWords.{words_unless_identity}
+use Rattle.layer_texts.proofs.Paths.{scale_short}
 use Rattle.layer_reads.specs.Taking.{AreTaken}
 use Rattle.metadata_reads.proofs.Words.{saying_word, word_then, last_word}
 
@@ -40,10 +40,6 @@ offset_read o p h =
   where
     within : nat_le (unsigned_abs o.offset) 1000000000 ≡ true
     within = let e = h.offset_within in grind (arith, nat_tests)
-
-scale_short : (n : ℤ) → pos 1 ≤ℤ n → n ≤ℤ pos 1000000 → unsigned_abs n < 10 ^ 34
-scale_short (pos n) least most = omega (arith, ints, most)
-scale_short (negsuc n) least most = absurd (omega (arith, ints, least))
 
 pub scale_read : (o p : Offset) → IsOffset o → offset_act key.Scale (signed_decimal o.scale) p ≡ Ok (record p { scale = o.scale })
 scale_read o p h =

@@ -1,6 +1,7 @@
 -- Items of references and payloads: an asset, a path or both, and an offset.
 use Rattle.std.proofs.Common.{◌≡◌, ◌∙◌, ℕ, ◌&&◌, ◌==◌, Bool, true, false, List, [], ◌∷◌, ◌++◌, Option, Some, None, Result, Ok, ap, sym, refl, subst, eqb-true}
 use Rattle.std.specs.Prelude.{codes, ℤ, pos, negsuc}
+use Rattle.std.proofs.lemmas.Bool.{and_parts}
 use Rattle.list_ops.specs.ListEdits.{firsts}
 use Rattle.list_ops.specs.declared.op.ListOp.{ListOp}
 use Rattle.plain_data.specs.Ends.{front, last-push, front-push}
@@ -40,14 +41,14 @@ use Rattle.value_texts.specs.Cuts.{Said}
 use Rattle.value_texts.specs.Words.{as_word}
 use Rattle.value_texts.specs.ValueWords.{asset_said, path_said, open_paren, open_bracket, close_bracket, comma}
 use Rattle.value_texts.proofs.AssetTokens.{asset_means, path_means}
-use Rattle.value_texts.proofs.NumberParts.{both}
+use Rattle.value_texts.specs.Each.{AreAll}
 use Rattle.layer_texts.specs.ListWords.{reference_words, target_words, words_unless_identity, bracketed_words}
 use Rattle.layer_reads.specs.FieldLists.{IsPathHere}
-use Rattle.layer_reads.specs.Lists.{AreAll, IsListRead}
+use Rattle.layer_reads.specs.Lists.{IsListRead}
 use Rattle.layer_reads.specs.Taking.{AreTaken}
-use Rattle.metadata_reads.proofs.Lists.{list_back, list_again}
 use Rattle.layer_reads.proofs.Lists.{bracketed_taken}
 use Rattle.layer_reads.proofs.Taking.{taken_nothing, above}
+use Rattle.layer_reads.proofs.FieldLists.{list_again, list_back}
 use Rattle.metadata_reads.specs.Fields.{with_references, IsAssetOrNone, IsPathOrNone, IsReferenceHere}
 use Rattle.metadata_reads.proofs.Offsets.{offset_taken}
 use Rattle.metadata_reads.proofs.Words.{saying_word, word_then, last_word, past}
@@ -76,7 +77,7 @@ identity_is o h = by o.offset o.scale h
   where
     by : (n k : ℤ) → (is_zero n && is_one k) ≡ true → record { offset = n; scale = k } ≡ identity
     by (pos n) (pos k) h =
-        let p = both (n == 0) (k == 1) h in
+        let p = and_parts (n == 0) (k == 1) h in
         ap (λ n. record { offset = pos n; scale = pos k }) (eqb-true n 0 p.0) ∙ ap (λ k. record { offset = pos 0; scale = pos k }) (eqb-true k 1 p.1)
     by (pos n) (negsuc k) h = absurd (not_both (n == 0) h)
     by (negsuc n) k h = absurd cc

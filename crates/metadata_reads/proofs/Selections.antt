@@ -5,6 +5,7 @@ use Rattle.std.specs.Cmp.Lexicographic.{pointwise}
 use Rattle.std.specs.Option.{is_some}
 use Rattle.std.specs.Str.{is_utf8}
 use Rattle.std.proofs.lemmas.Cmp.{nat_list_cmp_total}
+use Rattle.std.specs.List.Sorted.{IsStrictlySortedBy}
 use Rattle.usd_names.specs.Names.{is_name}
 use Rattle.sdf_paths.specs.Order.{text_cmp}
 use Rattle.sdf_paths.specs.declared.element.Element.{Element}
@@ -51,12 +52,13 @@ use Rattle.value_texts.specs.Cuts.{Said}
 use Rattle.value_texts.specs.ValueWords.{words_of_value, words_of_item, said_step, said_item, entries_said, key_said, name_said, string_said, equals, open_brace, close_brace}
 use Rattle.value_texts.specs.Words.{Told, told_of, as_word}
 use Rattle.value_texts.proofs.DictsGiven.{in_dict}
-use Rattle.value_texts.proofs.Given.{ClosesNone, leaf_given}
+use Rattle.value_texts.proofs.Given.{leaf_given}
 use Rattle.value_texts.proofs.Leaves.{text_gives}
 use Rattle.value_texts.proofs.StringTokens.{string_means}
 use Rattle.value_texts.proofs.TypeTexts.{type_is_found, type_is_no_dictionary}
-use Rattle.value_texts.proofs.Values as fold
-use Rattle.layer_reads.specs.Lists.{AreAll}
+use Rattle.sdf_values.proofs.Values as fold
+use Rattle.value_texts.proofs.ValuesGiven.{string_none}
+use Rattle.value_texts.specs.Each.{AreAll}
 use Rattle.layer_reads.specs.Taking.{AreTaken}
 use Rattle.layer_reads.proofs.Taking.{taken_one, together, weaker, above}
 use Rattle.metadata_reads.specs.Selections.{IsSelectionKept, AreSelectionsKept, with_selected, AreSelectionsRead}
@@ -105,13 +107,6 @@ open_last from to s d next v x After going goes is over gives after =
     ))
 
 -- ---- the dictionary
-
--- a string closes no bracket
-closes_none : (t : List ℕ) → ClosesNone (string_said t).kind
-closes_none t bracket.Statement = refl
-closes_none t bracket.Tuple = refl
-closes_none t bracket.Array = refl
-closes_none t bracket.Dict = refl
 
 acts_of : (x : Said) (d : ValueDraft) → value_act x.kind x.text d ≡ acts (x ∷ []) d
 acts_of x d = by (value_act x.kind x.text d)
@@ -196,7 +191,7 @@ module _ (base : List Element) (item : Shape) (key : List ℕ) (ty : DictType) (
   text_given t utf8 =
       let v : OpenValue = in_selections place.Value (entry_shape string_type) key string_type entries in
       ap (λ r. with_draft v (and_then r of_strings))
-      (acts_of (string_said (quoted t)) v.draft ∙ leaf_given (string_said (quoted t)) (value.Text t) v.draft refl refl (closes_none (quoted t)) refl (text_gives t utf8 (entry_shape string_type) false refl))
+      (acts_of (string_said (quoted t)) v.draft ∙ leaf_given (string_said (quoted t)) (value.Text t) v.draft refl refl (string_none (quoted t)) refl (text_gives t utf8 (entry_shape string_type) false refl))
 
 -- the words of an entry
 entry_said : (s : List ℕ × List ℕ) → words_of_item (selection_item s) ≡ name_said (codes "string") ∷ key_said s.0 ∷ equals ∷ string_said (quoted s.1) ∷ []
@@ -351,3 +346,8 @@ selections_read (e ∷ es) s at kept =
   where
     After : Draft → Type 0
     After = IsAt (saying (with_selected (e ∷ es) true s) at)
+
+-- no selected variants
+pub none_selected : AreSelectionsKept []
+unfolding IsStrictlySortedBy
+none_selected = record { ordered = tt; each = tt }

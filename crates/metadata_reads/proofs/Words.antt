@@ -1,6 +1,6 @@
 -- Single words, and symbols that may be absent before a word.
 use Rattle.std.proofs.Common.{◌≡◌, ◌∙◌, true, false, List, [], ◌∷◌, ◌++◌, map, Some, None, Ok, ap, sym, refl, subst}
-use Rattle.usda_grammar.specs.declared.kinds.TokenKind.{TokenKind}
+use Rattle.usda_grammar.specs.declared.kinds.WordKind.{WordKind}
 use Rattle.usda_grammar.specs.declared.symbols.Symbol.{Symbol}
 use Rattle.usda_grammar.specs.Machine.{step, choose}
 use Rattle.usda_grammar.specs.Table.{starts, may_be_absent}
@@ -30,7 +30,7 @@ word_taken from to s d x Is shut goes acts = taken_one from to s d x Is goes by
         (a.0, a.1, plain_act s w x d told shut ∙ ap (λ (t : Told). bodies_act s (record w { kind = t.kind; token = t.token; text = t.text; too_long = t.too_long }) d) told ∙ a.2)
 
 -- a symbol that begins with another word is absent before this one
-pub step_past : (s : Symbol) (stack : List Symbol) (k : TokenKind) → may_be_absent s ≡ true → starts s k ≡ None → step (s ∷ stack) k ≡ step stack k
+pub step_past : (s : Symbol) (stack : List Symbol) (k : WordKind) → may_be_absent s ≡ true → starts s k ≡ None → step (s ∷ stack) k ≡ step stack k
 step_past s stack k absent none = ap (λ o. choose s stack o (may_be_absent s) (step stack k)) none ∙ ap (λ b. choose s stack None b (step stack k)) absent
 
 pub past : (s : Symbol) (from to : List Symbol) (d : Draft) (x : Said) (said : List Said) (Is : Draft → Type 0) → may_be_absent s ≡ true → starts s (as_word x).kind ≡ None → AreTaken from d (x ∷ said) to Is

@@ -1,6 +1,5 @@
 -- What an owner says of a field, and what may stand in the lists of a field.
-use Rattle.std.specs.Prelude.{◌≡◌, ℕ, true, List, [], ◌∷◌, codes, Option, Some, None}
-use Rattle.std.specs.Str.{is_utf8}
+use Rattle.std.specs.Prelude.{ℕ, List, [], ◌∷◌, codes, Option, Some, None}
 use Rattle.list_ops.specs.Blank.{no_edits}
 use Rattle.list_ops.specs.declared.op.ListOp.{ListOp}
 use Rattle.sdf_paths.specs.declared.element.Element.{Element}
@@ -56,10 +55,6 @@ abbrev pub with_references : ReferenceField → ListOp RefItem → GivenLists �
 with_references field op lists s = with_items field op (record s { given = with_given_at (References field) lists s.given })
 
 -- what may stand in a list of the statements of this prim
-
--- a name in a list of names may be any UTF-8
-abbrev pub IsString : List Element → List ℕ → Type 0
-IsString base t = is_utf8 t ≡ true
 
 -- the empty asset is none
 abbrev pub IsAssetOrNone : Option (List ℕ) → Type 0

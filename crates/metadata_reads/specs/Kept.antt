@@ -5,7 +5,7 @@ use Rattle.list_ops.specs.Blank.{no_edits}
 use Rattle.list_ops.specs.ListEdits.{firsts}
 use Rattle.list_ops.specs.declared.op.ListOp.{ListOp}
 use Rattle.usda_lists.specs.declared.edit.GivenLists.{GivenLists}
-use Rattle.layer_reads.specs.Lists.{AreAll}
+use Rattle.value_texts.specs.Each.{AreAll}
 
 module _ {T : Type 0} (same : T → T → Bool) (W : T → Type 0) where
   -- items that may stand there, each once

@@ -7,7 +7,8 @@ use Rattle.layer_texts.specs.ListWords.{string_words, path_words, reference_word
 use Rattle.usda_grammar.specs.declared.symbols.Symbol.TheVariants as symbol
 use Rattle.layer_reads.specs.FieldLists.{IsPathHere}
 use Rattle.layer_reads.specs.Keys.{is_plain_key, is_plain_head_key}
-use Rattle.metadata_reads.specs.Fields.{text_word, path_word, reference_word, with_strings, with_path_lists, with_references, IsString, IsReferenceHere, AreListsRead}
+use Rattle.layer_reads.specs.Lists.{IsString}
+use Rattle.metadata_reads.specs.Fields.{text_word, path_word, reference_word, with_strings, with_path_lists, with_references, IsReferenceHere, AreListsRead}
 use Rattle.metadata_reads.specs.Meta.{AreMetaRead}
 use Rattle.metadata_reads.specs.Selections.{AreSelectionsRead}
 use Rattle.metadata_reads.specs.Sublayers.{AreSublayersRead}

@@ -20,8 +20,8 @@ use Rattle.metadata_reads.specs.Standing.{Standing, saying, IsAt}
 use Rattle.value_texts.specs.Readable.{is_read_as, depth}
 use Rattle.value_texts.specs.ValueWords.{words_of_value}
 use Rattle.value_texts.specs.Writable.{is_writable}
+use Rattle.value_texts.specs.Each.{AreAll}
 use Rattle.layer_reads.specs.Fixed.{AreFixed}
-use Rattle.layer_reads.specs.Lists.{AreAll}
 use Rattle.layer_reads.specs.Membered.{is_membered}
 
 -- the comment is a string

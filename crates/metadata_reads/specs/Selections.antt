@@ -7,7 +7,7 @@ use Rattle.spec_tables.specs.Tables.{IsTable}
 use Rattle.usda_fields.specs.declared.owner.OwnerDraft.{OwnerDraft}
 use Rattle.usda_grammar.specs.declared.symbols.Symbol.TheVariants as symbol
 use Rattle.layer_texts.specs.FieldWords.{selection_words}
-use Rattle.layer_reads.specs.Lists.{AreAll}
+use Rattle.value_texts.specs.Each.{AreAll}
 use Rattle.metadata_reads.specs.Items.{AreItems}
 use Rattle.metadata_reads.specs.Kept.{has_items}
 use Rattle.metadata_reads.specs.Standing.{Standing, saying, IsAt}

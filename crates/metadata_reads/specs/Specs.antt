@@ -15,7 +15,8 @@ use Rattle.layer_texts.specs.FieldWords.{spec_words, block_words}
 use Rattle.layer_reads.specs.FieldLists.{IsPathHere}
 use Rattle.layer_reads.specs.Keys.{is_plain_key}
 use Rattle.layer_reads.specs.Taking.{AreTaken}
-use Rattle.metadata_reads.specs.Fields.{IsString, IsReferenceHere}
+use Rattle.layer_reads.specs.Lists.{IsString}
+use Rattle.metadata_reads.specs.Fields.{IsReferenceHere}
 use Rattle.metadata_reads.specs.Items.{AreItems}
 use Rattle.metadata_reads.specs.Kept.{IsListKept, lists_of, has_items}
 use Rattle.metadata_reads.specs.Meta.{IsMetaKept}

@@ -4,7 +4,7 @@ use Rattle.sdf_values.specs.Scales.{IsOffset}
 use Rattle.spec_parts.specs.declared.items.SubLayer.{SubLayer}
 use Rattle.usda_grammar.specs.declared.symbols.Symbol.TheVariants as symbol
 use Rattle.layer_texts.specs.FieldWords.{sublayers_words}
-use Rattle.layer_reads.specs.Lists.{AreAll}
+use Rattle.value_texts.specs.Each.{AreAll}
 use Rattle.metadata_reads.specs.Items.{AreItems}
 use Rattle.metadata_reads.specs.Kept.{has_items}
 use Rattle.metadata_reads.specs.Standing.{Standing, IsAt}

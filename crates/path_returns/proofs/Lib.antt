@@ -1,3 +1,3 @@
-pub mod Tokens
 pub mod Utf8
 pub mod Returns
+pub mod Meant

@@ -13,10 +13,11 @@ use Rattle.sdf_paths.specs.declared.reader.Reader.{Reader}
 use Rattle.sdf_paths.proofs.Complete.{reads, RunsOver}
 use Rattle.sdf_paths.proofs.ParseExact.{read_printed}
 use Rattle.usda_lexer.specs.Blanks.{begins}
-use Rattle.usda_lists.specs.Paths.{path_of, finished, path_below, path_from, absolute_token}
+use Rattle.sdf_paths.specs.Reader.{path_of, finished}
+use Rattle.usda_lists.specs.Paths.{path_below, path_from, absolute_token}
 use Rattle.usda_values.specs.PathTexts.{finishes, is_path, behind_ups, is_path_below, is_path_text}
+use Rattle.value_texts.proofs.AssetTokens.{path_means}
 use Rattle.path_returns.specs.Returns.{ArePathTexts, AreTextsRead, PathsReturn, TargetsReturn, ValuePathsReturn}
-use Rattle.path_returns.proofs.Tokens.{between_brackets}
 use Rattle.path_returns.proofs.Utf8.{path_utf8}
 
 -- what is read of the characters of a printed path
@@ -53,7 +54,7 @@ printed_is_path path h =
     ap (λ b. b && finishes (after (chars (printed path)))) back.short ∙ ap finishes back.ran ∙ ap is_some back.finishes
 
 -- it begins at the root
-begins_at_root : (path : List Element) → is_ordered false path ≡ true → begins 47 (printed path) ≡ true
+pub begins_at_root : (path : List Element) → is_ordered false path ≡ true → begins 47 (printed path) ≡ true
 begins_at_root [] h = refl
 begins_at_root (Prim name ∷ rest) h = refl
 begins_at_root (Selection set variant ∷ rest) h = absurd cc
@@ -72,7 +73,7 @@ path_texts path h =
     ∙ printed_is_path path h
 
 pub paths_return : PathsReturn
-paths_return base path h = ap (path_from base) (between_brackets (printed path)) ∙ from_anywhere base path h
+paths_return base path h = ap (path_from base) (path_means (printed path)) ∙ from_anywhere base path h
 
 -- nothing is dropped of a path without selections
 plain_same : (path : List Element) → is_plain path ≡ true → plain path ≡ path

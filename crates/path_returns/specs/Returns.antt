@@ -1,12 +1,18 @@
 -- The printed text of a path, where it stands in a layer.
-use Rattle.std.specs.Prelude.{◌≡◌, true, List, [], ◌∷◌, ◌++◌, Some}
+use Rattle.std.specs.Prelude.{◌≡◌, true, List, [], ◌∷◌, ◌++◌, Option, Some, None}
 use Rattle.std.specs.Str.{is_utf8}
 use Rattle.sdf_paths.specs.Paths.{IsPath, is_plain, printed}
 use Rattle.sdf_paths.specs.declared.element.Element.{Element}
 use Rattle.usda_lexer.specs.Meanings.{path_text}
-use Rattle.usda_lists.specs.Paths.{path_of, path_from, target_from, absolute_from}
+use Rattle.sdf_paths.specs.Reader.{path_of}
+use Rattle.usda_lists.specs.Paths.{path_from, target_from, absolute_from}
 use Rattle.usda_values.specs.PathTexts.{is_path_text}
 use Rattle.usda_writer.specs.Texts.{path_text as path_token}
+
+-- there is no path, or it is one
+abbrev pub IsPathOrAbsent : Option (List Element) → Type 0
+IsPathOrAbsent None = Unit {0}
+IsPathOrAbsent (Some path) = IsPath path
 
 -- the text of each path is UTF-8
 abbrev pub AreUtf8 : Type 0

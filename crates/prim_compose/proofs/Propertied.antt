@@ -1,5 +1,5 @@
 -- The views and the faults of properties, from what their specs make together.
-use Rattle.std.proofs.Common.{◌≡◌, ◌∙◌, ap, sym, refl, List, [], ◌∷◌, ◌++◌, append_assoc, Some, None}
+use Rattle.std.proofs.Common.{◌≡◌, ◌∙◌, ap, sym, refl, List, [], ◌∷◌, ◌++◌, append_assoc, Some, None, append-nil}
 use Rattle.std.specs.Prelude.{flat_map, slice_get}
 use Rattle.spec_properties.specs.declared.property.Property.{Property}
 use Rattle.spec_properties.specs.declared.property.Property.TheVariants.{Attr, Rel}
@@ -31,14 +31,10 @@ unfolding default_by samples_by targets_by merged_metadata
 by_property name ps (Attr own ty custom uniform default samples connections meta) = refl
 by_property name ps (Rel own custom targets meta) = refl
 
-append_none : {T : Type 0} (xs : List T) → xs ++ [] ≡ xs
-append_none [] = refl
-append_none (x ∷ xs) = ap (λ l. x ∷ l) (append_none xs)
-
 -- without a spec there is no view
 pub none_pushed : (views : List PropertyView) (name : Text) (ps : List PropertySaid) → slice_get ps 0 ≡ None → views ≡ views ++ property_views name ps
 unfolding property_views
-none_pushed views name [] h = sym (append_none views)
+none_pushed views name [] h = sym (append-nil views)
 none_pushed views name (p ∷ ps) h = absurd cc
 
 first_view : (name : Text) (p q : PropertySaid) (ps : List PropertySaid) → q ≡ p → property_views name (q ∷ ps) ≡ viewed_by name p.property (folded_of (q ∷ ps)) ∷ []

@@ -1,10 +1,9 @@
 -- The room that a path leaves says which names of children fit.
 use Rattle.std.specs.Prelude.{nat_le, nat_lt, not}
-use Rattle.std.proofs.Common.{◌≡◌, ◌∙◌, sym, ap, refl, ℕ, suc, ◌+◌, ◌-◌, ◌≤◌, Bool, true, false, List, [], ◌∷◌, ◌++◌, length, map, arith, length-append, append_assoc}
+use Rattle.std.proofs.Common.{◌≡◌, ◌∙◌, sym, ap, refl, ℕ, suc, ◌+◌, ◌-◌, ◌≤◌, Bool, true, false, List, [], ◌∷◌, ◌++◌, length, map, arith, length-append, append_assoc, append-nil}
 use Rattle.std.specs.List.{list_all}
 use Rattle.std.proofs.lemmas.Bool.Decides.{nat_tests}
 use Rattle.std.proofs.lemmas.List.Elements.{filter_agree}
-use Rattle.std.proofs.lemmas.List.Sums.{fold-append}
 use Rattle.sdf_paths.specs.declared.element.Element.{Element}
 use Rattle.sdf_paths.specs.declared.element.Element.TheVariants.{Prim, Property, Selection}
 use Rattle.sdf_paths.specs.Paths.{is_prim_name, depth, printed, written_all, IsPath}
@@ -13,27 +12,21 @@ use Rattle.composition.specs.Paths.{Path, limits, fits}
 use Rattle.composition.specs.Faults.{Fault, child_too_long}
 use Rattle.composition.specs.Fields.{child_path, listed_children, unlisted_children}
 use Rattle.prim_compose.specs.Room.{bytes_left, room_of, has_room, listed_in, too_long_in}
-
-append_none : (ns : Text) → ns ++ [] ≡ ns
-append_none [] = refl
-append_none (n ∷ ns) = ap (λ (l : Text). n ∷ l) (append_none ns)
+use Rattle.prim_compose.specs.Laws.{depth_below}
 
 -- a name stands after a `/` behind names of prims
 written_below : (p : Path) (n : Text) → list_all is_prim_name p ≡ true → written_all false (p ++ Prim n ∷ []) ≡ written_all false p ++ 47 ∷ n
-written_below [] n h = append_none (47 ∷ n)
+written_below [] n h = append-nil (47 ∷ n)
 written_below (Prim m ∷ p) n h = ap (λ (l : Text). (47 ∷ m) ++ l) (written_below p n h) ∙ sym (append_assoc (47 ∷ m) (written_all false p) (47 ∷ n))
 written_below (Property m ∷ p) n h = absurd cc
 written_below (Selection s v ∷ p) n h = absurd cc
-
-depth_below : (p : Path) (n : Text) → depth (p ++ Prim n ∷ []) ≡ depth p + 1
-depth_below p n = fold-append _ 0 p (Prim n ∷ [])
 
 -- the bytes of a child's path
 bytes_below : (e : Element) (p : Path) (n : Text) → list_all is_prim_name (e ∷ p) ≡ true → length (printed (child_path (e ∷ p) n)) ≡ length (printed (e ∷ p)) + suc (length n)
 bytes_below e p n h = ap length (written_below (e ∷ p) n h) ∙ length-append (written_all false (e ∷ p)) (47 ∷ n)
 
 bytes_at_root : (n : Text) → length (printed (child_path [] n)) ≡ suc (length n)
-bytes_at_root n = ap length (append_none (47 ∷ n))
+bytes_at_root n = ap length (append-nil (47 ∷ n))
 
 room_tells : (used size most : ℕ) → used ≤ most → nat_lt size (most - used) ≡ nat_le (used + suc size) most
 room_tells used size most h = grind (arith, nat_tests)

@@ -24,7 +24,8 @@ use Rattle.layer_set.specs.LookUps.{layer_head}
 use Rattle.layer_stack.specs.Meant.{defined_stack}
 use Rattle.prim_compose.specs.Composed.{namings_of, named_by, root_viewed, root_metadata}
 use Rattle.prim_index.specs.Once.{faults_once}
-use Rattle.prim_compose.specs.Root.{default_key, with_default, merged_onto, said_by_session, session_tables, root_with}
+use Rattle.prim_compose.specs.Root.{with_default, merged_onto, said_by_session, session_tables, root_with}
+use Rattle.sdf_specs.specs.Keys.{default_key}
 
 abbrev naming_in : Option RootNames → Option Naming
 naming_in o = elim o [ None ↦ None | Some r ↦ Some (children_naming r.names r.order) ]

@@ -1,16 +1,16 @@
 -- What a composer owes: the paths that a composed prim lists are different, and right below it.
-use Rattle.std.specs.Prelude.{◌≡◌, ◌≢◌, ℕ, zero, suc, ◌+◌, ◌<◌, ◌≤◌, ◌||◌, Bool, true, false, List, [], ◌∷◌, ◌++◌, length, map, take, filter, Option, Some, None, Contains, AllPairs}
+use Rattle.std.specs.Prelude.{◌≡◌, ◌≢◌, ℕ, zero, suc, ◌+◌, ◌<◌, ◌≤◌, Bool, true, false, List, [], ◌∷◌, ◌++◌, length, map, take, filter, Option, Some, None, Contains, AllPairs}
 use Rattle.std.specs.List.{list_any, list_all}
 use Rattle.std.proofs.Common.{refl, ap, sym, ◌∙◌, arith, length-append, get_or, inl, inr}
 use Rattle.std.proofs.Math.Seq.{take-append_seam}
 use Rattle.std.proofs.lemmas.List.Sums.{fold-append}
-use Rattle.std.proofs.lemmas.Bool.{leb-true, cases_Bool}
+use Rattle.std.proofs.lemmas.Bool.{leb-true, cases_Bool, or_parts}
 use Rattle.plain_data.specs.Ends.{last, last-push}
 use Rattle.list_ops.specs.ListEdits.{firsts, without}
 use Rattle.sdf_paths.specs.Paths.{parent, depth, is_prim_name}
 use Rattle.sdf_paths.specs.declared.element.Element.{Element}
 use Rattle.sdf_paths.specs.declared.element.Element.TheVariants.{Prim}
-use Rattle.composition.specs.Texts.{Text, same_text, both}
+use Rattle.composition.specs.Texts.{Text, same_text}
 use Rattle.composition.specs.Paths.{Path, limits, fits}
 use Rattle.composition.specs.Faults.{Index, index}
 use Rattle.composition.specs.Fields.{child_path, listed_children, is_inactive, all_children, meta_of}
@@ -19,9 +19,10 @@ use Rattle.composition.specs.Views.{view, view_by_index, root_children}
 use Rattle.composition.specs.World.{World}
 use Rattle.layer_set.specs.LookUps.{look_ups}
 use Rattle.layer_set.specs.Worlds.{WorldData}
-use Rattle.layer_stack.proofs.Names.{same_itself}
 use Rattle.prim_compose.specs.Composed.{view_at}
 use Rattle.prim_compose.specs.Listing.{entry_at, listed_below}
+use Rattle.composition.proofs.Same.{same_itself}
+use Rattle.composition.proofs.Tests.{both_parts}
 
 -- names of which no two are the same
 abbrev pub AllDifferent : List Text → Type 0
@@ -33,16 +34,12 @@ pub record AreListed (p : Path) (names : List Text) : Type 0 where
   pub different : AllDifferent names
   pub fit : list_all (λ name. fits limits (child_path p name)) names ≡ true
 
-nor : (a b : Bool) → (a || b) ≡ false → (a ≡ false) × (b ≡ false)
-nor true b e = absurd cc
-nor false b e = (refl, e)
-
 -- ---- lists without some of their names
 
 absent_filter : (n : Text) (p : Text → Bool) (names : List Text) → list_any (same_text n) names ≡ false → list_any (same_text n) (filter p names) ≡ false
 absent_filter n p [] e = refl
 absent_filter n p (m ∷ names) e =
-    let two = nor (same_text n m) (list_any (same_text n) names) e in
+    let two = or_parts (same_text n m) (list_any (same_text n) names) e in
     elim (cases_Bool (p m)) [
       | inl kept ↦ rw (kept, two.0) (absent_filter n p names two.1)
       | inr gone ↦ rw gone (absent_filter n p names two.1)
@@ -117,8 +114,8 @@ last_same p n m e =
 none_like : (p : Path) (names : List Text) (n : Text) (j : ℕ) (d : Path) → list_any (same_text n) names ≡ false → j < length (map (λ m. p ++ Prim m ∷ []) names)
     → p ++ Prim n ∷ [] ≡ get_or (map (λ m. p ++ Prim m ∷ []) names) j d → ⊥
 none_like p [] n j d e within same = absurd (omega arith)
-none_like p (m ∷ names) n zero d e within same = apart n m (nor (same_text n m) (list_any (same_text n) names) e).0 (last_same p n m same)
-none_like p (m ∷ names) n (suc j) d e within same = none_like p names n j d (nor (same_text n m) (list_any (same_text n) names) e).1 (omega arith) same
+none_like p (m ∷ names) n zero d e within same = apart n m (or_parts (same_text n m) (list_any (same_text n) names) e).0 (last_same p n m same)
+none_like p (m ∷ names) n (suc j) d e within same = none_like p names n j d (or_parts (same_text n m) (list_any (same_text n) names) e).1 (omega arith) same
 
 below_different : (p : Path) (names : List Text) → AllDifferent names → AllPairs (λ x y. x ≢ y) (map (λ n. p ++ Prim n ∷ []) names)
 below_different p [] different i j d before within = absurd (omega arith)
@@ -130,10 +127,6 @@ below_different p (n ∷ names) different (suc i) (suc j) d before within = belo
 -- the paths of the children of a composed prim are different
 pub are_different : (w : WorldData) (p : Path) → AllPairs (λ x y. x ≢ y) (listed_below p (entry_at w p))
 are_different w p = below_different p (entry_at w p).children (are_listed w p).different
-
-both_true : (a b : Bool) → both a b ≡ true → (a ≡ true) × (b ≡ true)
-both_true true b h = (refl, h)
-both_true false b h = absurd cc
 
 one_below : (p : Path) (names : List Text) (q : Path) (k : ℕ) → list_all (λ name. fits limits (child_path p name)) names ≡ true
     → k < length (map (λ m. p ++ Prim m ∷ []) names) → get_or (map (λ m. p ++ Prim m ∷ []) names) k q ≡ q
@@ -154,7 +147,7 @@ pub depth_below : (p : Path) (n : Text) → depth (p ++ Prim n ∷ []) ≡ depth
 depth_below p n = fold-append _ 0 p (Prim n ∷ [])
 
 few : (p : Path) (n : Text) → fits limits (child_path p n) ≡ true → depth (p ++ Prim n ∷ []) ≤ 64
-few p n h = leb-true _ _ (both_true _ _ h).0
+few p n h = leb-true _ _ (both_parts _ _ h).0
 
 -- a path that a composed prim lists has that prim as its parent, one name more, and no more than 64 names
 pub are_below : (w : WorldData) (p q : Path) → Contains (listed_below p (entry_at w p)) q → (parent q ≡ Some p) × (depth q ≡ depth p + 1) × (depth q ≤ 64)

@@ -1,10 +1,11 @@
 -- What the stage has at `/`, by parts.
 -- docs/COMPOSITION.md, 'The stage'.
-use Rattle.std.specs.Prelude.{codes, List, [], ◌∷◌, ◌++◌, map, fold, Option, Some, None}
+use Rattle.std.specs.Prelude.{List, [], ◌∷◌, ◌++◌, map, fold, Option, Some, None}
 use Rattle.sdf_paths.specs.Order.{text_cmp}
 use Rattle.sdf_values.specs.declared.value.Value.TheVariants as value
 use Rattle.spec_properties.specs.Entries.{MetaEntries}
 use Rattle.spec_tables.specs.Tables.{with_key}
+use Rattle.sdf_specs.specs.Keys.{default_key}
 use Rattle.composition.specs.Merging.{with_weaker}
 use Rattle.composition.specs.Texts.{Text}
 use Rattle.composition.specs.Faults.{Fault, child_too_long}
@@ -13,10 +14,6 @@ use Rattle.composition.specs.Paths.{limits}
 use Rattle.composition.specs.Views.{PrimView, empty_view, head_meta, root_site}
 use Rattle.composition.specs.World.{World}
 use Rattle.prim_index.specs.Once.{faults_once}
-
--- the key of the default prim among the metadata of `/`
-unfoldable pub default_key : Text
-default_key = codes "defaultPrim"
 
 -- metadata with a default prim
 abbrev pub with_default : Text → MetaEntries → MetaEntries

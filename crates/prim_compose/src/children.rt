@@ -14,21 +14,17 @@ use field_resolve::child_names_of;
 use plain_data::{Items, Text, copy};
 use prim_opinions::SaidAt;
 use prim_view::PrimFault;
-use sdf_paths::Path;
+use sdf_paths::{MAX_BYTES, MAX_NAMES, Path};
 use sdf_values::Value;
 use spec_properties::Meta;
 use std::alloc::{AllocError, Global};
 
-/// How many names of prims a path has at most.
-const MAX_NAMES: usize = 64;
-
-/// How many bytes a path has at most in print.
-const MAX_BYTES: usize = 4096;
-
 /// The children that a place lists, and a fault for each whose path would pass a limit.
 #[derive(Drop)]
 pub struct Children {
+    /// The names of the children whose paths keep the limits, in their order.
     pub names: Items<Text>,
+    /// A fault for each other name.
     pub faults: Items<PrimFault>,
 }
 

@@ -2,7 +2,7 @@
 ghost use Rattle.std.specs.Prelude.{◌≡◌, ◌++◌, IfOk};
 ghost use Rattle.prim_index.specs.Once.{faults_once};
 
-use crate::lists::push_all;
+use list_ops::push_all;
 use plain_data::Items;
 use prim_index::faults_once;
 use prim_view::PrimFault;

@@ -1,18 +1,9 @@
 // Copies of lists, and one list after another.
-ghost use Rattle.std.specs.Prelude.{◌≡◌, ◌++◌, IfOk, OnOk};
+ghost use Rattle.std.specs.Prelude.{◌≡◌, IfOk};
 
-use plain_data::{ExactClone, Items, copy};
+use list_ops::push_all;
+use plain_data::{ExactClone, Items};
 use std::alloc::{AllocError, Global};
-
-/// Appends copies.
-pub fn push_all<T: ExactClone + Drop>(out: &mut Items<T>, items: &[T]) -> Result<(), AllocError>
-    ensures { OnOk result (out.new ≡ out.old ++ items.now) }
-{
-    for item in items {
-        out.push(copy(item)?)?;
-    }
-    Ok(())
-}
 
 /// A copy of a list.
 pub fn copied<T: ExactClone + Drop>(alloc: Global, items: &[T]) -> Result<Items<T>, AllocError>

@@ -9,8 +9,8 @@ ghost use Rattle.value_resolve.specs.Resolving.{default_by, samples_by, faults_b
 ghost use Rattle.prim_compose.specs.Composed.{property_views, faults_of_property, merged_metadata};
 ghost use Rattle.prim_compose.specs.Properties.{viewed_by, folded_of, views_on, faults_on};
 
-use crate::lists::push_all;
 use field_resolve::{merge_into, property_names_of};
+use list_ops::push_all;
 use plain_data::{Items, Text, copy};
 use prim_opinions::{PropertyAt, SaidAt, specs_of};
 use prim_view::{PrimFault, PropertyView};
@@ -25,17 +25,24 @@ use value_resolve::{AttrValue, resolve_attr_by};
 /// Properties on the stage, and the faults of what is said of them.
 #[derive(Drop)]
 pub struct Properties {
+    /// The properties, in their order.
     pub views: Items<PropertyView>,
+    /// What composition found wrong with them.
     pub faults: Items<PrimFault>,
 }
 
 /// What all specs of a property make together.
 #[derive(Drop)]
 pub struct Folded {
+    /// Whether some spec says `custom`.
     pub custom: bool,
+    /// The default of an attribute that decides; a block is one.
     pub default: Option<Value>,
+    /// The samples of an attribute that decide, in the times of the stage.
     pub samples: Samples,
+    /// The connections of an attribute or the targets of a relationship; none where there is no opinion on them.
     pub targets: Option<Items<Path>>,
+    /// The metadata of all specs as one.
     pub meta: Meta,
 }
 

@@ -3,7 +3,7 @@ ghost use Rattle.std.specs.Prelude.{◌≡◌, ◌++◌, ◌∷◌, [], fold, If
 ghost use Rattle.composition.specs.Merging.{with_weaker};
 ghost use Rattle.composition.specs.Views.{empty_view, with_default_prim, head_meta, root_site};
 ghost use Rattle.layer_set.specs.LookUps.{look_ups, layer_head, heading_of, roots_of};
-ghost use Rattle.prim_compose.specs.Root.{root_with, default_key, with_default, merged_onto, session_tables};
+ghost use Rattle.prim_compose.specs.Root.{root_with, with_default, merged_onto, session_tables};
 ghost use Rattle.prim_compose.specs.Composed.{namings_of, named_by, root_viewed, root_metadata};
 
 use crate::children::children_below;
@@ -16,7 +16,7 @@ use list_ops::ListOp;
 use plain_data::{Items, Text, copy};
 use prim_view::{PrimFault, PrimView, Site, StackName};
 use sdf_paths::Path;
-use sdf_specs::{Head, Specifier};
+use sdf_specs::{Head, Specifier, default_key};
 use sdf_values::{LayerOffset, Value};
 use spec_properties::Meta;
 use spec_tables::OrderedTable;
@@ -50,14 +50,6 @@ fn root_names(
         push_naming(alloc, &mut edits, world.held(layer))?;
     }
     texts_once(alloc, folded_texts(alloc, edits)?)
-}
-
-/// The key of the default prim.
-#[tactic(auto, unfolding(crate::specs::Root::default_key))]
-fn default_key(alloc: Global) -> Result<Text, AllocError>
-    ensures { IfOk result (λ key. key ≡ default_key) }
-{
-    Text::of(alloc, "defaultPrim")
 }
 
 /// Metadata with a default prim.
@@ -123,10 +115,7 @@ fn root_sites(alloc: Global) -> Result<Items<Site>, AllocError>
         stack: StackName::Root,
         path: Path::root(alloc),
         maps: Items::new(alloc),
-        offset: LayerOffset {
-            offset: 0,
-            scale: 1,
-        },
+        offset: LayerOffset::identity(),
         by_class: false,
         has_spec: true,
     })?;

@@ -16,11 +16,12 @@ ghost use Rattle.prim_compose.specs.Viewed.{active_names, index_in, seen, seen_b
 
 use crate::children::{active_names, children_below};
 use crate::faults::faults_after;
-use crate::lists::{copied, push_all};
+use crate::lists::copied;
 use crate::properties::properties_of;
 use crate::root::root_view;
 use field_resolve::{PrimFields, fields_of};
 use layer_set::World;
+use list_ops::push_all;
 use plain_data::{Items, Text, copy};
 use prim_index::{PrimIndex, index};
 use prim_opinions::{SaidAt, opinions_on};

@@ -1,5 +1,5 @@
 -- Which variants may be chosen.
-use Rattle.std.proofs.Common.{◌≡◌, ◌∙◌, sym, ap, refl, subst, arith, ℕ, ◌≤◌, ◌+◌, Bool, true, false, List, [], ◌∷◌, ◌++◌, length, length-append, Option, Some, None}
+use Rattle.std.proofs.Common.{◌≡◌, ◌∙◌, sym, ap, refl, subst, arith, ℕ, ◌≤◌, ◌+◌, Bool, true, false, [], ◌∷◌, ◌++◌, length, length-append, Option, Some, None, List}
 use Rattle.std.specs.Prelude.{nat_le}
 use Rattle.std.specs.Option.{is_some}
 use Rattle.std.specs.Str.{IsUtf8}
@@ -15,16 +15,14 @@ use Rattle.composition.specs.Paths.{Path, limits, fits, tail}
 use Rattle.composition.specs.Nodes.{Node, Chosen, author, child_path}
 use Rattle.prim_index.specs.Following.{if_fits}
 use Rattle.prim_index.specs.Reading.{variant_at, chosen_if_fits}
-use Rattle.prim_index.proofs.Following.{by_test}
-use Rattle.prim_index.proofs.Names.{both_hold, both_parts, name_is, variant_name_is}
+use Rattle.prim_index.proofs.Names.{name_is, variant_name_is}
+use Rattle.composition.proofs.Tests.{by_test, both_hold, both_parts}
+use Rattle.composition.proofs.Fitting.{kept_if}
 
 abbrev if_true : Chosen → Bool → Option Chosen
 if_true c b = elim b as (λ _. Option Chosen) [ true ↦ Some c | false ↦ None ]
 
-abbrev when : Path → Bool → Option Path
-when p b = elim b as (λ _. Option Path) [ true ↦ Some p | false ↦ None ]
-
-some_of : (p : Path) (b : Bool) → is_some (when p b) ≡ b
+some_of : (p : Path) (b : Bool) → is_some (kept_if p b) ≡ b
 some_of p true = refl
 some_of p false = refl
 

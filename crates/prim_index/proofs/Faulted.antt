@@ -3,11 +3,12 @@ use Rattle.std.proofs.Common.{◌≡◌, ◌∙◌, sym, ap, subst, ℕ, ◌+◌
 use Rattle.std.specs.Option.{is_some}
 use Rattle.layer_set.specs.Named.{at_name, with_name}
 use Rattle.composition.specs.Texts.{Text, same_text}
-use Rattle.layer_stack.proofs.Names.{same_text_same, at_with}
+use Rattle.layer_stack.proofs.Names.{at_with}
 use Rattle.composition.specs.Faults.{Fault}
 use Rattle.prim_view.specs.Printing.{fault_text}
 use Rattle.prim_index.specs.Once.{faults_once}
 use Rattle.prim_index.proofs.Once.{AreMet, so_far, none_so_far, kept_once, passed_over, still_met, now_met}
+use Rattle.composition.proofs.Same.{same_text_same}
 
 -- the table has the texts of these faults
 abbrev pub AreNoted : List (Text × Bool) → List Fault → Type 0

@@ -1,5 +1,5 @@
 -- The shorter tests of names tell no other names than the tables of Unicode.
-use Rattle.std.proofs.Common.{◌≡◌, ◌∙◌, sym, ap, refl, arith, lit<, ℕ, zero, suc, ◌+◌, ◌<◌, ◌≤◌, ◌==◌, Bool, true, false, not, ◌&&◌, ◌||◌, List, [], ◌∷◌}
+use Rattle.std.proofs.Common.{◌≡◌, ◌∙◌, sym, ap, refl, arith, lit<, ℕ, zero, suc, ◌<◌, ◌==◌, Bool, true, false, not, ◌&&◌, ◌||◌, List, [], ◌∷◌, ◌+◌, ◌≤◌}
 use Rattle.std.specs.Prelude.{nat_le, if◌then◌else◌}
 use Rattle.std.specs.List.{list_all}
 use Rattle.std.specs.Char.{is_ascii_alphabetic, is_ascii_alphanumeric}
@@ -7,19 +7,12 @@ use Rattle.std.specs.Str.{IsUtf8, IsAscii, chars, is_utf8}
 use Rattle.std.proofs.lemmas.Bool.{leb-true, and_parts, eqb-true}
 use Rattle.std.proofs.lemmas.Bool.Decides.{nat_tests}
 use Rattle.std.proofs.lemmas.Str.{chars-IsAscii, is_utf8-from_IsUtf8, IsAscii-append}
-use Rattle.unicode_ident.specs.Ident.{is_xid_start, is_xid_continue}
+use Rattle.unicode_ident.specs.Ident.{is_xid_continue, is_xid_start}
 use Rattle.unicode_ident.proofs.IdentLemmas.{is_xid_start-ascii, is_xid_continue-ascii}
 use Rattle.usd_names.specs.Names.{is_start, is_variant_character, is_identifier, is_variant, spells_identifier, spells_variant, spells_run}
 use Rattle.composition.specs.Texts.{both}
 use Rattle.composition.specs.Names.{is_letter, is_letter_or_digit, is_ascii_identifier, is_ascii_variant, is_name, is_variant_name}
-
-pub both_hold : (a b : Bool) → a ≡ true → b ≡ true → both a b ≡ true
-both_hold true b p q = q
-both_hold false b p q = absurd cc
-
-pub both_parts : (a b : Bool) → both a b ≡ true → (a ≡ true) × (b ≡ true)
-both_parts true b h = (refl, h)
-both_parts false b h = absurd cc
+use Rattle.composition.proofs.Tests.{both_parts}
 
 -- ---- characters below 128
 

@@ -2,7 +2,6 @@
 ghost use Rattle.std.specs.Prelude.{◌≡◌, ◌++◌, IfOk, OnOk, flat_map, map, Bool, false};
 ghost use Rattle.composition.specs.Paths.{limits, has_selections};
 ghost use Rattle.composition.specs.Nodes.{refusal};
-ghost use Rattle.composition.specs.World.{identity};
 ghost use Rattle.composition.specs.Trees.{if_followed, followed, in_own_stack, variant_branch, own_branches, any_child, is_class_of, lifted_branches};
 ghost use Rattle.prim_trees.specs.Meant.{trees_of};
 ghost use Rattle.prim_index.specs.Branches.{class_branch, lifted_of, lifted_kind};
@@ -48,16 +47,6 @@ fn push_followed(out: &mut Items<Branch>, arcs: &[Tried], kind: ArcKind) -> Resu
     Ok(())
 }
 
-/// The offset that changes no time.
-fn identity() -> LayerOffset
-    ensures { result ≡ identity }
-{
-    LayerOffset {
-        offset: 0,
-        scale: 1,
-    }
-}
-
 /// A target in the node's own stack.
 fn in_own_stack(node: &Node, target: &Path) -> Result<Lead, AllocError>
     ensures { IfOk result (λ lead. lead ≡ in_own_stack node.now target.now) }
@@ -65,7 +54,7 @@ fn in_own_stack(node: &Node, target: &Path) -> Result<Lead, AllocError>
     Ok(Lead {
         stack: copy(&node.stack)?,
         target: copy(target)?,
-        offset: identity(),
+        offset: LayerOffset::identity(),
     })
 }
 

@@ -1,27 +1,18 @@
 // The nodes to which arcs lead.
-ghost use Rattle.std.specs.Prelude.{◌≡◌, ◌∷◌, ◌++◌, ◌+◌, IfOk, OnOk, take, false};
+ghost use Rattle.std.specs.Prelude.{◌≡◌, ◌∷◌, ◌++◌, ◌+◌, IfOk, take, false};
 ghost use Rattle.path_maps.specs.declared.kind.ArcKind.TheVariants.{Variant};
 ghost use Rattle.composition.specs.Nodes.{author, child_path, child_chain};
 ghost use Rattle.prim_index.specs.Children.{arc_child_with, chosen_child, above_target, node_at, node_in_round};
 
 use crate::follow::{child_chain, child_path, if_in_range};
 use class_arcs::path_above;
+use list_ops::push_all;
 use path_maps::{ArcKind, ArcMap};
-use plain_data::{ExactClone, Items, copy};
+use plain_data::{ExactClone, Items, copy, copy_two};
 use prim_nodes::{Branch, Frame, Node};
 use prim_view::StackName;
 use sdf_paths::Path;
 use std::alloc::{AllocError, Global};
-
-/// Appends copies.
-pub fn push_all<T: ExactClone + Drop>(out: &mut Items<T>, more: &[T]) -> Result<(), AllocError>
-    ensures { OnOk result (out.new ≡ out.old ++ more.now) }
-{
-    for item in more {
-        out.push(copy(item)?)?;
-    }
-    Ok(())
-}
 
 /// The list with one item before it.
 pub fn with_first<T: ExactClone + Drop>(first: T, rest: &Items<T>) -> Result<Items<T>, AllocError>
@@ -169,20 +160,6 @@ fn chosen_levels(node: &Node, level: usize) -> Result<Items<Frame>, AllocError>
     own_levels(&node.frames, level, &none)
 }
 
-/// Copies of the authors on the way to a node, and of its arcs towards the stage.
-fn copied_way(node: &Node) -> Result<(Items<(StackName, Path)>, Items<ArcMap>), AllocError>
-    ensures { IfOk result (λ both. both ≡ (node.now.chain, node.now.maps)) }
-{
-    let chain = copy(&node.chain)?;
-    match copy(&node.maps) {
-        Ok(maps) => Ok((chain, maps)),
-        Err(error) => {
-            drop(chain);
-            Err(error)
-        }
-    }
-}
-
 /// Copies of the authors on the way to a node, and the arcs of its child towards the stage.
 fn chosen_way(
     node: &Node,
@@ -200,6 +177,28 @@ fn chosen_way(
     }
 }
 
+/// The node with another place, other frames, and another way towards the stage.
+fn with_parts(
+    node: &Node,
+    place: (StackName, Path),
+    frames: Items<Frame>,
+    way: (Items<(StackName, Path)>, Items<ArcMap>),
+) -> Node
+    ensures { result ≡ record node.now { stack = place.0; path = place.1; frames = frames; chain = way.0; maps = way.1 } }
+{
+    let (stack, path) = place;
+    let (chain, maps) = way;
+    Node {
+        stack,
+        path,
+        frames,
+        chain,
+        depth: node.depth,
+        offset: node.offset,
+        maps,
+    }
+}
+
 /// The node of a variant: stack, chain, depth and offset stay.
 #[tactic(auto, unfolding(crate::specs::Children::chosen_child))]
 pub fn chosen_child(node: &Node, branch: &Branch) -> Result<Node, AllocError>
@@ -208,18 +207,7 @@ pub fn chosen_child(node: &Node, branch: &Branch) -> Result<Node, AllocError>
     let place = child_place(&node.stack, node, branch)?;
     match chosen_levels(node, branch.level) {
         Ok(frames) => match chosen_way(node, branch) {
-            Ok((chain, maps)) => {
-                let (stack, path) = place;
-                Ok(Node {
-                    stack,
-                    path,
-                    frames,
-                    chain,
-                    depth: node.depth,
-                    offset: node.offset,
-                    maps,
-                })
-            }
+            Ok(way) => Ok(with_parts(node, place, frames, way)),
             Err(error) => {
                 drop((place, frames));
                 Err(error)
@@ -256,36 +244,14 @@ pub fn above_target(
     })
 }
 
-/// Copies of a node's stack and of its frames.
-fn copied_levels(node: &Node) -> Result<(StackName, Items<Frame>), AllocError>
-    ensures { IfOk result (λ both. both ≡ (node.now.stack, node.now.frames)) }
-{
-    let stack = copy(&node.stack)?;
-    match copy(&node.frames) {
-        Ok(frames) => Ok((stack, frames)),
-        Err(error) => {
-            drop(stack);
-            Err(error)
-        }
-    }
-}
-
 /// The same node at another path.
 #[tactic(auto, unfolding(crate::specs::Children::node_at))]
 pub fn node_at(node: &Node, path: Path) -> Result<Node, AllocError>
     ensures { IfOk result (λ there. there ≡ node_at path node.now) }
 {
-    match copied_levels(node) {
-        Ok((stack, frames)) => match copied_way(node) {
-            Ok((chain, maps)) => Ok(Node {
-                stack,
-                path,
-                frames,
-                chain,
-                depth: node.depth,
-                offset: node.offset,
-                maps,
-            }),
+    match copy_two(&node.stack, &node.frames) {
+        Ok((stack, frames)) => match copy_two(&node.chain, &node.maps) {
+            Ok(way) => Ok(with_parts(node, (stack, path), frames, way)),
             Err(error) => {
                 drop((path, stack, frames));
                 Err(error)
@@ -310,41 +276,16 @@ fn frames_in_round(above: &Items<Frame>, frame: &Frame) -> Result<Items<Frame>, 
     with_first(frame, above)
 }
 
-/// Copies of a node's stack and of its path.
-fn copied_place(node: &Node) -> Result<(StackName, Path), AllocError>
-    ensures { IfOk result (λ both. both ≡ (node.now.stack, node.now.path)) }
-{
-    let stack = copy(&node.stack)?;
-    match copy(&node.path) {
-        Ok(path) => Ok((stack, path)),
-        Err(error) => {
-            drop(stack);
-            Err(error)
-        }
-    }
-}
-
 /// The node of a round of choices: with its frame so far and those above it. That the frame rests on an overgrown listing does not
 /// show in the round.
 #[tactic(auto, unfolding(crate::specs::Children::node_in_round))]
 pub fn node_in_round(node: &Node, above: &Items<Frame>, frame: &Frame) -> Result<Node, AllocError>
     ensures { IfOk result (λ there. there ≡ node_in_round node.now above.now frame.now) }
 {
-    let place = copied_place(node)?;
+    let place = copy_two(&node.stack, &node.path)?;
     match frames_in_round(above, frame) {
-        Ok(frames) => match copied_way(node) {
-            Ok((chain, maps)) => {
-                let (stack, path) = place;
-                Ok(Node {
-                    stack,
-                    path,
-                    frames,
-                    chain,
-                    depth: node.depth,
-                    offset: node.offset,
-                    maps,
-                })
-            }
+        Ok(frames) => match copy_two(&node.chain, &node.maps) {
+            Ok(way) => Ok(with_parts(node, place, frames, way)),
             Err(error) => {
                 drop((place, frames));
                 Err(error)

@@ -9,11 +9,12 @@ ghost use Rattle.composition.specs.Nodes.{author, child_path, child_chain, is_re
 ghost use Rattle.prim_index.specs.Following.{if_fits, if_in_range, on_chain, first_of_four};
 
 use class_arcs::path_above;
-use plain_data::{Items, copy, same};
+use plain_data::{Items, copy};
 use prim_nodes::{Lead, Node};
 use prim_view::{ArcReason, StackName};
 use sdf_paths::{Path, PathFault};
 use sdf_values::LayerOffset;
+use site_order::same_stack;
 use std::alloc::AllocError;
 
 /// The path to which an arc of a level leads: its target, and then what stands below that level. None where it passes a limit.
@@ -74,12 +75,6 @@ fn is_related(p: &Path, q: &Path) -> bool
     ensures { result ≡ is_related p.now q.now }
 {
     q.has_prefix(p) || p.has_prefix(q)
-}
-
-fn same_stack(a: &StackName, b: &StackName) -> bool
-    ensures { result ≡ same_stack a.now b.now }
-{
-    same(a, b)
 }
 
 /// Whether an arc leads back to an author.

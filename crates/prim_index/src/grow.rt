@@ -12,13 +12,12 @@ ghost use Rattle.prim_index.specs.Loading.{loads};
 ghost use Rattle.prim_index.specs.Grown.{with_round};
 
 use crate::branches::{lifted_branches, own_branches};
-use crate::children::{
-    above_target, arc_child, chosen_child, node_at, node_in_round, push_all, with_first,
-};
+use crate::children::{above_target, arc_child, chosen_child, node_at, node_in_round, with_first};
 use crate::levels::front;
 use crate::reading::here_at;
 use class_arcs::same_kind;
 use layer_set::World;
+use list_ops::push_all;
 use path_maps::ArcKind;
 use plain_data::{Items, copy};
 use prim_nodes::{Branch, Frame, Here, Node};
@@ -37,7 +36,7 @@ pub const MAX_NODES: usize = 4096;
 pub const MAX_ROUNDS: usize = 16;
 
 /// The payloads that are followed.
-#[derive(Clone, Copy, Debug, Drop)]
+#[derive(Clone, Copy, Drop)]
 pub enum Payloads {
     /// Those of prims that the world's rules load.
     Ruled,
@@ -46,7 +45,7 @@ pub enum Payloads {
 }
 
 /// The children that some arcs have.
-#[derive(Debug, Drop)]
+#[derive(Drop)]
 struct Grown {
     children: Items<Child>,
     /// Whether there was no room for further ones.

@@ -1,26 +1,16 @@
 // The levels of a path, and the paths at them.
 ghost use Rattle.std.specs.Prelude.{◌≡◌, IfOk, take};
-ghost use Rattle.sdf_paths.specs.Paths.{is_selection};
 ghost use Rattle.composition.specs.Paths.{has_selections, levels};
 
 use class_arcs::path_above;
-use sdf_paths::{Element, Path};
+use sdf_paths::{Element, Path, is_selection};
 use std::alloc::AllocError;
-
-fn is_selection(element: &Element) -> bool
-    ensures { result ≡ is_selection element.now }
-{
-    match element {
-        Element::Selection { .. } => true,
-        _ => false,
-    }
-}
 
 /// Whether some element is a selection.
 pub fn has_selections(elements: &[Element]) -> bool
     ensures { result ≡ has_selections elements.now }
 {
-    elements.iter().any(is_selection)
+    elements.iter().any(|element| is_selection(element))
 }
 
 /// How many levels the path of these elements has.

@@ -16,10 +16,11 @@ use class_arcs::path_above;
 use layer_set::World;
 use layer_stack::{LayerStack, stack};
 use path_maps::ArcKind;
-use plain_data::{Items, Text, copy, same};
+use plain_data::{Items, Text, copy};
 use prim_nodes::{Authored, Chosen, Frame, Here, Node, Outcome, Tried};
 use prim_view::{ArcReason, PrimFault, SublayerFault};
 use sdf_paths::{Path, PathFault};
+use site_order::find_choice;
 use std::alloc::{AllocError, Global};
 
 /// The faults of sublayers among these.
@@ -172,24 +173,6 @@ fn push_kind(
     Ok(())
 }
 
-fn same_text(a: &Text, b: &Text) -> bool
-    ensures { result ≡ same_text a.now b.now }
-{
-    same(a, b)
-}
-
-/// The variant that is chosen for a set.
-fn choice<'a>(choices: &'a [(Text, Text)], set: &Text) -> Option<&'a Text>
-    ensures { option_copied result ≡ find_at same_text set.now choices.now }
-{
-    for (decided, variant) in choices {
-        if same_text(set, decided) {
-            return Some(variant);
-        }
-    }
-    None
-}
-
 /// A chosen variant, where the path to which it leads is within the limits.
 fn if_fitting(node: &Node, level: usize, target: Path) -> Result<Option<Chosen>, AllocError>
     ensures { IfOk result (λ chosen. chosen ≡ chosen_if_fits node.now level target) }
@@ -257,7 +240,7 @@ fn push_variants(
     ensures { OnOk result (out.new ≡ out.old ++ chosen_of node.now level frame.now.choices sets.now) }
 {
     for set in sets {
-        if let Some(name) = choice(frame.choices.as_slice(), set) {
+        if let Some(name) = find_choice(frame.choices.as_slice(), set) {
             if let Some(chosen) = variant(node, level, set, name)? {
                 out.push(chosen)?;
             }

@@ -27,7 +27,7 @@ use sdf_values::LayerOffset;
 use std::alloc::{AllocError, Global};
 
 /// A frame after its rounds of choices.
-#[derive(Debug, Drop)]
+#[derive(Drop)]
 struct Settled {
     frame: Frame,
     /// The tree with this frame, where the last round made it.
@@ -44,10 +44,7 @@ fn bare_stage_node(alloc: Global, place: &Path) -> Result<Node, AllocError>
         frames: Items::new(alloc),
         chain: Items::new(alloc),
         depth: MAX_DEPTH,
-        offset: LayerOffset {
-            offset: 0,
-            scale: 1,
-        },
+        offset: LayerOffset::identity(),
         maps: Items::new(alloc),
     })
 }

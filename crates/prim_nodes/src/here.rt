@@ -7,8 +7,11 @@ use sdf_paths::Path;
 /// What became of an item of one level of a node.
 #[derive(Debug, Drop)]
 pub struct Tried {
+    /// The kind of the arcs among which it stands.
     pub kind: ArcKind,
+    /// How many names of the node's path stand below the path at which it is authored.
     pub level: usize,
+    /// The item.
     pub authored: Authored,
     /// Why there is no child, where there is none.
     pub fault: Option<ArcReason>,
@@ -19,7 +22,9 @@ pub struct Tried {
 /// A variant that a frame of a node decides: the level, and the author with the selection.
 #[derive(Debug, Drop)]
 pub struct Chosen {
+    /// How many names of the node's path stand below the author.
     pub level: usize,
+    /// The author's path with the selection behind it.
     pub target: Path,
 }
 
@@ -28,6 +33,7 @@ pub struct Chosen {
 pub struct Here {
     /// The items of each kind, and within a kind of each level, the lowest first.
     pub arcs: Items<Tried>,
+    /// The variants that are chosen, those of the lowest level first.
     pub variants: Items<Chosen>,
     /// The variant sets at the node itself.
     pub sets: Items<Text>,

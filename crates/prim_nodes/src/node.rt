@@ -18,7 +18,9 @@ pub struct Frame {
 /// A site that composition visits for a prim, and how it came there.
 #[derive(Debug, Drop)]
 pub struct Node {
+    /// The layer stack of the site.
     pub stack: StackName,
+    /// The path of the site in that stack.
     pub path: Path,
     /// One frame for each level of the path, from the path itself up.
     pub frames: Items<Frame>,

@@ -1,5 +1,5 @@
 -- The specs that count, as one more opinion is looked at.
-use Rattle.std.proofs.Common.{◌≡◌, ◌∙◌, sym, ap, refl, ℕ, ◌+◌, ◌<◌, length, take, get_or, Bool, true, false, cond, List, [], ◌∷◌, ◌++◌, Option, Some, None}
+use Rattle.std.proofs.Common.{◌≡◌, ◌∙◌, sym, ap, refl, ℕ, ◌+◌, ◌<◌, length, take, get_or, Bool, true, false, cond, List, [], ◌∷◌, ◌++◌, Option, Some, None, append-nil}
 use Rattle.std.proofs.lemmas.List.{take_more}
 use Rattle.std.specs.Prelude.{filter}
 use Rattle.std.proofs.lemmas.Grind.{flat_map-append}
@@ -31,19 +31,15 @@ counting_more (p ∷ ps) q = ap (λ (qs : List PropertySaid). p ∷ qs) (filter_
     consed true = refl
     consed false = refl
 
-append_none : {X : Type 0} (xs : List X) → xs ++ [] ≡ xs
-append_none [] = refl
-append_none (x ∷ xs) = ap (λ ys. x ∷ ys) (append_none xs)
-
 pub counted_more : (name : Text) (said : List Said) (s : Said) → counted name (said ++ s ∷ []) ≡ with_property_of (counted name said) s (property_at name s.spec.body.properties)
 unfolding counted
 counted_more name said s =
     ap counting (flat_map-append (λ (x : Said). if_there x (property_at name x.spec.body.properties)) said (s ∷ []))
-    ∙ (ap (λ (more : List PropertySaid). counting (specs_of name said ++ more)) (append_none (if_there s (property_at name s.spec.body.properties)))
+    ∙ (ap (λ (more : List PropertySaid). counting (specs_of name said ++ more)) (append-nil (if_there s (property_at name s.spec.body.properties)))
     ∙ by_property (property_at name s.spec.body.properties))
   where
     by_property : (o : Option Property) → counting (specs_of name said ++ if_there s o) ≡ with_property_of (counting (specs_of name said)) s o
-    by_property None = ap counting (append_none (specs_of name said))
+    by_property None = ap counting (append-nil (specs_of name said))
     by_property (Some p) = counting_more (specs_of name said) (record { said = s; property = p })
 
 pub none_counted : (name : Text) → counted name [] ≡ []

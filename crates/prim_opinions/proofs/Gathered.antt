@@ -1,5 +1,5 @@
 -- Gathering site by site and layer by layer gives the opinions that are defined.
-use Rattle.std.proofs.Common.{◌≡◌, ◌∙◌, sym, ap, refl, ℕ, ◌<◌, List, [], ◌∷◌, ◌++◌, map, take, get_or, ◌+◌, length, Option, Some, None}
+use Rattle.std.proofs.Common.{◌≡◌, ◌∙◌, sym, ap, refl, ℕ, ◌<◌, List, [], ◌∷◌, ◌++◌, map, take, get_or, ◌+◌, length, Option, Some, None, append-nil}
 use Rattle.std.proofs.lemmas.List.{take_more, append_assoc}
 use Rattle.std.proofs.lemmas.Grind.{flat_map-append}
 use Rattle.std.specs.Prelude.{flat_map, option_map, option_to_list}
@@ -48,19 +48,15 @@ pub gathered_is : (w : World) (sites : List Site) → gathered w sites ≡ said_
 unfolding gathered said_on
 gathered_is w sites = flat_map_same (λ n. said_in w n (defined_stack w n.stack).layers) (said_at limits w) (at_stack w) sites
 
-append_none : {X : Type 0} (xs : List X) → xs ++ [] ≡ xs
-append_none [] = refl
-append_none (x ∷ xs) = ap (λ ys. x ∷ ys) (append_none xs)
-
 flat_map_next : {X Y : Type 0} (f : X → List Y) (xs : List X) (i : ℕ) (x : X) → i < length xs → x ≡ get_or xs i x → flat_map f (take (i + 1) xs) ≡ flat_map f (take i xs) ++ f x
 flat_map_next f xs i x within item =
     ap (flat_map f) (take_more xs i x within ∙ ap (λ y. take i xs ++ y ∷ []) (sym item))
-    ∙ (flat_map-append f (take i xs) (x ∷ []) ∙ ap (λ ys. flat_map f (take i xs) ++ ys) (append_none (f x)))
+    ∙ (flat_map-append f (take i xs) (x ∷ []) ∙ ap (λ ys. flat_map f (take i xs) ++ ys) (append-nil (f x)))
 
 module _ (w : World) where
   pub none_in : (n : Site) (out : List Said) → out ≡ out ++ said_in w n []
   unfolding said_in
-  none_in n out = sym (append_none out)
+  none_in n out = sym (append-nil out)
 
   pub said_next : (n : Site) (out : List Said) (layers : List (Text × Offset)) (i : ℕ) (e : Text × Offset) → i < length layers → e ≡ get_or layers i e
       → (out ++ said_in w n (take i layers)) ++ option_to_list (said_by w n e) ≡ out ++ said_in w n (take (i + 1) layers)

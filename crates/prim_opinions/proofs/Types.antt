@@ -18,7 +18,7 @@ use Rattle.sdf_values.specs.declared.type_name.ElementType.TheVariants as elemen
 use Rattle.sdf_values.specs.declared.type_name.TypeName.{TypeName}
 use Rattle.sdf_values.specs.TypeNames.{precision_word, precision_letter, width_digit, role_word, matrix_word, element_name, type_text}
 use Rattle.composition.specs.Texts.{Text, same_text}
-use Rattle.layer_stack.proofs.Meaning.{same_told}
+use Rattle.composition.proofs.Same.{text_told}
 
 abbrev has_bracket : Text → Bool
 has_bracket t = list_any (λ c. c == 93) t
@@ -92,10 +92,10 @@ arrays_of a b e = sym (bracket_is a) ∙ (ap has_bracket e ∙ bracket_is b)
 
 module _ (a b : TypeName) where
   pub types_differ : (a.array ≡ b.array → ⊥) → false ≡ same_text (type_text a) (type_text b)
-  types_differ h = same_told (type_text a) (type_text b) false (λ t. absurd cc, λ e. absurd (h (arrays_of a b e)))
+  types_differ h = text_told (type_text a) (type_text b) false (λ t. absurd cc, λ e. absurd (h (arrays_of a b e)))
 
   pub types_by_name : a.array ≡ b.array → (r : Bool) → IsTrue r ↔ (element_name a.element ≡ element_name b.element) → r ≡ same_text (type_text a) (type_text b)
-  types_by_name arrays r told = same_told (type_text a) (type_text b) r (λ h. whole (told.0 h), λ e. told.1 (names e))
+  types_by_name arrays r told = text_told (type_text a) (type_text b) r (λ h. whole (told.0 h), λ e. told.1 (names e))
     where
       whole : element_name a.element ≡ element_name b.element → type_text a ≡ type_text b
       whole e = λ i. e i ++ brackets (arrays i)

@@ -2,14 +2,16 @@ ghost use Rattle.std.specs.Prelude.{◌≡◌, ◌≤◌, ◌^◌, ◌*ℤ◌, �
 ghost use Rattle.composition.specs.Values.{if_time};
 ghost use Rattle.sdf_values.specs.Scales.{composed, mapped};
 
-use sdf_values::{LayerOffset, TimeCode};
+use sdf_values::{LayerOffset, MAX_UNITS, TimeCode};
 use std::marker::Model;
 
 /// How the times of a layer become those of the stage: time t becomes `t * scale + offset`. It may be out of the range of the
 /// offsets that it is composed of.
 #[derive(Clone, Copy, Debug, PartialEq, Eq)]
 pub struct StageOffset {
+    /// What is added to a time that was multiplied, in whole units of time.
     pub offset: i64,
+    /// By what a time is multiplied; at least 1.
     pub scale: i64,
 }
 
@@ -71,7 +73,7 @@ fn mapped_units(time: i128, scale: i64, shift: i128) -> Option<i128>
 {
     let scaled = time.checked_mul(scale as i128)?;
     let moved = scaled.checked_add(shift)?;
-    if moved.unsigned_abs() > MOST_UNITS {
+    if moved.unsigned_abs() > MAX_UNITS {
         return None;
     }
     Some(moved)
@@ -103,6 +105,3 @@ impl StageOffset {
 
 /// One whole unit of time.
 const UNITS: i128 = 1_000_000_000_000_000_000;
-
-/// 10^12 whole units of time.
-const MOST_UNITS: u128 = 1_000_000_000_000_000_000_000_000_000_000;

@@ -3,6 +3,7 @@ use Rattle.std.proofs.Common.{◌≡◌, ◌∙◌, ℕ, ◌||◌, Bool, true, f
 use Rattle.std.specs.Prelude.{if◌then◌else◌, codes, ℤ}
 use Rattle.std.specs.Ordering.{int_cmp}
 use Rattle.std.specs.List.{flat_map}
+use Rattle.std.proofs.Math.Bool.{or-false}
 use Rattle.list_ops.specs.Blank.{no_edits}
 use Rattle.list_ops.specs.declared.op.ListOp.{ListOp}
 use Rattle.sdf_paths.specs.Order.{text_cmp}
@@ -31,10 +32,10 @@ use Rattle.usda_drafts.specs.Bodies.{tail_act}
 use Rattle.usda_drafts.specs.declared.draft.Draft.{Draft}
 use Rattle.value_texts.specs.Cuts.{Said}
 use Rattle.value_texts.specs.ValueWords.{words_of_value, type_said, name_said, equals, dot, open_brace, close_brace}
+use Rattle.value_texts.specs.Each.{AreAll}
 use Rattle.layer_texts.specs.FieldWords.{block_words, meta_words, edit_words, list_words}
 use Rattle.layer_texts.specs.ListWords.{word, path_words, bracketed_words, explicit_words}
 use Rattle.layer_texts.specs.PropertyWords.{flag_words, default_words, sample_words, joined_words, samples_words, attribute_words, attributes_words}
-use Rattle.layer_reads.specs.Lists.{AreAll}
 use Rattle.layer_reads.specs.Taking.{AreTaken}
 use Rattle.layer_reads.proofs.Taking.{taken_nothing, together, weaker}
 use Rattle.metadata_reads.specs.Items.{Left, AreItems}
@@ -45,7 +46,7 @@ use Rattle.metadata_reads.proofs.EditChain.{word_of, is_edit, marked, edits_item
 use Rattle.metadata_reads.proofs.Items.{no_items, items_both, semicolon_left}
 use Rattle.prim_reads.specs.Bodies.{Rests}
 use Rattle.prim_reads.specs.Properties.{Marks, InHand, with_more, IsDefaultKept, IsSampleKept, IsAttributeKept, IsTargetHere, is_any_key}
-use Rattle.prim_reads.proofs.Hands.{new_named, more_named, returned, mark_again, same_type_itself, or_false}
+use Rattle.prim_reads.proofs.Hands.{new_named, more_named, returned, mark_again, same_type_itself}
 use Rattle.prim_reads.proofs.Headings.{Back, attribute_begun, attribute_edited}
 use Rattle.prim_reads.proofs.Lefts.{tail_left}
 use Rattle.prim_reads.proofs.PropertyLists.{connections_taken, edited_connections_taken}
@@ -117,8 +118,8 @@ module _ (name : List ℕ) (ty : TypeName) (custom uniform : Bool) (default : Op
   joins : (edit : ListEdit) (samples : SampleEntries) (op : ListOp (List Element)) (m : PropertyMarks) → joined_to (record { edit = edit; custom = false; uniform = false; ty = Some ty }) m (Q samples op) ≡ Ok (D edit samples op m)
   joins edit samples op m =
       ap (λ b. if b then Ok (record (D edit samples op m) { custom = custom || false; uniform = uniform || false }) else Err DuplicateSpec) (same_type_itself ty)
-      ∙ ap (λ b. Ok (record (D edit samples op m) { custom = b; uniform = uniform || false })) (or_false custom)
-      ∙ ap (λ b. Ok (record (D edit samples op m) { uniform = b })) (or_false uniform)
+      ∙ ap (λ b. Ok (record (D edit samples op m) { custom = b; uniform = uniform || false })) (or-false custom)
+      ∙ ap (λ b. Ok (record (D edit samples op m) { uniform = b })) (or-false uniform)
 
   -- the attribute goes back to its place
   back : (edit : ListEdit) (samples : SampleEntries) (op : ListOp (List Element)) (m n : PropertyMarks) (d : Draft) → InHand name at (Later m) (D edit samples op n) d → Says samples op n d

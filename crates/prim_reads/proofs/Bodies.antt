@@ -26,9 +26,10 @@ use Rattle.value_texts.specs.Cuts.{Said}
 use Rattle.value_texts.specs.ValueWords.{name_said, string_said, comma, open_bracket, close_bracket, equals}
 use Rattle.value_texts.specs.Words.{as_word}
 use Rattle.value_texts.proofs.StringTokens.{string_means}
+use Rattle.value_texts.specs.Each.{AreAll}
 use Rattle.layer_texts.specs.LayerWords.{order_words}
 use Rattle.layer_texts.specs.ListWords.{string_words, bracketed_words}
-use Rattle.layer_reads.specs.Lists.{AreAll, IsListRead}
+use Rattle.layer_reads.specs.Lists.{IsListRead}
 use Rattle.layer_reads.specs.Taking.{AreTaken}
 use Rattle.layer_reads.proofs.Lists.{bracketed_taken}
 use Rattle.layer_reads.proofs.Taking.{together, above, weaker}

@@ -1,5 +1,5 @@
 -- Properties in hand: how a statement takes one up, and where it goes behind the statement.
-use Rattle.std.proofs.Common.{◌≡◌, ◌∙◌, ℕ, ◌||◌, ◌&&◌, not, Bool, true, false, List, [], ◌∷◌, ◌++◌, Option, Some, None, Ok, ap, sym, refl, cond}
+use Rattle.std.proofs.Common.{◌≡◌, ◌∙◌, ℕ, ◌&&◌, not, Bool, true, false, List, [], ◌∷◌, ◌++◌, Option, Some, None, Ok, ap, sym, refl, cond}
 use Rattle.std.specs.Prelude.{if◌then◌else◌, unwrap_or}
 use Rattle.std.specs.BTreeMap.{is_at}
 use Rattle.std.specs.Cmp.Lexicographic.{bytes_decides}
@@ -67,7 +67,7 @@ found_last q n (r ∷ rs) is none = by (same_name n (property_name r)) none (fou
 
 -- ---- marks by name
 
-equal_itself : (k : List ℕ) → text_cmp k k ≡ Equal
+pub equal_itself : (k : List ℕ) → text_cmp k k ≡ Equal
 equal_itself k = by (text_cmp k k) (nat_list_cmp_total.antisymm k k)
   where
     by : (o : Ordering) → o ≡ ordering_reverse o → o ≡ Equal
@@ -168,10 +168,6 @@ more_named q m at h p to d free joins headed =
     ))
 
 -- a later statement on an attribute of the type, and on a relationship
-
-pub or_false : (b : Bool) → (b || false) ≡ b
-or_false true = refl
-or_false false = refl
 
 pub same_type_itself : (ty : TypeName) → same_type ty ty ≡ true
 same_type_itself ty = ap (λ b. b && (if ty.array then ty.array else not ty.array)) (same_itself (element_name ty.element)) ∙ by ty.array

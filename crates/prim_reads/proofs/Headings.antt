@@ -7,7 +7,7 @@ use Rattle.sdf_values.specs.declared.type_name.TypeName.{TypeName}
 use Rattle.usda_grammar.specs.Machine.{step}
 use Rattle.usda_grammar.specs.Words.{keyword_of}
 use Rattle.usda_grammar.specs.declared.kinds.Keyword.TheVariants as keyword
-use Rattle.usda_grammar.specs.declared.kinds.TokenKind.TheVariants as token
+use Rattle.usda_grammar.specs.declared.kinds.WordKind.TheVariants as token
 use Rattle.usda_grammar.specs.declared.symbols.Symbol.{Symbol}
 use Rattle.usda_grammar.specs.declared.symbols.Symbol.TheVariants as symbol
 use Rattle.usda_lists.specs.declared.edit.ListEdit.{ListEdit}

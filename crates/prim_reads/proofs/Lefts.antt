@@ -2,8 +2,8 @@
 use Rattle.std.proofs.Common.{◌≡◌, true, List, [], ◌∷◌, Option, Some, None, refl}
 use Rattle.sdf_values.specs.declared.value.Value.{Value}
 use Rattle.usda_grammar.specs.Table.{starts}
-use Rattle.usda_grammar.specs.declared.kinds.TokenKind.{TokenKind}
-use Rattle.usda_grammar.specs.declared.kinds.TokenKind.TheVariants as token
+use Rattle.usda_grammar.specs.declared.kinds.WordKind.{WordKind}
+use Rattle.usda_grammar.specs.declared.kinds.WordKind.TheVariants as token
 use Rattle.usda_grammar.specs.declared.symbols.Symbol.TheVariants as symbol
 use Rattle.value_texts.specs.Cuts.{Said}
 use Rattle.metadata_reads.specs.Items.{begins_item, IsLeft, Left}
@@ -12,7 +12,7 @@ use Rattle.metadata_reads.proofs.Items.{semicolon, semicolon_left}
 pub attribute_tail : IsLeft symbol.MaybeAttributeTail
 attribute_tail = record { absent = refl; begins_none = none }
   where
-    none : (k : TokenKind) → begins_item k ≡ true → starts symbol.MaybeAttributeTail k ≡ None
+    none : (k : WordKind) → begins_item k ≡ true → starts symbol.MaybeAttributeTail k ≡ None
     none (token.Word w) h = refl
     none token.Quoted h = refl
     none token.CloseBrace h = refl
@@ -22,7 +22,7 @@ attribute_tail = record { absent = refl; begins_none = none }
 pub metadata : IsLeft symbol.MaybePropertyMetadata
 metadata = record { absent = refl; begins_none = none }
   where
-    none : (k : TokenKind) → begins_item k ≡ true → starts symbol.MaybePropertyMetadata k ≡ None
+    none : (k : WordKind) → begins_item k ≡ true → starts symbol.MaybePropertyMetadata k ≡ None
     none (token.Word w) h = refl
     none token.Quoted h = refl
     none token.CloseBrace h = refl
@@ -32,7 +32,7 @@ metadata = record { absent = refl; begins_none = none }
 pub targets : IsLeft symbol.MaybeTargets
 targets = record { absent = refl; begins_none = none }
   where
-    none : (k : TokenKind) → begins_item k ≡ true → starts symbol.MaybeTargets k ≡ None
+    none : (k : WordKind) → begins_item k ≡ true → starts symbol.MaybeTargets k ≡ None
     none (token.Word w) h = refl
     none token.Quoted h = refl
     none token.CloseBrace h = refl

@@ -14,7 +14,7 @@ use Rattle.usda_fields.specs.Names.{if_named}
 use Rattle.usda_grammar.specs.Machine.{step}
 use Rattle.usda_grammar.specs.Words.{keyword_of}
 use Rattle.usda_grammar.specs.declared.kinds.Keyword.TheVariants as keyword
-use Rattle.usda_grammar.specs.declared.kinds.TokenKind.TheVariants as token
+use Rattle.usda_grammar.specs.declared.kinds.WordKind.TheVariants as token
 use Rattle.usda_grammar.specs.declared.symbols.Symbol.{Symbol}
 use Rattle.usda_grammar.specs.declared.symbols.Symbol.TheVariants as symbol
 use Rattle.usda_lists.specs.Acts.{and_then}

@@ -27,9 +27,9 @@ use Rattle.value_texts.specs.Words.{as_word}
 use Rattle.layer_texts.specs.ListWords.{path_words, bracketed_words, explicit_words}
 use Rattle.layer_reads.specs.Lists.{IsListRead}
 use Rattle.layer_reads.specs.Taking.{AreTaken}
-use Rattle.metadata_reads.proofs.Lists.{list_back, list_again}
 use Rattle.layer_reads.proofs.Lists.{bracketed_taken}
 use Rattle.layer_reads.proofs.Taking.{together, above}
+use Rattle.layer_reads.proofs.FieldLists.{list_again, list_back}
 use Rattle.metadata_reads.specs.Kept.{AreKept}
 use Rattle.metadata_reads.specs.Standing.{Standing}
 use Rattle.metadata_reads.proofs.EditedLists.{equals_taken}

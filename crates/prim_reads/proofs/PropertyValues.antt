@@ -32,7 +32,8 @@ use Rattle.usda_drafts.specs.Bodies.{tail_act, dot_act, default_begun, samples_b
 use Rattle.usda_drafts.specs.Metadata.{property_item_act, property_key_act, property_rule}
 use Rattle.usda_drafts.specs.Prims.{open_act}
 use Rattle.usda_drafts.specs.Refusals.{refused, then_with}
-use Rattle.usda_drafts.specs.Values.{with_property, aimed_at_key, aimed_at_default, aimed_at_sample, shape_of, completed, is_selections, time_act, time_of_number, finite_time, in_range}
+use Rattle.usda_values.specs.Scalars.{finite_time}
+use Rattle.usda_drafts.specs.Values.{with_property, aimed_at_key, aimed_at_default, aimed_at_sample, shape_of, completed, is_selections, time_act, time_of_number, in_range}
 use Rattle.usda_drafts.specs.declared.aim.Goal.TheVariants as goal
 use Rattle.usda_drafts.specs.declared.draft.Draft.{Draft}
 use Rattle.value_texts.specs.Cuts.{Said}
@@ -41,10 +42,10 @@ use Rattle.value_texts.specs.Readable.{is_read_as}
 use Rattle.value_texts.specs.Words.{as_word}
 use Rattle.value_texts.proofs.Leaves.{timed_read}
 use Rattle.value_texts.proofs.StringTokens.{string_means}
+use Rattle.value_texts.specs.Each.{AreAll}
 use Rattle.layer_texts.specs.FieldWords.{block_words, meta_words}
 use Rattle.layer_texts.specs.PropertyWords.{colon, sample_words}
 use Rattle.layer_reads.specs.Fixed.{AreFixed}
-use Rattle.layer_reads.specs.Lists.{AreAll}
 use Rattle.layer_reads.specs.Taking.{AreTaken}
 use Rattle.layer_reads.proofs.OpenValues.{value_taken}
 use Rattle.layer_reads.proofs.Taking.{together, weaker, above}

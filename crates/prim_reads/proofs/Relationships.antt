@@ -2,6 +2,7 @@
 use Rattle.std.proofs.Common.{◌≡◌, ◌∙◌, ℕ, Bool, true, false, List, [], ◌∷◌, ◌++◌, append_assoc, append-nil, Option, Some, None, Ok, ap, sym, refl, subst}
 use Rattle.std.specs.Prelude.{codes}
 use Rattle.std.specs.Option.{is_some}
+use Rattle.std.proofs.Math.Bool.{or-false}
 use Rattle.list_ops.specs.Blank.{no_edits}
 use Rattle.list_ops.specs.declared.op.ListOp.{ListOp}
 use Rattle.sdf_paths.specs.Order.{text_cmp}
@@ -42,7 +43,7 @@ use Rattle.metadata_reads.proofs.Words.{past}
 use Rattle.prim_reads.specs.Bodies.{Rests}
 use Rattle.prim_reads.specs.Properties.{Marks, InHand, with_more, IsRelationshipKept, IsPropertyRead, IsTargetHere, is_any_key}
 use Rattle.prim_reads.proofs.Attributes.{attribute_items}
-use Rattle.prim_reads.proofs.Hands.{new_named, more_named, returned, mark_again, or_false}
+use Rattle.prim_reads.proofs.Hands.{new_named, more_named, returned, mark_again}
 use Rattle.prim_reads.proofs.Headings.{Back, relationship_begun, relationship_edited}
 use Rattle.prim_reads.proofs.Lefts.{metadata_left, targets_left}
 use Rattle.prim_reads.proofs.PropertyLists.{targets_taken}
@@ -134,7 +135,7 @@ module _ (name : List ℕ) (custom : Bool) (meta : MetaEntries) (at : Standing) 
   -- ---- later statements
 
   joins : (edit : ListEdit) (op : ListOp (List Element)) (lists : GivenLists) → joined_to (record { edit = edit; custom = false; uniform = false; ty = None }) (M lists) (Q op) ≡ Ok (D edit op meta lists)
-  joins edit op lists = ap (λ b. Ok (record (D edit op meta lists) { custom = b })) (or_false custom)
+  joins edit op lists = ap (λ b. Ok (record (D edit op meta lists) { custom = b })) (or-false custom)
 
   one_list : (edit : ListEdit) → is_edit edit ≡ true → (op : ListOp (List Element)) (m : GivenLists) (x : List Element) (xs : List (List Element)) → give edit m ≡ Ok (marked edit true m)
       → AreKept same_path (IsTargetHere at.owner.said.base) (x ∷ xs) → AreItems symbol.PrimBody (edit_words (word (word_of edit)) (named_words name) path_words (x ∷ xs)) (Says op m) (Says (with_list edit (x ∷ xs) op) (marked edit true m))

@@ -21,8 +21,8 @@ use Rattle.usda_drafts.specs.declared.draft.Draft.{Draft}
 use Rattle.usda_drafts.specs.declared.owner.Owner.{Owner}
 use Rattle.value_texts.specs.Cuts.{Said}
 use Rattle.value_texts.specs.ValueWords.{close_brace}
+use Rattle.value_texts.specs.Each.{AreAll}
 use Rattle.layer_texts.specs.LayerWords.{order_words, prim_head_words, variant_head_words, set_head_words}
-use Rattle.layer_reads.specs.Lists.{AreAll}
 use Rattle.metadata_reads.specs.Items.{AreItems}
 use Rattle.metadata_reads.specs.Kept.{has_items}
 use Rattle.metadata_reads.specs.Specs.{IsSpecKept, behind_metadata}

@@ -25,9 +25,9 @@ use Rattle.usda_drafts.specs.declared.draft.Draft.{Draft}
 use Rattle.value_texts.specs.Readable.{is_read_as, depth}
 use Rattle.value_texts.specs.ValueWords.{words_of_value}
 use Rattle.value_texts.specs.Writable.{is_writable}
+use Rattle.value_texts.specs.Each.{AreAll}
 use Rattle.layer_texts.specs.PropertyWords.{property_words}
 use Rattle.layer_reads.specs.Fixed.{AreFixed}
-use Rattle.layer_reads.specs.Lists.{AreAll}
 use Rattle.layer_reads.specs.Membered.{is_membered}
 use Rattle.metadata_reads.specs.Items.{AreItems}
 use Rattle.metadata_reads.specs.Kept.{IsListKept, lists_of, has_items}

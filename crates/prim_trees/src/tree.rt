@@ -5,7 +5,9 @@ use prim_nodes::{Branch, Here, Node};
 #[cycle(tree)]
 #[derive(Debug, Drop)]
 pub struct Tree {
+    /// The node.
     pub node: Node,
+    /// What the layers of its stack say there.
     pub here: Here,
     /// The arcs of the node's own that are followed: inherits, variants, references, payloads, specializes.
     pub own: Items<Child>,
@@ -21,6 +23,8 @@ pub struct Tree {
 #[cycle(tree)]
 #[derive(Debug, Drop)]
 pub struct Child {
+    /// The arc.
     pub branch: Branch,
+    /// The node to which it leads, with what stands below that.
     pub tree: Tree,
 }

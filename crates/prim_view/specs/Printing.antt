@@ -1,6 +1,6 @@
 -- The texts of faults.
-use Rattle.std.specs.Prelude.{ℕ, Bool, true, false, ◌&&◌, ◌==◌, ℤ, pos, negsuc, codes, List, [], ◌∷◌, ◌++◌, Option, Some, None}
-use Rattle.std.specs.Fmt.{decimal, signed_decimal}
+use Rattle.std.specs.Prelude.{ℕ, codes, List, [], ◌∷◌, ◌++◌, Option, Some, None}
+use Rattle.std.specs.Fmt.{decimal}
 use Rattle.path_maps.specs.declared.kind.ArcKind.{ArcKind}
 use Rattle.path_maps.specs.declared.kind.ArcKind.TheVariants as arc
 use Rattle.prim_view.specs.declared.fault.ArcFault.{ArcFault}
@@ -16,10 +16,9 @@ use Rattle.prim_view.specs.declared.fault.SublayerReason.{SublayerReason}
 use Rattle.prim_view.specs.declared.fault.SublayerReason.TheVariants as sublayer
 use Rattle.prim_view.specs.declared.fault.TargetFault.{TargetFault}
 use Rattle.prim_view.specs.declared.fault.TimeFault.{TimeFault}
-use Rattle.sdf_paths.specs.Paths.{printed}
+use Rattle.sdf_paths.specs.Paths.{path_text, printed}
 use Rattle.sdf_paths.specs.declared.element.Element.{Element}
-use Rattle.sdf_values.specs.Print.{asset_text, quoted}
-use Rattle.sdf_values.specs.Scales.{Offset}
+use Rattle.sdf_values.specs.Print.{asset_text, offset_text, quoted}
 use Rattle.sdf_values.specs.declared.refusal.RefusalKind.{RefusalKind}
 use Rattle.sdf_values.specs.declared.refusal.RefusalKind.TheVariants as kind
 use Rattle.spec_parts.specs.declared.items.Refusal.{Refusal}
@@ -27,33 +26,6 @@ use Rattle.spec_parts.specs.declared.items.Refusal.{Refusal}
 -- a text, by its bytes
 abbrev pub Text : Type 0
 Text = List ℕ
-
--- a path stands between `<` and `>`
-abbrev pub path_text : List Element → Text
-path_text p = codes "<" ++ printed p ++ codes ">"
-
--- an offset that moves no time
-abbrev pub is_zero : ℤ → Bool
-is_zero (pos n) = n == 0
-is_zero (negsuc n) = false
-
--- a scale that stretches no time
-abbrev pub is_one : ℤ → Bool
-is_one (pos n) = n == 1
-is_one (negsuc n) = false
-
--- the offset changes no time
-abbrev pub is_identity : Offset → Bool
-is_identity o = is_zero o.offset && is_one o.scale
-
--- offset and scale behind an item, unless they change no time
-abbrev pub unless_identity : Bool → Offset → Text
-unless_identity true o = []
-unless_identity false o = codes " (offset = " ++ signed_decimal o.offset ++ codes "; scale = " ++ signed_decimal o.scale ++ codes ")"
-
--- an offset behind an item; the one that changes no time is not written
-abbrev pub offset_text : Offset → Text
-offset_text o = unless_identity (is_identity o) o
 
 -- an item by its layer and its path, as far as it names them, or `<>`
 abbrev pub item_name : ItemSource → Option (List Element) → Text

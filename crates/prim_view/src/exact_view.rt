@@ -1,13 +1,11 @@
 // The composed prim: copies that are the value itself, and equality that tells every two apart.
-ghost use Rattle.std.specs.Prelude.{◌≡◌, ◌↔◌, IsTrue, IfOk, OnOk};
+ghost use Rattle.std.specs.Prelude.{◌≡◌, ◌↔◌, IsTrue, OnOk};
 
 use crate::site::Site;
 use crate::view::{PrimView, PropertyView};
-use plain_data::{ExactClone, ExactEq, Items, Text, copy, same};
-use sdf_paths::Path;
-use sdf_values::Value;
+use plain_data::{ExactClone, ExactEq, Items, Text, copy, copy_three, copy_two, same};
 use spec_parts::Specifier;
-use spec_properties::{Meta, Samples};
+use spec_properties::Meta;
 use std::alloc::{AllocError, Global};
 
 impl Clone for Site {
@@ -71,59 +69,6 @@ fn same_site(a: &Site, b: &Site) -> bool
         && a.has_spec == b.has_spec
 }
 
-/// A copy of the values of an attribute.
-fn copied_values(
-    default: &Option<Value>,
-    samples: &Samples,
-) -> Result<(Option<Value>, Samples), AllocError>
-    ensures { IfOk result (λ both. both ≡ (default.now, samples.now)) }
-{
-    let default = copy(default)?;
-    match copy(samples) {
-        Ok(samples) => Ok((default, samples)),
-        Err(error) => {
-            drop(default);
-            Err(error)
-        }
-    }
-}
-
-/// A copy of the paths and the metadata of a property.
-fn copied_paths(
-    paths: &Option<Items<Path>>,
-    meta: &Meta,
-) -> Result<(Option<Items<Path>>, Meta), AllocError>
-    ensures { IfOk result (λ both. both ≡ (paths.now, meta.now)) }
-{
-    let paths = copy(paths)?;
-    match copy(meta) {
-        Ok(meta) => Ok((paths, meta)),
-        Err(error) => {
-            drop(paths);
-            Err(error)
-        }
-    }
-}
-
-/// A copy of what an attribute has beside its name and its flags.
-fn copied_content(
-    default: &Option<Value>,
-    samples: &Samples,
-    connections: &Option<Items<Path>>,
-    meta: &Meta,
-) -> Result<((Option<Value>, Samples), (Option<Items<Path>>, Meta)), AllocError>
-    ensures { IfOk result (λ all. all ≡ ((default.now, samples.now), (connections.now, meta.now))) }
-{
-    let values = copied_values(default, samples)?;
-    match copied_paths(connections, meta) {
-        Ok(paths) => Ok((values, paths)),
-        Err(error) => {
-            drop(values);
-            Err(error)
-        }
-    }
-}
-
 impl Clone for PropertyView {
     ghost use Rattle.std.specs.Prelude.{◌≡◌};
 
@@ -141,9 +86,9 @@ impl Clone for PropertyView {
                 connections,
                 meta,
             } => {
-                let name = copy(name)?;
-                match copied_content(default, samples, connections, meta) {
-                    Ok(((default, samples), (connections, meta))) => Ok(PropertyView::Attr {
+                let (name, default, samples) = copy_three(name, default, samples)?;
+                match copy_two(connections, meta) {
+                    Ok((connections, meta)) => Ok(PropertyView::Attr {
                         name,
                         ty: *ty,
                         custom: *custom,
@@ -154,7 +99,7 @@ impl Clone for PropertyView {
                         meta,
                     }),
                     Err(error) => {
-                        drop(name);
+                        drop((name, default, samples));
                         Err(error)
                     }
                 }
@@ -165,19 +110,13 @@ impl Clone for PropertyView {
                 targets,
                 meta,
             } => {
-                let name = copy(name)?;
-                match copied_paths(targets, meta) {
-                    Ok((targets, meta)) => Ok(PropertyView::Rel {
-                        name,
-                        custom: *custom,
-                        targets,
-                        meta,
-                    }),
-                    Err(error) => {
-                        drop(name);
-                        Err(error)
-                    }
-                }
+                let (name, targets, meta) = copy_three(name, targets, meta)?;
+                Ok(PropertyView::Rel {
+                    name,
+                    custom: *custom,
+                    targets,
+                    meta,
+                })
             }
         }
     }

@@ -21,6 +21,7 @@ pub enum SublayerReason {
 /// A sublayer that is not part of a layer stack.
 #[derive(Clone, Debug, Drop, PartialEq, Eq)]
 pub struct SublayerFault {
+    /// Why it is not part of the stack.
     pub reason: SublayerReason,
     /// The layer that lists it.
     pub layer: AssetId,
@@ -65,7 +66,9 @@ pub enum ItemSource {
 /// The offset of an item, composed with that of its layer. It may be out of the range of offsets.
 #[derive(Clone, Copy, Debug, PartialEq, Eq)]
 pub struct FaultOffset {
+    /// What is added to a time that was multiplied, in whole units of time.
     pub offset: i64,
+    /// By what a time is multiplied.
     pub scale: i64,
 }
 
@@ -82,21 +85,26 @@ impl Model for FaultOffset {
 /// An item of references, payloads or classes, as it stands among those of all layers.
 #[derive(Clone, Debug, Drop)]
 pub struct FaultItem {
+    /// The layer that it names.
     pub source: ItemSource,
     /// The target; none stands for the default prim.
     pub path: Option<Path>,
+    /// How times of the target become those of the stack that has the item.
     pub offset: FaultOffset,
 }
 
 /// An arc that was not followed, or an item that gives none.
 #[derive(Clone, Debug, Drop)]
 pub struct ArcFault {
+    /// Why there is no arc, or why it was not followed.
     pub reason: ArcReason,
     /// The strongest layer whose opinion gave the item.
     pub layer: AssetId,
     /// The path at which the layer says it.
     pub site: Path,
+    /// The kind of the arc.
     pub kind: ArcKind,
+    /// The item.
     pub item: FaultItem,
 }
 
@@ -131,7 +139,9 @@ pub enum PrimFault {
     Sublayer(SublayerFault),
     /// A fault of an arc, by its reason.
     Arc(ArcFault),
+    /// An attribute some of whose times leave the range of times; they are left out.
     TimeOutside(TimeFault),
+    /// A target or a connection that has no meaning on the stage; it is left out.
     TargetOutside(TargetFault),
     /// `PathTooLong` of a child of this name.
     ChildTooLong(Text),

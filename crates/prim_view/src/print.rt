@@ -1,19 +1,18 @@
 //! The texts of faults.
-ghost use Rattle.std.specs.Prelude.{◌≡◌, ◌++◌, false, IfOk, OnOk, codes, string_bytes};
-ghost use Rattle.std.specs.Fmt.{decimal, signed_decimal};
-ghost use Rattle.sdf_paths.specs.Paths.{printed};
-ghost use Rattle.prim_view.specs.Printing.{path_text, is_zero, is_one, is_identity, unless_identity, offset_text, item_name, item_text, field_name, reason_name, refusal_name, refusal_text, refusal_of, arc_front, arc_back, arc_text, sublayer_reason_name, sublayer_text, place_text, property_text, property_place, target_word, time_word, child_word, time_text, target_front, target_text, child_text, fault_text};
+ghost use Rattle.std.specs.Prelude.{◌≡◌, ◌++◌, IfOk, OnOk, codes, string_bytes};
+ghost use Rattle.std.specs.Fmt.{decimal};
+ghost use Rattle.prim_view.specs.Printing.{item_name, item_text, field_name, reason_name, refusal_name, refusal_text, refusal_of, arc_front, arc_back, arc_text, sublayer_reason_name, sublayer_text, place_text, property_text, property_place, target_word, time_word, child_word, time_text, target_front, target_text, child_text, fault_text};
 ghost use Rattle.sdf_values.specs.Print.{asset_text};
 
 use crate::fault::{
-    ArcFault, ArcReason, FaultItem, FaultOffset, ItemSource, PrimFault, SublayerFault,
-    SublayerReason, TargetFault, TimeFault,
+    ArcFault, ArcReason, FaultItem, ItemSource, PrimFault, SublayerFault, SublayerReason,
+    TargetFault, TimeFault,
 };
 use asset_names::AssetId;
 use path_maps::ArcKind;
 use plain_data::Text;
-use sdf_paths::Path;
-use sdf_values::{RefusalKind, push_asset, push_string};
+use sdf_paths::{Path, push_path, push_path_text};
+use sdf_values::{RefusalKind, push_asset, push_offset, push_string};
 use spec_parts::Refusal;
 use std::alloc::{AllocError, Global};
 
@@ -86,74 +85,12 @@ fn push_name(out: &mut String, name: &AssetId) -> Result<(), AllocError>
     push_asset(out, name.text())
 }
 
-/// Appends a path as it is printed.
-fn push_printed(out: &mut String, path: &Path) -> Result<(), AllocError>
-    ensures { OnOk result (string_bytes out.new ≡ string_bytes out.old ++ printed path.now) }
-{
-    let text = path.print()?;
-    out.push_str(text.as_str())
-}
-
-fn push_path(out: &mut String, path: &Path) -> Result<(), AllocError>
-    ensures { OnOk result (string_bytes out.new ≡ string_bytes out.old ++ path_text path.now) }
-{
-    out.push_str("<")?;
-    push_printed(out, path)?;
-    out.push_str(">")
-}
-
-fn is_zero(n: i64) -> bool
-    ensures { result ≡ is_zero n }
-{
-    n == 0
-}
-
-fn is_one(n: i64) -> bool
-    ensures { result ≡ is_one n }
-{
-    n == 1
-}
-
-fn is_identity(offset: FaultOffset) -> bool
-    ensures { result ≡ is_identity offset }
-{
-    is_zero(offset.offset) && is_one(offset.scale)
-}
-
-/// Appends a whole number.
-fn push_whole(out: &mut String, n: i64) -> Result<(), AllocError>
-    ensures { OnOk result (string_bytes out.new ≡ string_bytes out.old ++ signed_decimal n) }
-{
-    let text = n.to_string(*out.allocator())?;
-    out.push_str(text.as_str())
-}
-
 /// Appends the number of a line or a column.
 fn push_count(out: &mut String, n: u64) -> Result<(), AllocError>
     ensures { OnOk result (string_bytes out.new ≡ string_bytes out.old ++ decimal n) }
 {
     let text = n.to_string(*out.allocator())?;
     out.push_str(text.as_str())
-}
-
-fn push_shift(out: &mut String, offset: FaultOffset) -> Result<(), AllocError>
-    ensures { OnOk result (string_bytes out.new ≡ string_bytes out.old ++ unless_identity false offset) }
-{
-    out.push_str(" (offset = ")?;
-    push_whole(out, offset.offset)?;
-    out.push_str("; scale = ")?;
-    push_whole(out, offset.scale)?;
-    out.push_str(")")
-}
-
-fn push_offset(out: &mut String, offset: FaultOffset) -> Result<(), AllocError>
-    ensures { OnOk result (string_bytes out.new ≡ string_bytes out.old ++ offset_text offset) }
-{
-    if is_identity(offset) {
-        Ok(())
-    } else {
-        push_shift(out, offset)
-    }
 }
 
 fn push_item_name(
@@ -166,20 +103,20 @@ fn push_item_name(
     match source {
         ItemSource::Own => match path {
             None => out.push_str("<>"),
-            Some(path) => push_path(out, path),
+            Some(path) => push_path_text(out, path),
         },
         ItemSource::Named(name) => match path {
             None => push_name(out, name),
             Some(path) => {
                 push_name(out, name)?;
-                push_path(out, path)
+                push_path_text(out, path)
             }
         },
         ItemSource::Unanchored(asset) => match path {
             None => push_asset(out, asset.as_str()),
             Some(path) => {
                 push_asset(out, asset.as_str())?;
-                push_path(out, path)
+                push_path_text(out, path)
             }
         },
     }
@@ -189,7 +126,7 @@ fn push_item(out: &mut String, item: &FaultItem) -> Result<(), AllocError>
     ensures { OnOk result (string_bytes out.new ≡ string_bytes out.old ++ item_text item.now) }
 {
     push_item_name(out, &item.source, &item.path)?;
-    push_offset(out, item.offset)
+    push_offset(out, item.offset.offset, item.offset.scale)
 }
 
 fn push_refusal(out: &mut String, refusal: Refusal) -> Result<(), AllocError>
@@ -216,14 +153,14 @@ fn push_place(out: &mut String, layer: &AssetId, path: &Path) -> Result<(), Allo
     ensures { OnOk result (string_bytes out.new ≡ string_bytes out.old ++ place_text layer.now path.now) }
 {
     push_name(out, layer)?;
-    push_path(out, path)
+    push_path_text(out, path)
 }
 
 fn push_property(out: &mut String, site: &Path, name: &Text) -> Result<(), AllocError>
     ensures { OnOk result (string_bytes out.new ≡ string_bytes out.old ++ property_text site.now name.now) }
 {
     out.push_str("<")?;
-    push_printed(out, site)?;
+    push_path(out, site)?;
     out.push_str(".")?;
     out.push_str(name.as_str())?;
     out.push_str(">")
@@ -316,7 +253,7 @@ fn push_target(out: &mut String, fault: &TargetFault) -> Result<(), AllocError>
 {
     push_target_front(out, fault)?;
     out.push_str(" ")?;
-    push_path(out, &fault.target)
+    push_path_text(out, &fault.target)
 }
 
 fn push_child(out: &mut String, name: &Text) -> Result<(), AllocError>

@@ -7,7 +7,9 @@ use sdf_values::LayerOffset;
 /// A place from which a prim of the stage has opinions: a path of a layer stack.
 #[derive(Debug, Drop)]
 pub struct Site {
+    /// The layer stack.
     pub stack: StackName,
+    /// The path in that stack, with its selections.
     pub path: Path,
     /// The arcs from the site to the stage, the nearest to the site first.
     pub maps: Items<ArcMap>,

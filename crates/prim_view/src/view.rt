@@ -12,9 +12,13 @@ use variant_select::Choices;
 pub enum PropertyView {
     /// An attribute.
     Attr {
+        /// Its name.
         name: Text,
+        /// The type of its values.
         ty: TypeName,
+        /// Whether some spec says `custom`.
         custom: bool,
+        /// Whether the strongest spec says `uniform`: the value is meant to be one for all times.
         uniform: bool,
         /// The default that decides; a block is one.
         default: Option<Value>,
@@ -22,14 +26,18 @@ pub enum PropertyView {
         samples: Samples,
         /// The connections; none where there is no opinion on them.
         connections: Option<Items<Path>>,
+        /// The other metadata, by key.
         meta: Meta,
     },
     /// A relationship.
     Rel {
+        /// Its name.
         name: Text,
+        /// Whether some spec says `custom`.
         custom: bool,
         /// The targets; none where there is no opinion on them.
         targets: Option<Items<Path>>,
+        /// The other metadata, by key.
         meta: Meta,
     },
 }
@@ -37,9 +45,11 @@ pub enum PropertyView {
 /// What a prim is on the stage.
 #[derive(Debug, Drop)]
 pub struct PrimView {
+    /// Whether the prim is defined, a class, or only spoken of.
     pub specifier: Specifier,
     /// The type, where one is given.
     pub type_name: Option<Text>,
+    /// The other metadata, by key.
     pub meta: Meta,
     /// The applied schemas; none where there is no opinion on them.
     pub api_schemas: Option<Items<Text>>,

@@ -36,17 +36,19 @@ use Rattle.usda_writer.specs.Fields.{spec_lines}
 use Rattle.value_texts.specs.Readable.{depth_step, depth_item}
 use Rattle.value_texts.specs.Writable.{writable_step, writable_item}
 use Rattle.value_texts.proofs.ReadingSteps.{reads_word}
-use Rattle.value_texts.proofs.Values as fold
+use Rattle.sdf_values.proofs.Values as fold
 use Rattle.text_checks.specs.Examples.{other_bytes}
 use Rattle.text_checks.specs.Utf8.{utf8_step, utf8_item}
 use Rattle.layer_reads.specs.Keys.{is_plain_key}
 use Rattle.value_returns.specs.Fields.{AreProperFields}
 use Rattle.value_returns.specs.FullPaths.{full_step, full_item}
 use Rattle.value_returns.specs.Proper.{IsProperMeta}
-use Rattle.layer_returns.proofs.Examples.{no_items, no_lists, no_selections}
+use Rattle.layer_returns.proofs.Examples.{no_items, no_lists}
+use Rattle.metadata_reads.proofs.Selections.{none_selected}
 use Rattle.proper_layers.specs.Examples.{hollow, hollow_spec, hollow_text, of_prim, naming, orphan, misplaced, having, saying, adding, adding_text, ProperExamples}
-use Rattle.proper_layers.specs.Proper.{IsPlace, IsProper, is_among}
+use Rattle.proper_layers.specs.Proper.{IsProper}
 use Rattle.proper_layers.proofs.Returns.{proper_layers_return}
+use Rattle.trees_read.specs.Names.{IsPlace, is_among}
 
 -- the two paths of the layer
 abbrev pub the_prim : List Element
@@ -109,7 +111,7 @@ having_keys meta sets keys = record {
   clip_sets = no_lists _ _;
   inherits = no_lists _ _;
   variant_sets = no_lists _ _;
-  selections = no_selections;
+  selections = none_selected;
   references = no_lists _ _;
   payloads = no_lists _ _;
   specializes = no_lists _ _;
@@ -169,7 +171,7 @@ small_proper = record {
         clip_sets = no_lists _ _;
         inherits = record { alone = refl; items = no_items _ _ };
         variant_sets = no_lists _ _;
-        selections = no_selections;
+        selections = none_selected;
         references = record {
           inexplicit = refl;
           deleted = no_items _ _;

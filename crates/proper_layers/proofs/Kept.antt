@@ -12,7 +12,7 @@ use Rattle.sdf_paths.specs.Paths.{plain}
 use Rattle.sdf_paths.specs.declared.element.Element.{Element}
 use Rattle.sdf_paths.specs.declared.element.Element.TheVariants.{Prim, Selection}
 use Rattle.sdf_specs.specs.Layers.{LayerTable, SpecEntries, spec_at}
-use Rattle.sdf_specs.proofs.PathLemmas.{by_test}
+use Rattle.spec_properties.proofs.NamedLists.{by_test}
 use Rattle.spec_parts.specs.declared.items.Specifier.{Specifier}
 use Rattle.spec_parts.specs.declared.items.Specifier.TheVariants.{Over}
 use Rattle.spec_parts.specs.declared.items.VariantSet.{VariantSet}
@@ -27,7 +27,6 @@ use Rattle.usda_drafts.specs.Closed.{is_closed}
 use Rattle.usda_drafts.specs.Owners.{owner_of, with_child, with_variant, with_set, has_set}
 use Rattle.usda_drafts.specs.Places.{prim_place, variant_place}
 use Rattle.usda_drafts.specs.declared.owner.Owner.{Owner}
-use Rattle.layer_reads.specs.Lists.{AreAll}
 use Rattle.metadata_reads.specs.Standing.{Standing}
 use Rattle.prim_reads.specs.Bodies.{IsPrimPlace, IsVariantPlace, inside}
 use Rattle.prim_reads.specs.Properties.{with_more, marks_of}
@@ -37,9 +36,10 @@ use Rattle.value_returns.specs.Proper.{IsProperProperty}
 use Rattle.value_returns.proofs.Fields.{fields_kept}
 use Rattle.value_returns.proofs.HeadKeys.{head_keys_kept}
 use Rattle.value_returns.proofs.Kept.{properties_kept}
-use Rattle.value_returns.proofs.Lists.{all_so}
 use Rattle.layer_returns.specs.Layers.{IsLayerKept, behind_front}
-use Rattle.proper_layers.specs.Proper.{AreNamesBelow, IsProperEntry, IsProper, set_names}
+use Rattle.value_texts.specs.Each.{AreAll}
+use Rattle.value_texts.proofs.EachOf.{all_so}
+use Rattle.proper_layers.specs.Proper.{IsProperEntry, IsProper}
 use Rattle.layer_returns.specs.Trees.{behind_properties, ArePropertiesKept, behind_child, behind_variant, behind_variants, in_set, from_properties, from_sets, from_children, behind_body, IsChildKept, AreChildrenKept, IsVariantKept, AreVariantsKept, AreSetsKept, AreStatementsKept, IsBodyKept}
 use Rattle.proper_layers.proofs.Apart.{IsBare, child_bare, variant_bare, variants_bare, sets_bare, bodies_bare}
 use Rattle.proper_layers.proofs.Paths.{names_differ, IsOutside, other_element, entry}
@@ -47,6 +47,8 @@ use Rattle.proper_layers.proofs.Places.{identifier_utf8, variant_utf8, end_named
 use Rattle.proper_layers.proofs.Written.{property_named}
 use Rattle.layer_returns.proofs.Reached.{child_path, variant_path, variants_path, sets_path, properties_path, body_path}
 use Rattle.layer_returns.proofs.Whole.{properties_specs}
+use Rattle.trees_read.specs.Names.{AreNamesBelow, set_names}
+use Rattle.trees_read.specs.Trees.{has_spec}
 
 -- ---- names that a table or a list of properties does not have
 
@@ -277,7 +279,7 @@ module _ (specs : SpecEntries) (entries : AreAll (λ e. IsProperEntry specs e.0 
       )
 
   sets_kept : (path : List Element) (ss : List VariantSet) (at : Standing) → at.owner.said.path ≡ path → IsDistinct same_name (set_names ss) → AreAll (λ s. is_identifier s.set ≡ true) ss
-      → AreAll (λ s. AreNamesBelow specs path (Selection s.set) s.variants) ss → AreNewSets ss at.owner → AreSetsFree path ss at.specs → AreSetsKept specs behind Kept path ss at
+      → AreAll (λ s. AreNamesBelow (has_spec specs) path (Selection s.set) s.variants) ss → AreNewSets ss at.owner → AreSetsFree path ss at.specs → AreSetsKept specs behind Kept path ss at
   unfolding with_set
   sets_kept path [] at here once named each new free = tt
   sets_kept path (s ∷ ss) at here once named each new free =

@@ -1,20 +1,22 @@
 -- Paths of proper layers: which begin with another, and how long they are.
-use Rattle.std.proofs.Common.{◌≡◌, ◌∙◌, ℕ, ◌<◌, ◌≤◌, Bool, true, false, ◌||◌, List, [], ◌∷◌, ◌++◌, append_assoc, append-nil, length, length-append, take, Option, Some, None, is_some, ap, sym, refl, subst, cond, arith}
+use Rattle.std.proofs.Common.{◌≡◌, ◌∙◌, ℕ, ◌<◌, ◌≤◌, Bool, true, false, ◌||◌, List, [], ◌∷◌, ◌++◌, append_assoc, append-nil, length, length-append, Option, Some, None, is_some, ap, sym, refl, subst, cond, arith}
 use Rattle.std.specs.Cmp.Lexicographic.{bytes_decides}
 use Rattle.std.specs.List.{AllByRecursion, IsDistinct, list_any}
 use Rattle.std.specs.Ordering.{is_eq, eq_by_cmp}
-use Rattle.std.proofs.Math.Seq.{take-append_seam}
 use Rattle.std.proofs.lemmas.Cmp.{eq_by_cmp_equiv}
 use Rattle.std.proofs.lemmas.Map.Steps.{length-le_from_keys}
 use Rattle.sdf_paths.specs.Order.{path_cmp}
-use Rattle.sdf_paths.specs.Paths.{parent, is_empty}
+use Rattle.sdf_paths.specs.Paths.{is_empty}
 use Rattle.sdf_paths.specs.declared.element.Element.{Element}
+use Rattle.sdf_paths.proofs.Sound.{some_push}
 use Rattle.sdf_specs.specs.Layers.{SpecEntries, spec_at, has_parent, is_owner}
-use Rattle.sdf_specs.proofs.PathLemmas.{by_test, same_path}
+use Rattle.sdf_specs.proofs.PathLemmas.{same_path}
+use Rattle.spec_properties.proofs.NamedLists.{by_test}
 use Rattle.spec_parts.specs.declared.spec.Spec.{Spec}
 use Rattle.spec_properties.specs.Properties.{same_name}
 use Rattle.spec_tables.specs.Tables.{at_key}
-use Rattle.layer_reads.specs.Lists.{AreAll}
+use Rattle.value_texts.specs.Each.{AreAll}
+use Rattle.trees_read.proofs.Paths.{parent_push}
 use Rattle.proper_layers.specs.Proper.{IsProperEntry}
 use Rattle.layer_returns.proofs.Theorem.{paths_total}
 
@@ -39,16 +41,6 @@ other_element path e f rest apart more h =
     let same : f ∷ rest ≡ e ∷ more = left_same path (f ∷ rest) (e ∷ more) (h ∙ append_assoc path (e ∷ []) more) in
     let one : e ≡ f = cc in
     apart one
-
-parent_push : (q : List Element) (e : Element) → parent (q ++ e ∷ []) ≡ Some q
-parent_push [] e = refl
-parent_push (x ∷ q) e =
-    let long : length (q ++ e ∷ []) ≡ length (x ∷ q) = omega (arith, length-append q (e ∷ [])) in
-    ap (λ n. Some (take n (x ∷ q ++ e ∷ []))) long ∙ ap Some (take-append_seam (x ∷ q) (e ∷ []))
-
-pub push_below : (q : List Element) (e : Element) → is_empty (q ++ e ∷ []) ≡ false
-push_below [] e = refl
-push_below (x ∷ q) e = refl
 
 -- ---- entries of a table
 
@@ -103,7 +95,7 @@ module _ (specs : SpecEntries) (entries : AreAll (λ e. IsProperEntry specs e.0 
   pub front_there : (q rest : List Element) → is_empty q ≡ false → is_some (spec_at (q ++ rest) specs) ≡ true → is_some (spec_at q specs) ≡ true
   front_there q [] below h = subst (λ p. is_some (spec_at p specs) ≡ true) (append-nil q) h
   front_there q (e ∷ rest) below h =
-      owner_there q e below (front_there (q ++ e ∷ []) rest (push_below q e) (subst (λ p. is_some (spec_at p specs) ≡ true) (sym (append_assoc q (e ∷ []) rest)) h))
+      owner_there q e below (front_there (q ++ e ∷ []) rest (some_push q e) (subst (λ p. is_some (spec_at p specs) ≡ true) (sym (append_assoc q (e ∷ []) rest)) h))
 
   within : (done xs q : List Element) → is_some (spec_at (done ++ xs) specs) ≡ true → list_any (eq_by_cmp path_cmp q) (fronts done xs) ≡ true → is_some (spec_at q specs) ≡ true
   within done [] q h any = absurd cc
@@ -114,7 +106,7 @@ module _ (specs : SpecEntries) (entries : AreAll (λ e. IsProperEntry specs e.0 
 
       by : (b : Bool) → eq_by_cmp path_cmp q (done ++ x ∷ []) ≡ b → b || list_any (eq_by_cmp path_cmp q) (fronts (done ++ x ∷ []) xs) ≡ true
           → (list_any (eq_by_cmp path_cmp q) (fronts (done ++ x ∷ []) xs) ≡ true → is_some (spec_at q specs) ≡ true) → is_some (spec_at q specs) ≡ true
-      by true same any more = subst (λ p. is_some (spec_at p specs) ≡ true) (sym (same_path q (done ++ x ∷ []) same)) (front_there (done ++ x ∷ []) xs (push_below done x) further)
+      by true same any more = subst (λ p. is_some (spec_at p specs) ≡ true) (sym (same_path q (done ++ x ∷ []) same)) (front_there (done ++ x ∷ []) xs (some_push done x) further)
       by false other any more = more any
 
   pub path_length : (p : List Element) → is_some (spec_at p specs) ≡ true → length p ≤ length specs

@@ -3,7 +3,7 @@ use Rattle.std.proofs.Common.{◌≡◌, ◌∙◌, ℕ, ◌+◌, ◌≤◌, Boo
 use Rattle.std.specs.Prelude.{nat_lt}
 use Rattle.std.specs.List.{list_all}
 use Rattle.std.specs.Str.{is_utf8}
-use Rattle.std.proofs.lemmas.Bool.{lt-ltb, le-ltb}
+use Rattle.std.proofs.lemmas.Bool.{lt-ltb, le-ltb, or_parts}
 use Rattle.std.proofs.lemmas.List.Folds.{list_all-append, list_any-append}
 use Rattle.std.proofs.lemmas.List.Sums.{sum_by-append}
 use Rattle.plain_data.specs.Exact.{both_true}
@@ -15,7 +15,7 @@ use Rattle.sdf_values.specs.declared.refusal.RefusalKind.TheVariants.{Syntax, To
 use Rattle.usd_names.specs.Names.{is_identifier, is_variant}
 use Rattle.usda_fields.specs.Names.{is_long}
 use Rattle.usda_drafts.specs.Places.{prim_place, variant_place}
-use Rattle.proper_layers.specs.Proper.{IsPlace}
+use Rattle.trees_read.specs.Names.{IsPlace}
 
 pub identifier_utf8 : (t : List ℕ) → is_identifier t ≡ true → is_utf8 t ≡ true
 unfolding is_identifier
@@ -24,10 +24,6 @@ identifier_utf8 t h = (both_true _ _ h).0
 pub variant_utf8 : (t : List ℕ) → is_variant t ≡ true → is_utf8 t ≡ true
 unfolding is_variant
 variant_utf8 t h = (both_true _ _ h).0
-
-first_false : (a b : Bool) → (a || b) ≡ false → a ≡ false
-first_false true b h = absurd cc
-first_false false b h = refl
 
 -- the element that a place ends with is well named, and its owner is no property
 module _ (q : List Element) (e : Element) (place : IsPlace (q ++ e ∷ [])) where
@@ -38,7 +34,7 @@ module _ (q : List Element) (e : Element) (place : IsPlace (q ++ e ∷ [])) wher
       (both_true (is_well_named e) true one).0
 
   owner_unlike : is_property q ≡ false
-  owner_unlike = first_false (is_property q) (is_property (e ∷ [])) (sym (list_any-append is_property_part q (e ∷ [])) ∙ place.unlike_property)
+  owner_unlike = (or_parts (is_property q) (is_property (e ∷ [])) (sym (list_any-append is_property_part q (e ∷ [])) ∙ place.unlike_property)).0
 
   end_short : is_long (q ++ e ∷ []) ≡ false
   end_short = le-ltb 4096 (length (printed (q ++ e ∷ []))) place.within.short

@@ -6,22 +6,25 @@ use Rattle.plain_data.specs.Ends.{last-push}
 use Rattle.sdf_paths.specs.Paths.{is_property, is_property_part}
 use Rattle.sdf_paths.specs.declared.element.Element.{Element}
 use Rattle.sdf_paths.specs.declared.element.Element.TheVariants.{Prim, Property, Selection}
+use Rattle.sdf_paths.proofs.Sound.{some_push}
 use Rattle.sdf_specs.specs.Layers.{LayerTable, SpecEntries, spec_at}
 use Rattle.spec_parts.specs.declared.items.Specifier.TheVariants.{Over}
 use Rattle.spec_parts.specs.declared.items.VariantSet.{VariantSet}
 use Rattle.spec_parts.specs.declared.spec.Spec.{Spec}
 use Rattle.spec_properties.specs.Properties.{same_name}
 use Rattle.usda_writer.specs.Canonical.{spec_below}
-use Rattle.layer_reads.specs.Lists.{AreAll}
-use Rattle.proper_layers.specs.Proper.{IsVariantOf, IsProperEntry, AreNamesBelow, IsProper, is_among, set_names}
+use Rattle.value_texts.specs.Each.{AreAll}
+use Rattle.proper_layers.specs.Proper.{IsProperEntry, IsProper}
 use Rattle.layer_returns.specs.Reached.{IsFrom, IsFromChildren, IsFromVariants, IsFromSets, IsReached}
 use Rattle.layer_returns.specs.Theorem.{IsTree}
 use Rattle.layer_returns.specs.Whole.{IsChildWhole, IsVariantWhole, AreChildrenWhole, AreVariantsWhole, IsWhole}
-use Rattle.proper_layers.proofs.Paths.{the_spec, entry, front_there, path_length, push_below}
+use Rattle.proper_layers.proofs.Paths.{the_spec, entry, front_there, path_length}
+use Rattle.trees_read.specs.Names.{IsVariantOf, AreNamesBelow, is_among, set_names}
+use Rattle.trees_read.specs.Trees.{has_spec}
 
 -- the spec of a variant
 pub is_variant_spec : (path : List Element) (set name : List ℕ) (s : Spec) (specs : SpecEntries) → IsProperEntry specs (path ++ Selection set name ∷ []) s → (s.body.specifier ≡ Over) × (s.body.type_name ≡ None)
-is_variant_spec path set name s specs e = subst (λ o. IsVariantOf o s) (last-push path (Selection set name)) e.variant
+is_variant_spec path set name s specs e = subst (λ o. IsVariantOf o s.body.specifier s.body.type_name) (last-push path (Selection set name)) e.variant
 
 module _ (specs : SpecEntries) (entries : AreAll (λ e. IsProperEntry specs e.0 e.1) specs) where
   -- ---- all that is named has specs, to the depth that the table has
@@ -53,7 +56,7 @@ module _ (specs : SpecEntries) (entries : AreAll (λ e. IsProperEntry specs e.0 
     variants_whole set [] all = tt
     variants_whole set (name ∷ names) all = (variant_whole set name (spec_below specs path (Selection set name)) refl all.0, variants_whole set names all.1)
 
-    sets_whole : (ss : List VariantSet) → AreAll (λ s. AreNamesBelow specs path (Selection s.set) s.variants) ss → AreAll (AreVariantsWhole specs (IsWhole specs levels) path) ss
+    sets_whole : (ss : List VariantSet) → AreAll (λ s. AreNamesBelow (has_spec specs) path (Selection s.set) s.variants) ss → AreAll (AreVariantsWhole specs (IsWhole specs levels) path) ss
     sets_whole [] all = tt
     sets_whole (s ∷ ss) all = (variants_whole s.set s.variants all.0.each, sets_whole ss all.1)
 
@@ -89,7 +92,7 @@ module _ (specs : SpecEntries) (entries : AreAll (λ e. IsProperEntry specs e.0 
         by true same h more = inl (subst (λ n. IsFrom specs Below (path ++ Selection set n ∷ []) (spec_below specs path (Selection set n)) p) (text_same name n same) from)
         by false other h more = inr (more h)
 
-    from_set : (set name : List ℕ) (ss : List VariantSet) → is_some (spec_below specs path (Selection set name)) ≡ true → is_among set (set_names ss) ≡ true → AreAll (λ s. AreNamesBelow specs path (Selection s.set) s.variants) ss
+    from_set : (set name : List ℕ) (ss : List VariantSet) → is_some (spec_below specs path (Selection set name)) ≡ true → is_among set (set_names ss) ≡ true → AreAll (λ s. AreNamesBelow (has_spec specs) path (Selection s.set) s.variants) ss
         → IsFrom specs Below (path ++ Selection set name ∷ []) (spec_below specs path (Selection set name)) p → IsFromSets specs Below path ss p
     from_set set name [] there h all from = absurd cc
     from_set set name (s ∷ ss) there h all from = by (same_name set s.set) refl h (λ h. from_set set name ss there h all.1 from)
@@ -130,7 +133,7 @@ module _ (specs : SpecEntries) (entries : AreAll (λ e. IsProperEntry specs e.0 
         inr (subst (λ p. IsReached specs levels (q ++ e ∷ []) s p) same (reached (q ++ e ∷ []) s f rest at (subst (λ p. is_some (spec_at p specs) ≡ true) (sym same) there) few))
 
     below_there : (rest : List Element) → is_some (spec_at (q ++ e ∷ rest) specs) ≡ true → is_some (spec_below specs q e) ≡ true
-    below_there rest h = front_there specs entries (q ++ e ∷ []) rest (push_below q e) (subst (λ p. is_some (spec_at p specs) ≡ true) (sym (append_assoc q (e ∷ []) rest)) h)
+    below_there rest h = front_there specs entries (q ++ e ∷ []) rest (some_push q e) (subst (λ p. is_some (spec_at p specs) ≡ true) (sym (append_assoc q (e ∷ []) rest)) h)
 
     from_below : (rest : List Element) → is_some (spec_at (q ++ e ∷ rest) specs) ≡ true → length rest ≤ levels → IsFrom specs (IsReached specs levels) (q ++ e ∷ []) (spec_below specs q e) (q ++ e ∷ rest)
     from_below rest h few = reached_from rest (spec_below specs q e) refl (below_there rest h) h few
@@ -148,7 +151,7 @@ module _ (specs : SpecEntries) (entries : AreAll (λ e. IsProperEntry specs e.0 
       (from_below levels (bodies_reached levels) q (Selection set name) rest there (omega arith)))
   bodies_reached (suc levels) q s (Property name) rest at there few = absurd (no_property q name rest there)
 
-  pub roots_reached : (names : List (List ℕ)) → AreNamesBelow specs [] Prim names → (p : List Element) (s : Spec) → spec_at p specs ≡ Some s → IsFromChildren specs (IsReached specs (length specs)) [] names p
+  pub roots_reached : (names : List (List ℕ)) → AreNamesBelow (has_spec specs) [] Prim names → (p : List Element) (s : Spec) → spec_at p specs ≡ Some s → IsFromChildren specs (IsReached specs (length specs)) [] names p
   roots_reached names roots [] s at = absurd (let below = (entry specs entries [] s at).place.below_root in cc)
   roots_reached names roots (Selection set name ∷ rest) s at = absurd (let ordered = (entry specs entries (Selection set name ∷ rest) s at).place.within.well_formed.ordered in cc)
   roots_reached names roots (Property name ∷ rest) s at = absurd (let ordered = (entry specs entries (Property name ∷ rest) s at).place.within.well_formed.ordered in cc)

@@ -16,13 +16,14 @@ use Rattle.spec_properties.specs.declared.property.Property.TheVariants.{Attr, R
 use Rattle.usda_grammar.specs.declared.kinds.Keyword.{Keyword}
 use Rattle.usda_lists.specs.References.{same_path, same_item}
 use Rattle.usda_writer.specs.Fields.{is_comment}
-use Rattle.value_texts.proofs.Values as fold
+use Rattle.sdf_values.proofs.Values as fold
 use Rattle.layer_texts.specs.Writable.{none_or, is_writable_list}
 use Rattle.text_checks.specs.Utf8.{utf8_step, utf8_item, is_utf8_value, is_utf8_path, is_utf8_reference, is_utf8_sublayer, is_utf8_meta, is_utf8_sample, is_utf8_property, are_utf8_arcs, is_utf8_spec, is_utf8_head, is_utf8_layer}
 use Rattle.path_returns.proofs.Utf8.{path_is_utf8}
+use Rattle.path_returns.specs.Returns.{IsPathOrAbsent}
 use Rattle.layer_reads.specs.Keys.{is_plain_key, is_plain_head_key}
 use Rattle.prim_reads.specs.Properties.{is_any_key}
-use Rattle.value_returns.specs.Fields.{IsAssetOrAbsent, IsPathOrAbsent, IsProperReference, IsProperSublayer, AreProperFields, IsProperHead}
+use Rattle.value_returns.specs.Fields.{IsAssetOrAbsent, IsProperReference, IsProperSublayer, AreProperFields, IsProperHead}
 use Rattle.value_returns.specs.Proper.{IsProperDefault, IsProperSample, IsProperAs, IsProperEntry, IsProperMeta, IsProperTarget, IsProperProperty}
 use Rattle.proper_layers.specs.Proper.{IsProper}
 use Rattle.proper_layers.specs.Proper.{IsProperEntry as IsProperSpecEntry}

@@ -27,21 +27,24 @@ use Rattle.usda_statements.specs.PropertyDrafts.{is_named}
 use Rattle.usda_writer.specs.Canonical.{spec_below}
 use Rattle.usda_writer.specs.Fields.{is_comment}
 use Rattle.value_texts.specs.Writable.{is_writable, is_writable_asset, writable_step, writable_item}
-use Rattle.value_texts.proofs.Values as fold
+use Rattle.value_texts.specs.Each.{AreAll}
+use Rattle.sdf_values.proofs.Values as fold
 use Rattle.layer_texts.specs.Writable.{none_or, is_word, is_writable_target, is_writable_offset, is_writable_reference, is_writable_sublayer, is_writable_list, is_writable_entry, is_writable_meta, is_writable_selection, is_writable_sample, is_writable_property, is_writable_set, are_writable_arcs, is_writable_body, is_writable_spec, is_writable_head, are_writable_specs, is_writable_layer}
 use Rattle.layer_texts.proofs.Paths.{offset_writable, path_writable}
 use Rattle.layer_reads.specs.Keys.{is_plain_key, is_plain_head_key}
-use Rattle.layer_reads.specs.Lists.{AreAll}
 use Rattle.metadata_reads.specs.Meta.{IsCommentKept}
 use Rattle.metadata_reads.specs.Selections.{IsSelectionKept}
 use Rattle.prim_reads.specs.Properties.{is_any_key}
-use Rattle.value_returns.specs.Fields.{IsText, IsAssetOrAbsent, IsPathOrAbsent, IsProperReference, IsProperDefaultPrim, IsProperSublayer, AreProperFields, IsProperHead}
+use Rattle.value_returns.specs.Fields.{IsText, IsAssetOrAbsent, IsProperReference, IsProperDefaultPrim, IsProperSublayer, AreProperFields, IsProperHead}
 use Rattle.value_returns.specs.Proper.{IsProperDefault, IsProperSample, IsProperAs, IsProperEntry, IsProperMeta, IsProperTarget, IsProperProperty}
-use Rattle.proper_layers.specs.Proper.{AreNamesBelow, IsProper}
+use Rattle.path_returns.specs.Returns.{IsPathOrAbsent}
+use Rattle.proper_layers.specs.Proper.{IsProper}
 use Rattle.proper_layers.specs.Proper.{IsProperEntry as IsProperSpecEntry}
 use Rattle.proper_layers.proofs.Lists.{both, all_pass, list_passes}
 use Rattle.proper_layers.proofs.Paths.{the_spec, entry}
 use Rattle.proper_layers.proofs.Places.{end_named}
+use Rattle.trees_read.specs.Names.{AreNamesBelow}
+use Rattle.trees_read.specs.Trees.{has_spec}
 
 -- ---- names
 
@@ -148,7 +151,7 @@ module _ (specs : SpecEntries) (entries : AreAll (λ e. IsProperSpecEntry specs 
   variants_written : (path : List Element) (set : List ℕ) (names : List (List ℕ)) → AreAll (λ name. is_some (spec_below specs path (Selection set name)) ≡ true) names → list_all is_variant names ≡ true
   variants_written path set names all = all_pass (λ name. is_some (spec_below specs path (Selection set name)) ≡ true) is_variant (variant_written path set) names all
 
-  sets_written : (path : List Element) (ss : List VariantSet) → AreAll (λ s. is_identifier s.set ≡ true) ss → AreAll (λ s. AreNamesBelow specs path (Selection s.set) s.variants) ss → list_all is_writable_set ss ≡ true
+  sets_written : (path : List Element) (ss : List VariantSet) → AreAll (λ s. is_identifier s.set ≡ true) ss → AreAll (λ s. AreNamesBelow (has_spec specs) path (Selection s.set) s.variants) ss → list_all is_writable_set ss ≡ true
   sets_written path [] named each = refl
   sets_written path (s ∷ ss) named each =
       both (is_writable_set s) (list_all is_writable_set ss) (both (is_identifier s.set) (list_all is_variant s.variants) named.0 (variants_written path s.set s.variants each.0.each)) (sets_written path ss named.1 each.1)

@@ -1,8 +1,7 @@
 -- Where a value is open or comes next, what is expected of it fits what it goes to.
-use Rattle.std.proofs.Common.{◌≡◌, ◌∙◌, sym, ap, refl, subst, ℕ, Bool, true, false, not, ◌&&◌, ◌||◌, List, [], ◌∷◌, ◌++◌, Option, Some, None, Ok, Err, ◌⊎◌, inl, inr}
-use Rattle.std.specs.Prelude.{Result, if◌then◌else◌}
+use Rattle.std.proofs.Common.{◌≡◌, ◌∙◌, sym, ap, refl, subst, ℕ, Bool, true, false, not, ◌&&◌, ◌||◌, List, [], ◌∷◌, ◌++◌, Option, Some, None, Ok, ◌⊎◌, inl, inr}
+use Rattle.std.proofs.lemmas.Bool.{not-true}
 use Rattle.plain_data.specs.Exact.{both_true}
-use Rattle.sdf_values.specs.declared.refusal.RefusalKind.{RefusalKind}
 use Rattle.sdf_values.specs.declared.value.Value.{Value}
 use Rattle.usda_fields.specs.Owners as owner
 use Rattle.usda_fields.specs.Variants as variants
@@ -10,37 +9,36 @@ use Rattle.usda_fields.specs.declared.keys.KeyRule.{KeyRule}
 use Rattle.usda_grammar.specs.Machine.{choose, step}
 use Rattle.usda_grammar.specs.Table.{starts, may_be_absent}
 use Rattle.usda_grammar.specs.declared.kinds.Keyword.TheVariants as word
-use Rattle.usda_grammar.specs.declared.kinds.TokenKind.{TokenKind}
-use Rattle.usda_grammar.specs.declared.kinds.TokenKind.TheVariants as token
+use Rattle.usda_grammar.specs.declared.kinds.WordKind.{WordKind}
+use Rattle.usda_grammar.specs.declared.kinds.WordKind.TheVariants as token
 use Rattle.usda_grammar.specs.declared.symbols.Symbol.{Symbol}
 use Rattle.usda_grammar.specs.declared.symbols.Symbol.TheVariants as symbol
-use Rattle.usda_statements.specs.OpenValues.{no_value, is_open, given, value_in}
+use Rattle.usda_statements.specs.OpenValues.{is_open}
 use Rattle.usda_statements.specs.PropertyDrafts.{with_default, with_sample, meta_act}
 use Rattle.usda_statements.specs.declared.open_value.OpenValue.{OpenValue}
 use Rattle.usda_words.specs.Words.{Word}
 use Rattle.usda_drafts.specs.Acts.{layers_act, prims_act, bodies_act, act}
-use Rattle.usda_statements.specs.Headings.{with_brackets}
 use Rattle.usda_statements.specs.declared.heading.Heading.{Heading}
-use Rattle.usda_drafts.specs.Bodies.{headed, brackets_act, tail_act, sample_act}
+use Rattle.usda_drafts.specs.Bodies.{headed}
 use Rattle.usda_drafts.specs.Drafts.{blank}
 use Rattle.usda_drafts.specs.Metadata.{key_act, variants_act, edited_act, prim_item_act, head_item_act, property_item_act}
-use Rattle.usda_drafts.specs.Refusals.{Acted}
-use Rattle.usda_drafts.specs.Values.{aimed, aimed_at_key, with_said, with_property, completed, after_token, token_act, first_act, with_value_begun}
+use Rattle.usda_drafts.specs.Values.{aimed, aimed_at_key, with_said, with_property, completed}
 use Rattle.usda_drafts.specs.declared.aim.Goal.{Goal}
 use Rattle.usda_drafts.specs.declared.aim.Goal.TheVariants as goal
 use Rattle.usda_drafts.specs.declared.draft.Draft.{Draft}
-use Rattle.properties_read.specs.Aims.{IsAimedAt, IsAimed, is_of_value, is_mark, awaits_value, leads_to_value, is_calm, IsAiming, StepsKeepAims}
-use Rattle.properties_read.specs.Drafts.{IsNameWord, begins_values}
+use Rattle.value_texts.proofs.Tests.{other_holds}
+use Rattle.properties_read.specs.Aims.{IsAimedAt, IsAimed, awaits_value, leads_to_value, is_calm, IsAiming, StepsKeepAims}
+use Rattle.properties_read.specs.Drafts.{IsNameWord}
 use Rattle.properties_read.proofs.Aims.{default_aimed, sample_aimed, key_aimed}
 use Rattle.properties_read.proofs.Awaiting.{opens_calm, opens_still, are_leading, opens_leading, starts_calm, starts_still, starts_leading}
 use Rattle.properties_read.proofs.Drafts.{then_made}
 use Rattle.properties_read.proofs.Steps.{acted}
-use Rattle.properties_read.proofs.ValuesStay.{bodies_value}
+use Rattle.properties_read.proofs.Aimed.{await_joined, same_draft, token_aimed, first_aimed, AimsOr, still, unless_still, mark_aimed, brackets_aimed, tail_aims, samples_aim, Expects}
 
 -- ---- a word of a value
 
 -- another value, and another property of the same type, do not change what is expected
-aimed_again : (g : Goal) (d : Draft) (o : OpenValue) → IsAimedAt g d → IsAimedAt g (record d { value = o })
+pub aimed_again : (g : Goal) (d : Draft) (o : OpenValue) → IsAimedAt g d → IsAimedAt g (record d { value = o })
 aimed_again goal.Nothing d o a = a
 aimed_again goal.OwnerKey d o a = a
 aimed_again goal.Variants d o a = a
@@ -67,21 +65,17 @@ completed_aimed goal.Sample v at d next is a e =
     let same : with_property d (with_sample d.aim.time v d.property) ≡ next = cc e in
     subst IsAimed {x = with_property d (with_sample d.aim.time v d.property)} same (subst (λ g. IsAimedAt g (with_property d (with_sample d.aim.time v d.property))) (sym is) a)
 
-token_aimed : (w : Word) (d next : Draft) → token_act w d ≡ Ok next → IsAimed d → IsAimed next
-unfolding token_act
-token_aimed w d next e a = by (given d.owner.said.base w.token w.text d.value) e
-  where
-    whole : (v : OpenValue) (b : Bool) → (if b then Ok (record d { value = v }) else completed d.aim.goal (value_in v) w.start (record d { value = no_value })) ≡ Ok next → IsAimed next
-    whole v true e = let same : ◌≡◌ {A = Draft} (record d { value = v }) next = cc e in subst IsAimed {x = record d { value = v }} same (aimed_again d.aim.goal d v a)
-    whole v false e = completed_aimed d.aim.goal (value_in v) w.start (record d { value = no_value }) next refl (aimed_again d.aim.goal d no_value a) e
+headed_aimed : (g : Goal) (d : Draft) (h : Heading) → IsAimedAt g d → IsAimedAt g (headed h d)
+headed_aimed goal.Nothing d h a = a
+headed_aimed goal.OwnerKey d h a = a
+headed_aimed goal.Variants d h a = a
+headed_aimed goal.PropertyKey d h a = a
+headed_aimed goal.Default d h a = a
+headed_aimed goal.Sample d h a = a
 
-    by : (r : Result OpenValue RefusalKind) → after_token r w.start d ≡ Ok next → IsAimed next
-    by (Err k) e = absurd cc
-    by (Ok v) e = whole v (is_open v) e
-
-first_aimed : (w : Word) (d next : Draft) → first_act w d ≡ Ok next → IsAimed d → IsAimed next
-unfolding first_act
-first_aimed w d next e a = token_aimed w (with_value_begun d) next e (aimed_again d.aim.goal d (with_value_begun d).value a)
+-- what is expected of a value that goes to a property
+expects : Expects IsAimedAt
+expects = record { again = aimed_again; under = headed_aimed; complete = completed_aimed; default = default_aimed; sample = sample_aimed }
 
 -- ---- words of owners
 
@@ -99,26 +93,14 @@ variants_aims w d next e =
 
 -- ---- stacks
 
-pub neither : (a b : Bool) → a ≡ false → (a || b) ≡ true → b ≡ true
-neither true b h g = absurd cc
-neither false b h g = g
-
-pub is_not : (b : Bool) → not b ≡ true → b ≡ false
-is_not true h = absurd cc
-is_not false h = refl
-
 -- behind a symbol that leads to no value, none comes next
 pub none_behind : (s : Symbol) (rest : List Symbol) → leads_to_value s ≡ false → is_calm (s ∷ rest) ≡ true → awaits_value rest ≡ false
 none_behind s rest h calm =
     let p = both_true (leads_to_value s || not (awaits_value rest)) (is_calm rest) calm in
-    is_not (awaits_value rest) (neither (leads_to_value s) (not (awaits_value rest)) h p.0)
+    not-true (awaits_value rest) (other_holds (leads_to_value s) (not (awaits_value rest)) h p.0)
 
 rest_calm : (s : Symbol) (rest : List Symbol) → is_calm (s ∷ rest) ≡ true → is_calm rest ≡ true
 rest_calm s rest calm = (both_true (leads_to_value s || not (awaits_value rest)) (is_calm rest) calm).1
-
-pub await_joined : (pushed below : List Symbol) → awaits_value below ≡ false → awaits_value (pushed ++ below) ≡ awaits_value pushed
-await_joined [] below h = h
-await_joined (s ∷ pushed) below h = ap (λ b. if is_of_value s then true else if is_mark s then b else false) (await_joined pushed below h)
 
 leading_joined : (pushed below : List Symbol) → are_leading pushed ≡ true → is_calm below ≡ true → is_calm (pushed ++ below) ≡ true
 leading_joined [] below h c = c
@@ -150,7 +132,7 @@ absent_awaits symbol.CloseBrace rest ab calm h = absurd cc
 absent_awaits symbol.CloseBracket rest ab calm h = absurd cc
 absent_awaits t rest ab calm h = absurd (let none : awaits_value rest ≡ false = none_behind t rest refl calm in cc)
 
-pub record Aimed (stack : List Symbol) (k : TokenKind) (s : Symbol) (after : List Symbol) : Type 0 where
+pub record Aimed (stack : List Symbol) (k : WordKind) (s : Symbol) (after : List Symbol) : Type 0 where
   pub below : List Symbol
   pub pushed : List Symbol
   pub starts_is : starts s k ≡ Some pushed
@@ -158,7 +140,7 @@ pub record Aimed (stack : List Symbol) (k : TokenKind) (s : Symbol) (after : Lis
   pub calm : is_calm (s ∷ below) ≡ true
   pub awaited : awaits_value (s ∷ below) ≡ true → awaits_value stack ≡ true
 
-pub found : (stack : List Symbol) (k : TokenKind) (s : Symbol) (after : List Symbol) → is_calm stack ≡ true → step stack k ≡ Some (s, after) → Aimed stack k s after
+pub found : (stack : List Symbol) (k : WordKind) (s : Symbol) (after : List Symbol) → is_calm stack ≡ true → step stack k ≡ Some (s, after) → Aimed stack k s after
 found [] k s after calm e = absurd cc
 found (t ∷ stack) k s after calm e = by (starts t k) (may_be_absent t) refl refl e (λ g f. found stack k s after g f)
   where
@@ -175,7 +157,7 @@ found (t ∷ stack) k s after calm e = by (starts t k) (may_be_absent t) refl re
         record { below = rest.below; pushed = rest.pushed; starts_is = rest.starts_is; after_is = rest.after_is; calm = rest.calm; awaited = λ h. absent_awaits t stack ab calm (rest.awaited h) }
     by None false st ab e more = absurd cc
 
-made_calm : (s : Symbol) (k : TokenKind) (pushed below : List Symbol) → starts s k ≡ Some pushed → is_calm (s ∷ below) ≡ true → is_calm (pushed ++ below) ≡ true
+made_calm : (s : Symbol) (k : WordKind) (pushed below : List Symbol) → starts s k ≡ Some pushed → is_calm (s ∷ below) ≡ true → is_calm (pushed ++ below) ≡ true
 made_calm s k pushed below e calm = by (leads_to_value s) refl
   where
     by : (b : Bool) → leads_to_value s ≡ b → is_calm (pushed ++ below) ≡ true
@@ -184,122 +166,66 @@ made_calm s k pushed below e calm = by (leads_to_value s) refl
 
 -- ---- words behind which a value may come next
 
--- what is expected fits, or no value comes next
-abbrev AimsOr : List Symbol → Draft → Type 0
-AimsOr pushed next = IsAimed next ⊎ (awaits_value pushed ≡ false)
-
-still : (expected pushed : List Symbol) (next : Draft) → awaits_value expected ≡ false → ◌≡◌ {A = Option (List Symbol)} (Some expected) (Some pushed) → AimsOr pushed next
-still expected pushed next h e = let same : expected ≡ pushed = cc e in inr (subst (λ p. awaits_value p ≡ false) same h)
-
-metadata_aims : (k : TokenKind) (w : Word) (d next : Draft) (pushed : List Symbol) → starts symbol.PrimMetadata k ≡ Some pushed → prim_item_act k w d ≡ Ok next → AimsOr pushed next
+metadata_aims : (k : WordKind) (w : Word) (d next : Draft) (pushed : List Symbol) → starts symbol.PrimMetadata k ≡ Some pushed → prim_item_act k w d ≡ Ok next → AimsOr IsAimedAt pushed next
 unfolding prim_item_act
-metadata_aims (token.Word word.StringField) w d next pushed e a = still (symbol.Equals ∷ symbol.StringList ∷ symbol.MaybeSemicolon ∷ symbol.PrimMetadata ∷ []) pushed next refl e
-metadata_aims (token.Word word.PathField) w d next pushed e a = still (symbol.Equals ∷ symbol.PathList ∷ symbol.MaybeSemicolon ∷ symbol.PrimMetadata ∷ []) pushed next refl e
-metadata_aims (token.Word word.ReferenceField) w d next pushed e a = still (symbol.Equals ∷ symbol.ReferenceList ∷ symbol.MaybeSemicolon ∷ symbol.PrimMetadata ∷ []) pushed next refl e
-metadata_aims (token.Word word.Edit) w d next pushed e a = still (symbol.EditedField ∷ symbol.MaybeSemicolon ∷ symbol.PrimMetadata ∷ []) pushed next refl e
-metadata_aims (token.Word word.Reorder) w d next pushed e a = still (symbol.EditedField ∷ symbol.MaybeSemicolon ∷ symbol.PrimMetadata ∷ []) pushed next refl e
-metadata_aims token.Quoted w d next pushed e a = still (symbol.MaybeSemicolon ∷ symbol.PrimMetadata ∷ []) pushed next refl e
+metadata_aims (token.Word word.StringField) w d next pushed e a = still IsAimedAt (symbol.Equals ∷ symbol.StringList ∷ symbol.MaybeSemicolon ∷ symbol.PrimMetadata ∷ []) pushed next refl e
+metadata_aims (token.Word word.PathField) w d next pushed e a = still IsAimedAt (symbol.Equals ∷ symbol.PathList ∷ symbol.MaybeSemicolon ∷ symbol.PrimMetadata ∷ []) pushed next refl e
+metadata_aims (token.Word word.ReferenceField) w d next pushed e a = still IsAimedAt (symbol.Equals ∷ symbol.ReferenceList ∷ symbol.MaybeSemicolon ∷ symbol.PrimMetadata ∷ []) pushed next refl e
+metadata_aims (token.Word word.Edit) w d next pushed e a = still IsAimedAt (symbol.EditedField ∷ symbol.MaybeSemicolon ∷ symbol.PrimMetadata ∷ []) pushed next refl e
+metadata_aims (token.Word word.Reorder) w d next pushed e a = still IsAimedAt (symbol.EditedField ∷ symbol.MaybeSemicolon ∷ symbol.PrimMetadata ∷ []) pushed next refl e
+metadata_aims token.Quoted w d next pushed e a = still IsAimedAt (symbol.MaybeSemicolon ∷ symbol.PrimMetadata ∷ []) pushed next refl e
 metadata_aims (token.Word word.Variants) w d next pushed e a = inl (variants_aims w d next a)
 metadata_aims k w d next pushed e a = inl (key_aims w.text w.start d next a)
 
-head_aims : (k : TokenKind) (w : Word) (d next : Draft) (pushed : List Symbol) → starts symbol.HeadItems k ≡ Some pushed → head_item_act k w d ≡ Ok next → AimsOr pushed next
+head_aims : (k : WordKind) (w : Word) (d next : Draft) (pushed : List Symbol) → starts symbol.HeadItems k ≡ Some pushed → head_item_act k w d ≡ Ok next → AimsOr IsAimedAt pushed next
 unfolding head_item_act
-head_aims (token.Word word.SubLayers) w d next pushed e a = still (symbol.Equals ∷ symbol.SubLayerList ∷ symbol.MaybeSemicolon ∷ symbol.HeadItems ∷ []) pushed next refl e
-head_aims token.Quoted w d next pushed e a = still (symbol.MaybeSemicolon ∷ symbol.HeadItems ∷ []) pushed next refl e
+head_aims (token.Word word.SubLayers) w d next pushed e a = still IsAimedAt (symbol.Equals ∷ symbol.SubLayerList ∷ symbol.MaybeSemicolon ∷ symbol.HeadItems ∷ []) pushed next refl e
+head_aims token.Quoted w d next pushed e a = still IsAimedAt (symbol.MaybeSemicolon ∷ symbol.HeadItems ∷ []) pushed next refl e
 head_aims k w d next pushed e a = inl (key_aims w.text w.start d next a)
 
-edited_aims : (k : TokenKind) (w : Word) (d next : Draft) (pushed : List Symbol) → starts symbol.EditedField k ≡ Some pushed → edited_act k w d ≡ Ok next → AimsOr pushed next
+edited_aims : (k : WordKind) (w : Word) (d next : Draft) (pushed : List Symbol) → starts symbol.EditedField k ≡ Some pushed → edited_act k w d ≡ Ok next → AimsOr IsAimedAt pushed next
 unfolding edited_act
 edited_aims token.Equals w d next pushed e a = inl (key_aims d.word d.word_at d next a)
-edited_aims (token.Word word.StringField) w d next pushed e a = still (symbol.Equals ∷ symbol.StringList ∷ []) pushed next refl e
-edited_aims (token.Word word.PathField) w d next pushed e a = still (symbol.Equals ∷ symbol.PathList ∷ []) pushed next refl e
-edited_aims (token.Word word.ReferenceField) w d next pushed e a = still (symbol.Equals ∷ symbol.ReferenceList ∷ []) pushed next refl e
+edited_aims (token.Word word.StringField) w d next pushed e a = still IsAimedAt (symbol.Equals ∷ symbol.StringList ∷ []) pushed next refl e
+edited_aims (token.Word word.PathField) w d next pushed e a = still IsAimedAt (symbol.Equals ∷ symbol.PathList ∷ []) pushed next refl e
+edited_aims (token.Word word.ReferenceField) w d next pushed e a = still IsAimedAt (symbol.Equals ∷ symbol.ReferenceList ∷ []) pushed next refl e
 edited_aims k w d next pushed e a = absurd cc
 
-tail_aims : (k : TokenKind) (d next : Draft) (pushed : List Symbol) → starts symbol.MaybeAttributeTail k ≡ Some pushed → tail_act k d ≡ Ok next → AimsOr pushed next
-tail_aims token.Equals d next pushed e a = inl (default_aimed d next a)
-tail_aims token.OpenParen d next pushed e a = still (symbol.PropertyMetadata ∷ symbol.CloseParen ∷ []) pushed next refl e
-tail_aims token.Dot d next pushed e a = still (symbol.AfterDot ∷ []) pushed next refl e
-tail_aims k d next pushed e a = absurd cc
-
-samples_aim : (k : TokenKind) (w : Word) (d next : Draft) (pushed : List Symbol) → starts symbol.SamplesOrEnd k ≡ Some pushed → sample_act k w d ≡ Ok next → AimsOr pushed next
-samples_aim token.Number w d next pushed e a = inl (sample_aimed w d next a)
-samples_aim token.CloseBrace w d next pushed e a = still [] pushed next refl e
-samples_aim k w d next pushed e a = absurd cc
-
-property_aims : (k : TokenKind) (w : Word) (d next : Draft) (pushed : List Symbol) → starts symbol.PropertyMetadata k ≡ Some pushed → IsNameWord k w → property_item_act k w d ≡ Ok next → AimsOr pushed next
+property_aims : (k : WordKind) (w : Word) (d next : Draft) (pushed : List Symbol) → starts symbol.PropertyMetadata k ≡ Some pushed → IsNameWord k w → property_item_act k w d ≡ Ok next → AimsOr IsAimedAt pushed next
 unfolding property_item_act
 property_aims (token.Word x) w d next pushed e is a = inl (key_aimed w d next is a)
-property_aims token.Quoted w d next pushed e is a = still (symbol.MaybeSemicolon ∷ symbol.PropertyMetadata ∷ []) pushed next refl e
+property_aims token.Quoted w d next pushed e is a = still IsAimedAt (symbol.MaybeSemicolon ∷ symbol.PropertyMetadata ∷ []) pushed next refl e
 property_aims k w d next pushed e is a = absurd cc
 
 -- ---- all symbols
 
--- no value is open behind the word, and none comes next
-unaimed : (s : Symbol) (w : Word) (d next : Draft) (pushed below : List Symbol) → begins_values s ≡ false → is_open d.value ≡ false → bodies_act s w d ≡ Ok next → awaits_value (pushed ++ below) ≡ false
-    → (is_open next.value ≡ true) ⊎ (awaits_value (pushed ++ below) ≡ true) → IsAimed next
-unaimed s w d next pushed below v shut b none (inl o) = absurd (let same : is_open next.value ≡ is_open d.value = ap is_open (bodies_value s w d next v b) in cc)
-unaimed s w d next pushed below v shut b none (inr h) = absurd cc
-
-unless_still : (s : Symbol) (w : Word) (d next : Draft) (pushed below : List Symbol) → begins_values s ≡ false → is_open d.value ≡ false → bodies_act s w d ≡ Ok next → awaits_value below ≡ false → AimsOr pushed next
-    → (is_open next.value ≡ true) ⊎ (awaits_value (pushed ++ below) ≡ true) → IsAimed next
-unless_still s w d next pushed below v shut b none (inl a) h = a
-unless_still s w d next pushed below v shut b none (inr p) h = unaimed s w d next pushed below v shut b (await_joined pushed below none ∙ p) h
-
--- what a plain word does to a value that comes next
-pub same_draft : (d next : Draft) → ◌≡◌ {A = Acted} (Ok d) (Ok next) → d ≡ next
-same_draft d next e = cc
-
 -- marks, which are one word
-pub mark_pushes : (k : TokenKind) (pushed : List Symbol) → starts symbol.MaybeBrackets k ≡ Some pushed → pushed ≡ symbol.CloseBracket ∷ []
+pub mark_pushes : (k : WordKind) (pushed : List Symbol) → starts symbol.MaybeBrackets k ≡ Some pushed → pushed ≡ symbol.CloseBracket ∷ []
 mark_pushes token.OpenBracket pushed e = cc
 mark_pushes k pushed e = absurd cc
 
-pub equals_pushes : (k : TokenKind) (pushed : List Symbol) → starts symbol.Equals k ≡ Some pushed → pushed ≡ []
+pub equals_pushes : (k : WordKind) (pushed : List Symbol) → starts symbol.Equals k ≡ Some pushed → pushed ≡ []
 equals_pushes token.Equals pushed e = cc
 equals_pushes k pushed e = absurd cc
 
-pub colon_pushes : (k : TokenKind) (pushed : List Symbol) → starts symbol.Colon k ≡ Some pushed → pushed ≡ []
+pub colon_pushes : (k : WordKind) (pushed : List Symbol) → starts symbol.Colon k ≡ Some pushed → pushed ≡ []
 colon_pushes token.Colon pushed e = cc
 colon_pushes k pushed e = absurd cc
 
-pub brace_pushes : (k : TokenKind) (pushed : List Symbol) → starts symbol.CloseBrace k ≡ Some pushed → pushed ≡ []
+pub brace_pushes : (k : WordKind) (pushed : List Symbol) → starts symbol.CloseBrace k ≡ Some pushed → pushed ≡ []
 brace_pushes token.CloseBrace pushed e = cc
 brace_pushes k pushed e = absurd cc
 
-pub bracket_pushes : (k : TokenKind) (pushed : List Symbol) → starts symbol.CloseBracket k ≡ Some pushed → pushed ≡ []
+pub bracket_pushes : (k : WordKind) (pushed : List Symbol) → starts symbol.CloseBracket k ≡ Some pushed → pushed ≡ []
 bracket_pushes token.CloseBracket pushed e = cc
 bracket_pushes k pushed e = absurd cc
-
--- behind a mark that says nothing, what came next still does
-mark_aimed : (d next : Draft) (pushed below : List Symbol) → pushed ≡ [] → (awaits_value below ≡ true → IsAimed d) → is_open d.value ≡ false → d ≡ next
-    → (is_open next.value ≡ true) ⊎ (awaits_value (pushed ++ below) ≡ true) → IsAimed next
-mark_aimed d next pushed below p aimed shut same (inl o) = absurd (let one : is_open d.value ≡ is_open next.value = ap (λ (x : Draft). is_open x.value) same in cc)
-mark_aimed d next pushed below p aimed shut same (inr g) = subst IsAimed same (aimed (ap (λ q. awaits_value (q ++ below)) (sym p) ∙ g))
-
-headed_aimed : (g : Goal) (d : Draft) (h : Heading) → IsAimedAt g d → IsAimedAt g (headed h d)
-headed_aimed goal.Nothing d h a = a
-headed_aimed goal.OwnerKey d h a = a
-headed_aimed goal.Variants d h a = a
-headed_aimed goal.PropertyKey d h a = a
-headed_aimed goal.Default d h a = a
-headed_aimed goal.Sample d h a = a
-
-brackets_aimed : (w : Word) (d next : Draft) (pushed below : List Symbol) → pushed ≡ symbol.CloseBracket ∷ [] → (awaits_value below ≡ true → IsAimed d) → is_open d.value ≡ false → brackets_act d ≡ Ok next
-    → (is_open next.value ≡ true) ⊎ (awaits_value (pushed ++ below) ≡ true) → IsAimed next
-unfolding brackets_act
-brackets_aimed w d next pushed below p aimed shut b h = by (same_draft (headed (with_brackets d.heading) d) next b) h
-  where
-    by : headed (with_brackets d.heading) d ≡ next → (is_open next.value ≡ true) ⊎ (awaits_value (pushed ++ below) ≡ true) → IsAimed next
-    by same (inl o) = absurd (let one : is_open d.value ≡ is_open next.value = ap (λ (x : Draft). is_open x.value) same in cc)
-    by same (inr g) = subst IsAimed {x = headed (with_brackets d.heading) d} same (headed_aimed d.aim.goal d (with_brackets d.heading) (aimed (ap (λ q. awaits_value (q ++ below)) (sym p) ∙ g)))
 
 word_aimed : (s : Symbol) (w : Word) (d next : Draft) (pushed below : List Symbol) → starts s w.kind ≡ Some pushed → is_calm (s ∷ below) ≡ true → IsNameWord w.kind w
     → (awaits_value (s ∷ below) ≡ true → IsAimed d) → is_open d.value ≡ false → bodies_act s w d ≡ Ok next
     → (is_open next.value ≡ true) ⊎ (awaits_value (pushed ++ below) ≡ true) → IsAimed next
 unfolding bodies_act prims_act layers_act
-word_aimed symbol.Value w d next pushed below e calm name aimed shut b h = first_aimed w d next b (aimed refl)
-word_aimed symbol.Dictionary w d next pushed below e calm name aimed shut b h = first_aimed w d next b (aimed refl)
+word_aimed symbol.Value w d next pushed below e calm name aimed shut b h = first_aimed IsAimedAt expects w d next b (aimed refl)
+word_aimed symbol.Dictionary w d next pushed below e calm name aimed shut b h = first_aimed IsAimedAt expects w d next b (aimed refl)
 word_aimed symbol.MembersOrEnd w d next pushed below e calm name aimed shut b h = subst IsAimed (same_draft d next b) (aimed refl)
 word_aimed symbol.MoreMembers w d next pushed below e calm name aimed shut b h = subst IsAimed (same_draft d next b) (aimed refl)
 word_aimed symbol.ElementsOrEnd w d next pushed below e calm name aimed shut b h = subst IsAimed (same_draft d next b) (aimed refl)
@@ -307,25 +233,25 @@ word_aimed symbol.MoreElements w d next pushed below e calm name aimed shut b h 
 word_aimed symbol.DictionaryEntries w d next pushed below e calm name aimed shut b h = subst IsAimed (same_draft d next b) (aimed refl)
 word_aimed symbol.EntryKey w d next pushed below e calm name aimed shut b h = subst IsAimed (same_draft d next b) (aimed refl)
 word_aimed symbol.MaybeSeparator w d next pushed below e calm name aimed shut b h = subst IsAimed (same_draft d next b) (aimed refl)
-word_aimed symbol.Equals w d next pushed below e calm name aimed shut b h = mark_aimed d next pushed below (equals_pushes w.kind pushed e) aimed shut (same_draft d next b) h
-word_aimed symbol.Colon w d next pushed below e calm name aimed shut b h = mark_aimed d next pushed below (colon_pushes w.kind pushed e) aimed shut (same_draft d next b) h
-word_aimed symbol.CloseBrace w d next pushed below e calm name aimed shut b h = mark_aimed d next pushed below (brace_pushes w.kind pushed e) aimed shut (same_draft d next b) h
-word_aimed symbol.CloseBracket w d next pushed below e calm name aimed shut b h = mark_aimed d next pushed below (bracket_pushes w.kind pushed e) aimed shut (same_draft d next b) h
-word_aimed symbol.MaybeBrackets w d next pushed below e calm name aimed shut b h = brackets_aimed w d next pushed below (mark_pushes w.kind pushed e) aimed shut b h
+word_aimed symbol.Equals w d next pushed below e calm name aimed shut b h = mark_aimed IsAimedAt d next pushed below (equals_pushes w.kind pushed e) aimed shut (same_draft d next b) h
+word_aimed symbol.Colon w d next pushed below e calm name aimed shut b h = mark_aimed IsAimedAt d next pushed below (colon_pushes w.kind pushed e) aimed shut (same_draft d next b) h
+word_aimed symbol.CloseBrace w d next pushed below e calm name aimed shut b h = mark_aimed IsAimedAt d next pushed below (brace_pushes w.kind pushed e) aimed shut (same_draft d next b) h
+word_aimed symbol.CloseBracket w d next pushed below e calm name aimed shut b h = mark_aimed IsAimedAt d next pushed below (bracket_pushes w.kind pushed e) aimed shut (same_draft d next b) h
+word_aimed symbol.MaybeBrackets w d next pushed below e calm name aimed shut b h = brackets_aimed IsAimedAt expects w d next pushed below (mark_pushes w.kind pushed e) aimed shut b h
 word_aimed symbol.PrimMetadata w d next pushed below e calm name aimed shut b h =
-    unless_still symbol.PrimMetadata w d next pushed below refl shut b (none_behind symbol.PrimMetadata below refl calm) (metadata_aims w.kind w d next pushed e b) h
+    unless_still IsAimedAt symbol.PrimMetadata w d next pushed below refl shut b (none_behind symbol.PrimMetadata below refl calm) (metadata_aims w.kind w d next pushed e b) h
 word_aimed symbol.HeadItems w d next pushed below e calm name aimed shut b h =
-    unless_still symbol.HeadItems w d next pushed below refl shut b (none_behind symbol.HeadItems below refl calm) (head_aims w.kind w d next pushed e b) h
+    unless_still IsAimedAt symbol.HeadItems w d next pushed below refl shut b (none_behind symbol.HeadItems below refl calm) (head_aims w.kind w d next pushed e b) h
 word_aimed symbol.EditedField w d next pushed below e calm name aimed shut b h =
-    unless_still symbol.EditedField w d next pushed below refl shut b (none_behind symbol.EditedField below refl calm) (edited_aims w.kind w d next pushed e b) h
+    unless_still IsAimedAt symbol.EditedField w d next pushed below refl shut b (none_behind symbol.EditedField below refl calm) (edited_aims w.kind w d next pushed e b) h
 word_aimed symbol.MaybeAttributeTail w d next pushed below e calm name aimed shut b h =
-    unless_still symbol.MaybeAttributeTail w d next pushed below refl shut b (none_behind symbol.MaybeAttributeTail below refl calm) (tail_aims w.kind d next pushed e b) h
+    unless_still IsAimedAt symbol.MaybeAttributeTail w d next pushed below refl shut b (none_behind symbol.MaybeAttributeTail below refl calm) (tail_aims IsAimedAt expects w.kind d next pushed e b) h
 word_aimed symbol.SamplesOrEnd w d next pushed below e calm name aimed shut b h =
-    unless_still symbol.SamplesOrEnd w d next pushed below refl shut b (none_behind symbol.SamplesOrEnd below refl calm) (samples_aim w.kind w d next pushed e b) h
+    unless_still IsAimedAt symbol.SamplesOrEnd w d next pushed below refl shut b (none_behind symbol.SamplesOrEnd below refl calm) (samples_aim IsAimedAt expects w.kind w d next pushed e b) h
 word_aimed symbol.PropertyMetadata w d next pushed below e calm name aimed shut b h =
-    unless_still symbol.PropertyMetadata w d next pushed below refl shut b (none_behind symbol.PropertyMetadata below refl calm) (property_aims w.kind w d next pushed e name b) h
+    unless_still IsAimedAt symbol.PropertyMetadata w d next pushed below refl shut b (none_behind symbol.PropertyMetadata below refl calm) (property_aims w.kind w d next pushed e name b) h
 word_aimed s w d next pushed below e calm name aimed shut b h =
-    unless_still s w d next pushed below refl shut b (none_behind s below refl calm) (inr (is_not (awaits_value pushed) (both_true (is_calm pushed) (not (awaits_value pushed)) (ap opens_still (sym e) ∙ starts_still s w.kind refl)).1)) h
+    unless_still IsAimedAt s w d next pushed below refl shut b (none_behind s below refl calm) (inr (not-true (awaits_value pushed) (both_true (is_calm pushed) (not (awaits_value pushed)) (ap opens_still (sym e) ∙ starts_still s w.kind refl)).1)) h
 
 step_aimed : (stack after : List Symbol) (s : Symbol) (w : Word) (d next : Draft) → step stack w.kind ≡ Some (s, after) → act s w d ≡ Ok next → IsNameWord w.kind w
     → IsAiming stack d → IsAiming after next
@@ -334,7 +260,7 @@ step_aimed stack after s w d next st a name aiming =
     subst (λ x. IsAiming x next) f.after_is (record {
       calm = made_calm s w.kind f.pushed f.below f.starts_is f.calm;
       aimed = λ h. elim (acted s w d next a) [
-        | inl t ↦ token_aimed w d next t.1 (aiming.aimed (inl t.0))
+        | inl t ↦ token_aimed IsAimedAt expects w d next t.1 (aiming.aimed (inl t.0))
         | inr b ↦ word_aimed s w d next f.pushed f.below f.starts_is f.calm name (λ g. aiming.aimed (inr (f.awaited g))) b.0 b.1 h
       ];
     })

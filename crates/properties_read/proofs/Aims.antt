@@ -8,7 +8,7 @@ use Rattle.sdf_values.specs.declared.value.Value.{Value}
 use Rattle.usda_fields.specs.Keys.{has_key, key_rule, rule_shape, unless_taken}
 use Rattle.usda_fields.specs.declared.keys.KeyRule.{KeyRule}
 use Rattle.usda_fields.specs.declared.keys.KeyRule.TheVariants.{Relocates, Comment, Boolean, DefaultPrim, Free}
-use Rattle.usda_grammar.specs.declared.kinds.TokenKind.TheVariants as token
+use Rattle.usda_grammar.specs.declared.kinds.WordKind.TheVariants as token
 use Rattle.usda_lexer.specs.Meanings.{number_of}
 use Rattle.usda_statements.specs.OpenValues.{value_in}
 use Rattle.usda_statements.specs.PropertyDrafts.{default_act, meta_key_act}
@@ -77,7 +77,7 @@ read_by_rule Free v r = r
 fit : (g : Goal) (d : Draft) (v : Value) → IsAimedAt g d → IsWhole d.aim.shape v → IsFor g v d
 fit goal.Default d v a w = value_of_type d.property.ty v (subst (λ s. IsWhole s v) a w)
 fit goal.Sample d v a w = (a.1, value_of_type d.property.ty v (subst (λ s. IsWhole s v) a.0 w))
-fit goal.PropertyKey d v a w = record { word = a.1; read = read_by_rule (key_rule d.aim.key) v (subst (λ s. IsReadWhere s v) a.0 w.read); writable = w.writable; deep = w.deep; full = w.full; utf8 = w.utf8 }
+fit goal.PropertyKey d v a w = record { word = a.1; name = refl; read = read_by_rule (key_rule d.aim.key) v (subst (λ s. IsReadWhere s v) a.0 w.read); writable = w.writable; deep = w.deep; full = w.full; utf8 = w.utf8 }
 fit goal.Nothing d v a w = tt
 fit goal.OwnerKey d v a w = tt
 fit goal.Variants d v a w = tt

@@ -3,8 +3,8 @@ use Rattle.std.proofs.Common.{◌≡◌, refl, subst, true, false, Ok}
 use Rattle.sdf_paths.specs.Paths.{IsPath}
 use Rattle.usda_fields.specs.Fields as fields
 use Rattle.usda_fields.specs.declared.field.ListField.TheVariants.{Paths, References, Texts}
-use Rattle.usda_grammar.specs.declared.kinds.TokenKind.{TokenKind}
-use Rattle.usda_grammar.specs.declared.kinds.TokenKind.TheVariants as token
+use Rattle.usda_grammar.specs.declared.kinds.WordKind.{WordKind}
+use Rattle.usda_grammar.specs.declared.kinds.WordKind.TheVariants as token
 use Rattle.usda_statements.specs.PropertyDrafts.{path_act, with_list_closed}
 use Rattle.usda_statements.specs.declared.property.PropertyDraft.{PropertyDraft}
 use Rattle.usda_words.specs.Words.{Word}
@@ -54,24 +54,24 @@ unfolding item_path_act
 item_path_so (open_list.Field (References field)) w d next e = said_so d w.start (fields.item_path_act field d.edit w.text d.owner.said) next e
 item_path_so l w d next e = itself d next e
 
-pub list_so : (k : TokenKind) (w : Word) (d next : Draft) → is_of_property d.list ≡ false → in_list_act k w d ≡ Ok next → Keeps d next
+pub list_so : (k : WordKind) (w : Word) (d next : Draft) → is_of_property d.list ≡ false → in_list_act k w d ≡ Ok next → Keeps d next
 unfolding in_list_act
 list_so token.Quoted w d next other e = string_so d.list w d next e
 list_so token.Path w d next other e = path_so d.list w d next other e
 list_so token.CloseBracket w d next other e = end_so d.list d next other e
 list_so k w d next other e = itself d next e
 
-pub references_so : (k : TokenKind) (w : Word) (d next : Draft) → is_of_property d.list ≡ false → in_references_act k w d ≡ Ok next → Keeps d next
+pub references_so : (k : WordKind) (w : Word) (d next : Draft) → is_of_property d.list ≡ false → in_references_act k w d ≡ Ok next → Keeps d next
 unfolding in_references_act
 references_so token.Asset w d next other e = asset_so d.list w d next e
 references_so token.Path w d next other e = lone_path_so d.list w d next e
 references_so token.CloseBracket w d next other e = end_so d.list d next other e
 references_so k w d next other e = itself d next e
 
-pub other_list_sound : (r : Reading) (k : TokenKind) (w : Word) (d next : Draft) → is_of_property d.list ≡ false → HasSoundProperties r d → in_list_act k w d ≡ Ok next → HasSoundProperties r next
+pub other_list_sound : (r : Reading) (k : WordKind) (w : Word) (d next : Draft) → is_of_property d.list ≡ false → HasSoundProperties r d → in_list_act k w d ≡ Ok next → HasSoundProperties r next
 other_list_sound r k w d next other s e = kept r d next (list_so k w d next other e) s
 
-pub references_sound : (r : Reading) (k : TokenKind) (w : Word) (d next : Draft)
+pub references_sound : (r : Reading) (k : WordKind) (w : Word) (d next : Draft)
     → is_of_property d.list ≡ false → HasSoundProperties r d → in_references_act k w d ≡ Ok next → HasSoundProperties r next
 references_sound r k w d next other s e = kept r d next (references_so k w d next other e) s
 
@@ -106,7 +106,7 @@ none_read d s = record { in_hand = none_hand d.property s.in_hand; owner = s.own
 opened_read : (d : Draft) → HasSoundProperties begun d → HasSoundProperties bracketed d
 opened_read d s = record { in_hand = opened_hand d.property s.in_hand; owner = s.owner; outer = s.outer; specs = s.specs }
 
-pub started_sound : (k : TokenKind) (w : Word) (d next : Draft) → is_of_property d.list ≡ true → IsPath d.owner.said.base → IsUtf8Path k w
+pub started_sound : (k : WordKind) (w : Word) (d next : Draft) → is_of_property d.list ≡ true → IsPath d.owner.said.base → IsUtf8Path k w
     → HasSoundProperties begun d → in_list_act k w d ≡ Ok next → HasSoundProperties (behind_start k) next
 unfolding in_list_act
 started_sound token.Quoted w d next here is u s e = string_here closed d.list w d next (none_read d s) e
@@ -115,7 +115,7 @@ started_sound token.CloseBracket w d next here is u s e = end_here d.list d next
 started_sound token.OpenBracket w d next here is u s e = kept bracketed d next (itself d next e) (opened_read d s)
 started_sound k w d next here is u s e = kept closed d next (itself d next e) (none_read d s)
 
-pub part_sound : (k : TokenKind) (w : Word) (d next : Draft) → is_of_property d.list ≡ true → IsPath d.owner.said.base → IsUtf8Path k w
+pub part_sound : (k : WordKind) (w : Word) (d next : Draft) → is_of_property d.list ≡ true → IsPath d.owner.said.base → IsUtf8Path k w
     → HasSoundProperties bracketed d → in_list_act k w d ≡ Ok next → HasSoundProperties (behind_part k) next
 unfolding in_list_act
 part_sound token.Quoted w d next here is u s e = string_here bracketed d.list w d next s e

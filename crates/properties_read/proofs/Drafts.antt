@@ -1,7 +1,7 @@
 -- Each word of a text keeps the properties of a draft proper.
-use Rattle.std.proofs.Common.{◌≡◌, sym, ap, refl, subst, ℕ, Bool, true, false, List, [], ◌∷◌, ◌++◌, Option, Some, None, Ok, Err}
+use Rattle.std.proofs.Common.{◌≡◌, sym, ap, refl, subst, ℕ, Bool, true, false, Option, Some, None, Ok, Err}
 use Rattle.std.specs.Prelude.{Result, if◌then◌else◌}
-use Rattle.plain_data.specs.Ends.{last, front}
+use Rattle.plain_data.specs.Ends.{last}
 use Rattle.sdf_paths.specs.DerivedOrder.{path_cmp_same}
 use Rattle.sdf_paths.specs.Order.{path_cmp}
 use Rattle.sdf_values.specs.declared.refusal.RefusalKind.{RefusalKind}
@@ -27,17 +27,18 @@ use Rattle.usda_drafts.specs.declared.draft.Draft.{Draft}
 use Rattle.usda_drafts.specs.declared.draft.OpenList.TheVariants as open_list
 use Rattle.usda_drafts.specs.declared.owner.Owner.{Owner}
 use Rattle.usda_grammar.specs.declared.kinds.Keyword.TheVariants as word
-use Rattle.usda_grammar.specs.declared.kinds.TokenKind.{TokenKind}
-use Rattle.usda_grammar.specs.declared.kinds.TokenKind.TheVariants as token
-use Rattle.layer_reads.specs.Lists.{AreAll}
+use Rattle.usda_grammar.specs.declared.kinds.WordKind.{WordKind}
+use Rattle.usda_grammar.specs.declared.kinds.WordKind.TheVariants as token
 use Rattle.layer_texts.specs.Writable.{is_word}
+use Rattle.value_texts.specs.Each.{AreAll}
+use Rattle.value_texts.proofs.EachOf.{all_push, all_front, all_last}
 use Rattle.properties_read.specs.Drafts.{IsSoundInHand, IsReadOwner, IsProperEntry, HasSoundProperties, IsFor, CompletesWell, behind_dot}
 use Rattle.properties_read.specs.Sound.{AreRead}
 use Rattle.properties_read.specs.Targets.{Reading, closed, begun}
 use Rattle.properties_read.proofs.Hands.{no_hand, default_hand, samples_hand, list_hand, key_hand}
 use Rattle.properties_read.proofs.Owners.{none_read, taken_sound, placed_read, settled_read, proper_each}
 use Rattle.properties_read.proofs.Properties.{default_sound, sample_sound}
-use Rattle.properties_read.proofs.Tables.{each_with}
+use Rattle.value_returns.proofs.Tables.{all_with}
 
 -- ---- what an act makes
 
@@ -173,12 +174,12 @@ targets_sound d next s e =
     let sound : HasSoundProperties begun (record (with_property d m.0) { list = open_list.Property }) = record { in_hand = list_hand d.property m.0 m.1.0 s.in_hand; owner = s.owner; outer = s.outer; specs = s.specs } in
     subst (HasSoundProperties begun) {x = record (with_property d m.0) { list = open_list.Property }} m.1.1 sound
 
-pub tail_sound : (r : Reading) (k : TokenKind) (d next : Draft) → HasSoundProperties r d → tail_act k d ≡ Ok next → HasSoundProperties r next
+pub tail_sound : (r : Reading) (k : WordKind) (d next : Draft) → HasSoundProperties r d → tail_act k d ≡ Ok next → HasSoundProperties r next
 unfolding tail_act
 tail_sound r token.Equals d next s e = default_begun_so r d next s e
 tail_sound r k d next s e = kept r d next (itself d next e) s
 
-pub dot_sound : (k : TokenKind) (at : ℕ) (d next : Draft) → HasSoundProperties closed d → dot_act k at d ≡ Ok next → HasSoundProperties (behind_dot k) next
+pub dot_sound : (k : WordKind) (at : ℕ) (d next : Draft) → HasSoundProperties closed d → dot_act k at d ≡ Ok next → HasSoundProperties (behind_dot k) next
 unfolding dot_act
 dot_sound (token.Word word.TimeSamples) at d next s e = samples_begun_so closed d next s e
 dot_sound (token.Word word.Connect) at d next s e = targets_sound d next s e
@@ -186,24 +187,10 @@ dot_sound k at d next s e = absurd cc
 
 -- ---- owners
 
-each_more : {T : Type 0} (P : T → Type 0) (xs : List T) (x : T) → AreAll P xs → P x → AreAll P (xs ++ x ∷ [])
-each_more P [] x all p = (p, tt)
-each_more P (y ∷ ys) x all p = (all.0, each_more P ys x all.1 p)
-
-each_front : {T : Type 0} (P : T → Type 0) (xs : List T) → AreAll P xs → AreAll P (front xs)
-each_front P [] all = tt
-each_front P (x ∷ []) all = tt
-each_front P (x ∷ y ∷ xs) all = (all.0, each_front P (y ∷ xs) all.1)
-
-the_last : {T : Type 0} (P : T → Type 0) (xs : List T) (x : T) → AreAll P xs → last xs ≡ Some x → P x
-the_last P [] x all e = absurd cc
-the_last P (y ∷ []) x all e = let same : y ≡ x = cc e in subst P same all.0
-the_last P (y ∷ z ∷ xs) x all e = the_last P (z ∷ xs) x all.1 e
-
 -- an owner inside the one that was the innermost, of which nothing is said
 pub entered_sound : (r : Reading) (o : Owner) (d : Draft) → IsReadOwner o → HasSoundProperties r d → HasSoundProperties r (entered o d)
 unfolding entered
-entered_sound r o d read s = record { in_hand = s.in_hand; owner = read; outer = each_more IsReadOwner d.outer d.owner s.outer s.owner; specs = s.specs }
+entered_sound r o d read s = record { in_hand = s.in_hand; owner = read; outer = all_push IsReadOwner d.outer d.owner s.outer s.owner; specs = s.specs }
 
 -- the statement in hand is over
 pub over_sound : (d : Draft) → HasSoundProperties closed d → HasSoundProperties closed (with_statement_over d)
@@ -212,15 +199,15 @@ over_sound d s = record { in_hand = no_hand closed; owner = settled_read d.prope
 
 closed_sound : (o : Owner) (specs : SpecEntries) → IsReadOwner o → AreAll IsProperEntry specs → AreAll IsProperEntry (with_closed o specs)
 unfolding with_spec_at spec_of
-closed_sound o specs read all = each_with path_cmp path_cmp_same IsProperEntry o.said.path (spec_of o) specs all (record { once = read.once; each = proper_each o.marks o.properties read.each })
+closed_sound o specs read all = all_with path_cmp path_cmp_same IsProperEntry o.said.path (spec_of o) specs (record { once = read.once; each = proper_each o.marks o.properties read.each }) all
 
 left_sound : (r : Reading) (d : Draft) → HasSoundProperties r d → HasSoundProperties r (left d)
 unfolding left
 left_sound r d s = by (last d.outer) refl
   where
     by : (o : Option Owner) → last d.outer ≡ o → HasSoundProperties r (left_for o d)
-    by None e = record { in_hand = s.in_hand; owner = s.owner; outer = each_front IsReadOwner d.outer s.outer; specs = s.specs }
-    by (Some o) e = record { in_hand = s.in_hand; owner = the_last IsReadOwner d.outer o s.outer e; outer = each_front IsReadOwner d.outer s.outer; specs = closed_sound d.owner d.specs s.owner s.specs }
+    by None e = record { in_hand = s.in_hand; owner = s.owner; outer = all_front IsReadOwner d.outer s.outer; specs = s.specs }
+    by (Some o) e = record { in_hand = s.in_hand; owner = all_last IsReadOwner d.outer o s.outer e; outer = all_front IsReadOwner d.outer s.outer; specs = closed_sound d.owner d.specs s.owner s.specs }
 
 pub ended_sound : (d next : Draft) → HasSoundProperties closed d → body_end_act d ≡ Ok next → HasSoundProperties closed next
 unfolding body_end_act

@@ -13,8 +13,9 @@ use Rattle.usda_statements.specs.declared.property.PropertyDraft.{PropertyDraft}
 use Rattle.properties_read.specs.Drafts.{IsSoundInHand}
 use Rattle.properties_read.specs.Sound.{IsSoundProperty}
 use Rattle.properties_read.specs.Targets.{Reading, closed, begun, bracketed}
-use Rattle.properties_read.specs.Values.{IsReadFor}
 use Rattle.properties_read.proofs.Properties.{unless_refused, path_is, meta_is, list_is, default_begun_sound, samples_begun_sound, list_begun_sound, list_none_sound, list_opened_sound, list_closed_sound, path_alone_sound, path_bracketed_sound, commented_sound, keyed_sound}
+use Rattle.prim_reads.specs.Properties.{is_any_key}
+use Rattle.fields_read.specs.Laws.{IsReadFor}
 
 -- what is sound if it was, and has the name that it had
 pub hand_so : (r after : Reading) (p next : PropertyDraft) → next.name ≡ p.name → (IsSoundProperty r p → IsSoundProperty after next) → IsSoundInHand r p → IsSoundInHand after next
@@ -57,6 +58,6 @@ pub comment_hand : (r : Reading) (token : List ℕ) (p next : PropertyDraft) →
 comment_hand r token p next e hand =
     hand_so r r p next (ap (λ (q : PropertyDraft). q.name) (sym (meta_is p next (comment_act token p.meta) e).1.1)) (λ s. commented_sound r token p next s e) hand
 
-pub key_hand : (r : Reading) (key : List ℕ) (v : Value) (p next : PropertyDraft) → IsReadFor key v → meta_act key v p ≡ Ok next → IsSoundInHand r p → IsSoundInHand r next
+pub key_hand : (r : Reading) (key : List ℕ) (v : Value) (p next : PropertyDraft) → IsReadFor is_any_key key v → meta_act key v p ≡ Ok next → IsSoundInHand r p → IsSoundInHand r next
 key_hand r key v p next for e hand =
     hand_so r r p next (ap (λ (q : PropertyDraft). q.name) (sym (meta_is p next (value_act key v p.meta) e).1.1)) (λ s. keyed_sound r key v p next s for e) hand

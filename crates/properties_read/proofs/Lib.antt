@@ -1,5 +1,3 @@
-pub mod Tables
-pub mod Repeats
 pub mod Places
 pub mod Lists
 pub mod Targets
@@ -16,7 +14,7 @@ pub mod OpenLists
 pub mod Stacks
 pub mod Steps
 pub mod Aims
-pub mod ValuesStay
 pub mod Awaiting
+pub mod Aimed
 pub mod Aiming
 pub mod OpenValues

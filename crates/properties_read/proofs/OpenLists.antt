@@ -8,8 +8,8 @@ use Rattle.usda_fields.specs.Owners as owner
 use Rattle.usda_fields.specs.Variants as variants
 use Rattle.usda_fields.specs.declared.field.ListField.{ListField}
 use Rattle.usda_fields.specs.declared.field.ListField.TheVariants.{Paths, References, Texts}
-use Rattle.usda_grammar.specs.declared.kinds.TokenKind.{TokenKind}
-use Rattle.usda_grammar.specs.declared.kinds.TokenKind.TheVariants as token
+use Rattle.usda_grammar.specs.declared.kinds.WordKind.{WordKind}
+use Rattle.usda_grammar.specs.declared.kinds.WordKind.TheVariants as token
 use Rattle.usda_lists.specs.Lists.{amend_last}
 use Rattle.usda_lists.specs.Offsets.{offset_key}
 use Rattle.usda_lists.specs.References.{sublayer_number}
@@ -73,14 +73,14 @@ end_list (open_list.Field field) d next e = the_list d.list (with_said d (fields
 end_list open_list.Property d next e = the_list d.list (with_property d _) next refl e
 end_list open_list.SubLayers d next e = the_list d.list d next refl e
 
-pub in_list_list : (k : TokenKind) (w : Word) (d next : Draft) → in_list_act k w d ≡ Ok next → next.list ≡ d.list
+pub in_list_list : (k : WordKind) (w : Word) (d next : Draft) → in_list_act k w d ≡ Ok next → next.list ≡ d.list
 unfolding in_list_act
 in_list_list token.Quoted w d next e = string_list d.list w d next e
 in_list_list token.Path w d next e = path_list d.list w d next e
 in_list_list token.CloseBracket w d next e = end_list d.list d next e
 in_list_list k w d next e = the_list d.list d next refl e
 
-pub in_references_list : (k : TokenKind) (w : Word) (d next : Draft) → in_references_act k w d ≡ Ok next → next.list ≡ d.list
+pub in_references_list : (k : WordKind) (w : Word) (d next : Draft) → in_references_act k w d ≡ Ok next → next.list ≡ d.list
 unfolding in_references_act
 in_references_list token.Asset w d next e = asset_list d.list w d next e
 in_references_list token.Path w d next e = lone_path_list d.list w d next e

@@ -3,7 +3,7 @@ use Rattle.std.proofs.Common.{◌≡◌, ap, refl, subst, Bool, true, false, not
 use Rattle.plain_data.specs.Exact.{both_true}
 use Rattle.usda_grammar.specs.Machine.{choose, step}
 use Rattle.usda_grammar.specs.Table.{starts, may_be_absent}
-use Rattle.usda_grammar.specs.declared.kinds.TokenKind.{TokenKind}
+use Rattle.usda_grammar.specs.declared.kinds.WordKind.{WordKind}
 use Rattle.usda_grammar.specs.declared.symbols.Symbol.{Symbol}
 use Rattle.usda_values.specs.Drafts.{is_complete_at, is_complete}
 use Rattle.usda_values.specs.declared.draft.ValueDraft.{ValueDraft}
@@ -12,6 +12,7 @@ use Rattle.usda_values.specs.declared.level.Bracket.TheVariants as bracket
 use Rattle.usda_values.specs.declared.level.Place.{Place}
 use Rattle.usda_values.specs.declared.level.Place.TheVariants as place
 use Rattle.value_texts.specs.Following.{awaited_at, awaited_outside, is_place_of, are_levels}
+use Rattle.value_texts.proofs.Tests.{implied}
 use Rattle.properties_read.specs.Drafts.{takes_values}
 use Rattle.properties_read.specs.Stacks.{OpenValuesTakeTheirWords}
 
@@ -20,11 +21,7 @@ abbrev is_barred : List Symbol → Bool
 is_barred [] = false
 is_barred (s ∷ rest) = takes_values s && (not (may_be_absent s) || is_barred rest)
 
-behind_absent : (a b : Bool) → a ≡ true → (not a || b) ≡ true → b ≡ true
-behind_absent true b h g = g
-behind_absent false b h g = absurd cc
-
-taken_by_values : (stack below : List Symbol) (k : TokenKind) (s : Symbol) (after : List Symbol) → is_barred stack ≡ true → step (stack ++ below) k ≡ Some (s, after) → takes_values s ≡ true
+taken_by_values : (stack below : List Symbol) (k : WordKind) (s : Symbol) (after : List Symbol) → is_barred stack ≡ true → step (stack ++ below) k ≡ Some (s, after) → takes_values s ≡ true
 taken_by_values [] below k s after h e = absurd cc
 taken_by_values (t ∷ stack) below k s after h e =
     let p = both_true (takes_values t) (not (may_be_absent t) || is_barred stack) h in
@@ -35,7 +32,7 @@ taken_by_values (t ∷ stack) below k s after h e =
     by (Some pushed) b ab v g e more =
         let pair : ◌≡◌ {A = Symbol × List Symbol} (t, pushed ++ (stack ++ below)) (s, after) = cc e in
         subst (λ x. takes_values x ≡ true) (ap (λ (p : Symbol × List Symbol). p.0) pair) v
-    by None true ab v g e more = more (behind_absent (may_be_absent t) (is_barred stack) ab g) e
+    by None true ab v g e more = more (implied (may_be_absent t) (is_barred stack) ab g) e
     by None false ab v g e more = absurd cc
 
 -- whether a draft at this place is complete

@@ -13,8 +13,8 @@ use Rattle.usda_fields.specs.declared.field.ListField.TheVariants.{Paths, Refere
 use Rattle.usda_fields.specs.declared.owner.OrderWord.{OrderWord}
 use Rattle.usda_fields.specs.declared.owner.OrderWord.TheVariants.{NameChildren}
 use Rattle.usda_grammar.specs.declared.kinds.Keyword.TheVariants as word
-use Rattle.usda_grammar.specs.declared.kinds.TokenKind.{TokenKind}
-use Rattle.usda_grammar.specs.declared.kinds.TokenKind.TheVariants as token
+use Rattle.usda_grammar.specs.declared.kinds.WordKind.{WordKind}
+use Rattle.usda_grammar.specs.declared.kinds.WordKind.TheVariants as token
 use Rattle.usda_grammar.specs.declared.symbols.Symbol.{Symbol}
 use Rattle.usda_grammar.specs.declared.symbols.Symbol.TheVariants as symbol
 use Rattle.usda_lexer.specs.Meanings.{number_of}
@@ -44,8 +44,9 @@ use Rattle.usda_drafts.specs.declared.draft.Draft.{Draft}
 use Rattle.usda_drafts.specs.declared.draft.OpenList.{OpenList}
 use Rattle.usda_drafts.specs.declared.draft.OpenList.TheVariants as open_list
 use Rattle.usda_drafts.specs.declared.fault.Refused.{Refused}
+use Rattle.text_syntax.specs.Open.{begins_value}
 use Rattle.properties_read.specs.DraftLaws.{DraftsAreRead}
-use Rattle.properties_read.specs.Drafts.{HasSoundProperties, takes_lists, takes_turns, begins_values}
+use Rattle.properties_read.specs.Drafts.{HasSoundProperties, takes_lists, takes_turns}
 use Rattle.properties_read.specs.Targets.{Reading, closed}
 use Rattle.properties_read.proofs.DraftLists.{item_path_so, other_list_sound, references_sound, started_sound, part_sound}
 use Rattle.properties_read.proofs.Drafts.{then_made, Keeps, itself, changed, made_so, kept, hand_is, said_so, blank_sound, token_sound, first_sound, name_sound, tail_sound, dot_sound, targets_sound, entered_sound, over_sound, ended_sound}
@@ -66,17 +67,17 @@ pub type_so : (w : Word) (d next : Draft) → type_act w d ≡ Ok next → Keeps
 unfolding type_act
 type_so w d next e = made_so d w.start (with_type w.text d.heading) (λ h. headed h d) next (λ h. record { property = refl; properties = refl; marks = refl; outer = refl; specs = refl; value = refl }) e
 
-pub after_variability_so : (k : TokenKind) (w : Word) (d next : Draft) → after_variability_act k w d ≡ Ok next → Keeps d next
+pub after_variability_so : (k : WordKind) (w : Word) (d next : Draft) → after_variability_act k w d ≡ Ok next → Keeps d next
 unfolding after_variability_act
 after_variability_so (token.Word word.Rel) w d next e = headed_so (as_relationship d.heading) d next e
 after_variability_so k w d next e = type_so w d next e
 
-pub after_custom_so : (k : TokenKind) (w : Word) (d next : Draft) → after_custom_act k w d ≡ Ok next → Keeps d next
+pub after_custom_so : (k : WordKind) (w : Word) (d next : Draft) → after_custom_act k w d ≡ Ok next → Keeps d next
 unfolding after_custom_act
 after_custom_so (token.Word word.Variability) w d next e = headed_so (with_variability w.text d.heading) d next e
 after_custom_so k w d next e = after_variability_so k w d next e
 
-pub after_edit_so : (k : TokenKind) (w : Word) (d next : Draft) → after_edit_act k w d ≡ Ok next → Keeps d next
+pub after_edit_so : (k : WordKind) (w : Word) (d next : Draft) → after_edit_act k w d ≡ Ok next → Keeps d next
 unfolding after_edit_act
 after_edit_so (token.Word word.Custom) w d next e = headed_so (with_custom d.heading) d next e
 after_edit_so k w d next e = after_custom_so k w d next e
@@ -95,12 +96,12 @@ pub root_order_so : (w : Word) (d next : Draft) → root_order_act w d ≡ Ok ne
 unfolding root_order_act
 root_order_so w d next e = ordered_so NameChildren w.start d next e
 
-pub order_name_so : (k : TokenKind) (w : Word) (d next : Draft) → order_name_act k w d ≡ Ok next → Keeps d next
+pub order_name_so : (k : WordKind) (w : Word) (d next : Draft) → order_name_act k w d ≡ Ok next → Keeps d next
 unfolding order_name_act
 order_name_so token.Quoted w d next e = said_so d w.start (owner.ordered_act d.order w.text d.owner.said) next e
 order_name_so k w d next e = itself d next e
 
-pub after_reorder_so : (k : TokenKind) (w : Word) (d next : Draft) → after_reorder_act k w d ≡ Ok next → Keeps d next
+pub after_reorder_so : (k : WordKind) (w : Word) (d next : Draft) → after_reorder_act k w d ≡ Ok next → Keeps d next
 unfolding after_reorder_act
 after_reorder_so (token.Word word.OrderedField) w d next e = order_so w d next e
 after_reorder_so k w d next e = after_edit_so k w d next e
@@ -115,7 +116,7 @@ specifier_so w d next e = changed d (record d { opening = record { specifier = s
 again : (h : Heading) (d next : Draft) → Keeps (headed h d) next → Keeps d next
 again h d next k = record { property = k.property; properties = k.properties; marks = k.marks; outer = k.outer; specs = k.specs; value = k.value }
 
-pub statement_so : (k : TokenKind) (w : Word) (d next : Draft) → statement_act k w d ≡ Ok next → Keeps d next
+pub statement_so : (k : WordKind) (w : Word) (d next : Draft) → statement_act k w d ≡ Ok next → Keeps d next
 unfolding statement_act
 statement_so (token.Word word.Specifier) w d next e = specifier_so w.text d next e
 statement_so (token.Word word.VariantSet) w d next e = itself d next e
@@ -133,7 +134,7 @@ brackets_so d next e = headed_so (with_brackets d.heading) d next e
 
 -- ---- samples, and metadata of properties
 
-pub sample_so : (k : TokenKind) (w : Word) (d next : Draft) → sample_act k w d ≡ Ok next → Keeps d next
+pub sample_so : (k : WordKind) (w : Word) (d next : Draft) → sample_act k w d ≡ Ok next → Keeps d next
 unfolding sample_act time_act
 sample_so token.Number w d next e = made_so d w.start (time_of_number (number_of w.text)) (λ time. aimed_at_sample time d) next (λ time. record { property = refl; properties = refl; marks = refl; outer = refl; specs = refl; value = refl }) e
 sample_so k w d next e = itself d next e
@@ -142,7 +143,7 @@ pub property_key_so : (w : Word) (d next : Draft) → property_key_act w d ≡ O
 unfolding property_key_act aimed_at_key
 property_key_so w d next e = made_so d w.start (property_rule w.text d.property) (λ rule. aimed_at_key goal.PropertyKey w.text rule d) next (λ rule. record { property = refl; properties = refl; marks = refl; outer = refl; specs = refl; value = refl }) e
 
-property_item_sound : (r : Reading) (k : TokenKind) (w : Word) (d next : Draft) → HasSoundProperties r d → property_item_act k w d ≡ Ok next → HasSoundProperties r next
+property_item_sound : (r : Reading) (k : WordKind) (w : Word) (d next : Draft) → HasSoundProperties r d → property_item_act k w d ≡ Ok next → HasSoundProperties r next
 unfolding property_item_act
 property_item_sound r token.Quoted w d next s e =
     let m = then_made w.start (meta_comment_act w.text d.property) (with_property d) next e in
@@ -183,7 +184,7 @@ pub edit_so : (w : Word) (d next : Draft) → edit_act w d ≡ Ok next → Keeps
 unfolding edit_act
 edit_so w d next e = changed d (record d { edit = edit_of w.text; word = w.text; word_at = w.start }) next (record { property = refl; properties = refl; marks = refl; outer = refl; specs = refl; value = refl }) e
 
-pub edited_so : (k : TokenKind) (w : Word) (d next : Draft) → edited_act k w d ≡ Ok next → Keeps d next
+pub edited_so : (k : WordKind) (w : Word) (d next : Draft) → edited_act k w d ≡ Ok next → Keeps d next
 unfolding edited_act
 edited_so token.Equals w d next e = key_so d.word d.word_at d next e
 edited_so (token.Word word.StringField) w d next e = string_field_so d.edit w d next e
@@ -191,7 +192,7 @@ edited_so (token.Word word.PathField) w d next e = path_field_so d.edit w d next
 edited_so (token.Word word.ReferenceField) w d next e = reference_field_so d.edit w d next e
 edited_so k w d next e = itself d next e
 
-pub prim_item_so : (k : TokenKind) (w : Word) (d next : Draft) → prim_item_act k w d ≡ Ok next → Keeps d next
+pub prim_item_so : (k : WordKind) (w : Word) (d next : Draft) → prim_item_act k w d ≡ Ok next → Keeps d next
 unfolding prim_item_act
 prim_item_so token.Quoted w d next e = comment_so w d next e
 prim_item_so (token.Word word.Edit) w d next e = edit_so w d next e
@@ -213,18 +214,18 @@ unfolding sublayers_act
 sublayers_so at d next e =
     unless_so d.has_sublayers (refused DuplicateSpec at) d (record d { has_sublayers = true; list = open_list.SubLayers }) next (record { property = refl; properties = refl; marks = refl; outer = refl; specs = refl; value = refl }) e
 
-pub head_item_so : (k : TokenKind) (w : Word) (d next : Draft) → head_item_act k w d ≡ Ok next → Keeps d next
+pub head_item_so : (k : WordKind) (w : Word) (d next : Draft) → head_item_act k w d ≡ Ok next → Keeps d next
 unfolding head_item_act
 head_item_so token.Quoted w d next e = comment_so w d next e
 head_item_so (token.Word word.SubLayers) w d next e = sublayers_so w.start d next e
 head_item_so k w d next e = key_so w.text w.start d next e
 
-pub root_so : (k : TokenKind) (w : Word) (d next : Draft) → root_act k w d ≡ Ok next → Keeps d next
+pub root_so : (k : WordKind) (w : Word) (d next : Draft) → root_act k w d ≡ Ok next → Keeps d next
 unfolding root_act
 root_so (token.Word word.Specifier) w d next e = specifier_so w.text d next e
 root_so k w d next e = itself d next e
 
-pub sublayer_so : (k : TokenKind) (w : Word) (d next : Draft) → sublayer_act k w d ≡ Ok next → Keeps d next
+pub sublayer_so : (k : WordKind) (w : Word) (d next : Draft) → sublayer_act k w d ≡ Ok next → Keeps d next
 unfolding sublayer_act
 sublayer_so token.Asset w d next e = changed d (record d { sublayers = d.sublayers ++ sublayer_of w.text ∷ [] }) next (record { property = refl; properties = refl; marks = refl; outer = refl; specs = refl; value = refl }) e
 sublayer_so k w d next e = itself d next e
@@ -341,7 +342,7 @@ prims_sound r symbol.VariantList w d next l t h e = variant_name_sound r w.text 
 prims_sound r s w d next l t h e = layers_sound r s w d next t h e
 
 pub bodies_sound : (r : Reading) (s : Symbol) (w : Word) (d next : Draft)
-    → takes_lists s ≡ false → takes_turns s ≡ false → begins_values s ≡ false → HasSoundProperties r d → bodies_act s w d ≡ Ok next → HasSoundProperties r next
+    → takes_lists s ≡ false → takes_turns s ≡ false → begins_value s ≡ false → HasSoundProperties r d → bodies_act s w d ≡ Ok next → HasSoundProperties r next
 unfolding bodies_act
 bodies_sound r symbol.PrimBody w d next l t v h e = absurd cc
 bodies_sound r symbol.AfterCustom w d next l t v h e = kept r d next (after_custom_so w.kind w d next e) h
@@ -363,7 +364,7 @@ bodies_sound r symbol.Dictionary w d next l t v h e = absurd cc
 bodies_sound r symbol.NamesOrEnd w d next l t v h e = kept r d next (order_name_so w.kind w d next e) h
 bodies_sound r s w d next l t v h e = prims_sound r s w d next l t h e
 
-others_sound : (r : Reading) (s : Symbol) (w : Word) (d next : Draft) → is_open d.value ≡ false → takes_lists s ≡ false → takes_turns s ≡ false → begins_values s ≡ false
+others_sound : (r : Reading) (s : Symbol) (w : Word) (d next : Draft) → is_open d.value ≡ false → takes_lists s ≡ false → takes_turns s ≡ false → begins_value s ≡ false
     → HasSoundProperties r d → act s w d ≡ Ok next → HasSoundProperties r next
 unfolding act
 others_sound r s w d next shut l t v h e = by w.too_long (is_open d.value) shut e

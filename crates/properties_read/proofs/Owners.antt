@@ -18,20 +18,21 @@ use Rattle.usda_statements.specs.PropertyDrafts.{no_marks, joined, property_of, 
 use Rattle.usda_statements.specs.declared.heading.Heading.{Heading}
 use Rattle.usda_statements.specs.declared.property.PropertyDraft.{PropertyDraft}
 use Rattle.usda_statements.specs.declared.property.PropertyMarks.{PropertyMarks}
-use Rattle.layer_reads.specs.Lists.{AreAll}
 use Rattle.layer_texts.specs.Writable.{is_word}
 use Rattle.prim_reads.specs.Properties.{Marks}
 use Rattle.value_returns.specs.Proper.{IsProperProperty}
+use Rattle.value_returns.proofs.Tables.{found_with, others_with, all_with}
 use Rattle.usda_drafts.specs.Owners.{marks_at, property_for, with_place, with_returned, settled}
 use Rattle.usda_drafts.specs.declared.owner.Owner.{Owner}
+use Rattle.value_texts.specs.Each.{AreAll}
+use Rattle.trees_read.proofs.Properties.{with_once}
 use Rattle.properties_read.specs.Laws.{OwnersAreRead}
 use Rattle.properties_read.specs.Sound.{IsSoundProperty, IsRead, AreRead, marks_in}
 use Rattle.properties_read.specs.Targets.{closed, IsApart}
 use Rattle.properties_read.proofs.Keys.{no_meta}
 use Rattle.properties_read.proofs.Lists.{none_apart, blank_given, lists_proper}
-use Rattle.properties_read.proofs.Places.{names_with, each_with, at_name}
+use Rattle.properties_read.proofs.Places.{each_with, at_name}
 use Rattle.properties_read.proofs.Properties.{named_sound, complete_read}
-use Rattle.properties_read.proofs.Tables.{found_with, others_with, each_with as entries_with}
 
 pub none_read : AreRead [] []
 unfolding IsDistinct
@@ -77,7 +78,7 @@ blank_read name marks word apart =
 pub placed_read : (name : List ℕ) (o : Owner) → is_word name ≡ true → AreRead o.properties o.marks → AreRead (with_place name o).properties (with_place name o).marks
 unfolding with_place
 placed_read name o word r = record {
-  once = names_with (blank_relationship name) o.properties r.once;
+  once = with_once (blank_relationship name) o.properties r.once;
   each = each_with (λ p. IsRead (marks_in o.marks (property_name p)) p) (λ p. IsRead (marks_in o.marks (property_name p)) p) (blank_relationship name)
       (blank_read name (marks_in o.marks name) word (marks_apart name o.marks r.marked)) (λ p apart is. is) o.properties r.once r.each;
   marked = r.marked;
@@ -92,9 +93,9 @@ name_of_draft (Some ty) p = refl
 returned_read : (p : PropertyDraft) (o : Owner) → IsSoundProperty closed p → AreRead o.properties o.marks → AreRead (with_returned p o).properties (with_returned p o).marks
 unfolding with_returned
 returned_read p o s r = record {
-  once = names_with q o.properties r.once;
+  once = with_once q o.properties r.once;
   each = each_with (λ x. IsRead (marks_in o.marks (property_name x)) x) (λ x. IsRead (marks_in after (property_name x)) x) q here others o.properties r.once r.each;
-  marked = entries_with text_cmp exact_bytes (λ e. IsApart e.1.lists) p.name p.marks o.marks r.marked s.listed.apart;
+  marked = all_with text_cmp exact_bytes (λ e. IsApart e.1.lists) p.name p.marks o.marks s.listed.apart r.marked;
 }
   where
     q : Property

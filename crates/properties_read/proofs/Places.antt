@@ -1,33 +1,14 @@
 -- Properties of an owner, into whose list one is put.
 use Rattle.std.proofs.Common.{◌≡◌, ◌∙◌, sym, ap, refl, subst, ℕ, Bool, true, false, cond, List, [], ◌∷◌, Some}
 use Rattle.std.specs.List.{AllByRecursion, IsDistinct}
-use Rattle.std.proofs.lemmas.Cmp.{nat_list_eq_equiv}
 use Rattle.plain_data.specs.Exact.{text_same}
 use Rattle.spec_properties.specs.declared.property.Property.{Property}
 use Rattle.spec_properties.specs.Properties.{AreProperties, same_name, property_name, property_names, property_at, with_property}
-use Rattle.layer_reads.specs.Lists.{AreAll}
+use Rattle.value_texts.specs.Each.{AreAll}
 
 -- the properties once the name is compared with that of the first
 abbrev put : Property → Property → List Property → Bool → List Property
 put q p ps b = cond b (q ∷ ps) (p ∷ with_property q ps)
-
-all_with : (P : List ℕ → Type 0) (q : Property) (ps : List Property) → AllByRecursion P (property_names ps) → P (property_name q) → AllByRecursion P (property_names (with_property q ps))
-all_with P q [] all h = (h, tt)
-all_with P q (p ∷ ps) all h = by (same_name (property_name q) (property_name p)) (all_with P q ps all.1 h)
-  where
-    by : (b : Bool) → AllByRecursion P (property_names (with_property q ps)) → AllByRecursion P (property_names (put q p ps b))
-    by true rest = (h, all.1)
-    by false rest = (all.0, rest)
-
--- each name stands once with a property more, too
-pub names_with : (q : Property) (ps : List Property) → AreProperties ps → AreProperties (with_property q ps)
-unfolding IsDistinct
-names_with q [] once = (tt, tt)
-names_with q (p ∷ ps) once = by (same_name (property_name q) (property_name p)) refl (names_with q ps once.1)
-  where
-    by : (b : Bool) → same_name (property_name q) (property_name p) ≡ b → AreProperties (with_property q ps) → AreProperties (put q p ps b)
-    by true h rest = (subst (λ (n : List ℕ). AllByRecursion (λ y. same_name n y ≡ false) (property_names ps)) (sym (text_same (property_name q) (property_name p) h)) once.0, once.1)
-    by false h rest = (all_with (λ y. same_name (property_name p) y ≡ false) q ps once.0 (nat_list_eq_equiv.symm (property_name p) (property_name q) ∙ h), rest)
 
 -- What holds of each property holds of each other one behind the change, and of the new one.
 pub each_with : (V W : Property → Type 0) (q : Property) → W q → ((p : Property) → same_name (property_name q) (property_name p) ≡ false → V p → W p)

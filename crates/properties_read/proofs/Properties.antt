@@ -25,14 +25,17 @@ use Rattle.usda_statements.specs.declared.property.PropertyMarks.{PropertyMarks}
 use Rattle.layer_texts.specs.Writable.{is_word}
 use Rattle.prim_reads.specs.Properties.{is_any_key}
 use Rattle.value_returns.specs.Proper.{IsProperMeta, IsProperProperty, IsProperTarget, AreProperTargets}
-use Rattle.properties_read.specs.Laws.{PropertiesAreRead}
-use Rattle.properties_read.specs.Sound.{IsSoundProperty, IsRead, IsReadSoFar, lists_in}
+use Rattle.trees_read.specs.Lists.{paths_of}
+use Rattle.properties_read.specs.Laws.{ReadPropertiesAreProper}
+use Rattle.properties_read.specs.Sound.{IsSoundProperty, IsRead, IsReadSoFar}
 use Rattle.properties_read.specs.Targets.{Reading, closed, begun, bracketed, AreGiven, AreLists}
-use Rattle.properties_read.specs.Values.{IsValueOf, AreValuesOf, IsReadFor}
-use Rattle.properties_read.proofs.Keys.{then_ok, no_meta, key_added, comment_added}
+use Rattle.properties_read.specs.Values.{IsValueOf, AreValuesOf}
+use Rattle.properties_read.proofs.Keys.{then_ok, no_meta}
 use Rattle.properties_read.proofs.Lists.{none_apart, blank_given, list_given, path_given, list_opens, path_more, list_closes, lists_proper}
 use Rattle.properties_read.proofs.Targets.{targets_proper}
 use Rattle.properties_read.proofs.Values.{no_values, value_given, sample_given}
+use Rattle.fields_read.proofs.Keys.{metadata_read}
+use Rattle.fields_read.specs.Laws.{IsReadFor}
 
 -- what a test lets pass
 pub unless_refused : {A : Type 0} (b : Bool) (k : RefusalKind) (a next : A) → ◌≡◌ {A = Result A RefusalKind} (if b then Err k else Ok a) (Ok next) → a ≡ next
@@ -148,10 +151,10 @@ meta_sound r p next act put s e =
     subst (IsSoundProperty r) given.1.1 sound
 
 pub commented_sound : (r : Reading) (token : List ℕ) (p next : PropertyDraft) → IsSoundProperty r p → meta_comment_act token p ≡ Ok next → IsSoundProperty r next
-commented_sound r token p next s e = meta_sound r p next (comment_act token p.meta) (λ meta h. comment_added token p.meta meta s.said h) s e
+commented_sound r token p next s e = meta_sound r p next (comment_act token p.meta) (λ meta h. (metadata_read is_any_key).comment token p.meta meta s.said h) s e
 
-pub keyed_sound : (r : Reading) (key : List ℕ) (v : Value) (p next : PropertyDraft) → IsSoundProperty r p → IsReadFor key v → meta_act key v p ≡ Ok next → IsSoundProperty r next
-keyed_sound r key v p next s for e = meta_sound r p next (value_act key v p.meta) (λ meta h. key_added key v p.meta meta for s.said h) s e
+pub keyed_sound : (r : Reading) (key : List ℕ) (v : Value) (p next : PropertyDraft) → IsSoundProperty r p → IsReadFor is_any_key key v → meta_act key v p ≡ Ok next → IsSoundProperty r next
+keyed_sound r key v p next s for e = meta_sound r p next (value_act key v p.meta) (λ meta h. (metadata_read is_any_key).value key v p.meta meta s.said for h) s e
 
 -- ---- the property
 
@@ -163,7 +166,7 @@ proper_of (Some ty) p word values lists said = record { named = word; defaulted 
 pub complete_proper : (p : PropertyDraft) → IsSoundProperty closed p → IsProperProperty (property_of p)
 complete_proper p s = proper_of p.ty p s.named s.valued (lists_proper p.marks.lists p.paths s.listed) s.said
 
-pub lists_of_draft : (o : Option TypeName) (p : PropertyDraft) → lists_in (property_of_type o p) ≡ p.paths
+pub lists_of_draft : (o : Option TypeName) (p : PropertyDraft) → paths_of (property_of_type o p) ≡ p.paths
 lists_of_draft None p = refl
 lists_of_draft (Some ty) p = refl
 
@@ -171,7 +174,7 @@ lists_of_draft (Some ty) p = refl
 pub complete_read : (p : PropertyDraft) → IsSoundProperty closed p → IsRead p.marks (property_of p)
 complete_read p s = record { proper = complete_proper p s; listed = subst (AreGiven p.marks.lists) (sym (lists_of_draft p.ty p)) s.listed }
 
-pub properties_read : PropertiesAreRead
+pub properties_read : ReadPropertiesAreProper
 properties_read = record {
   named = named_sound;
   default_begun = default_begun_sound;

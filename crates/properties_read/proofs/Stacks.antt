@@ -1,10 +1,11 @@
 -- The symbols that are left to be read, and the list that is open.
 use Rattle.std.proofs.Common.{◌≡◌, ◌∙◌, sym, ap, refl, subst, Bool, true, false, not, ◌&&◌, List, [], ◌∷◌, ◌++◌, Option, Some, None}
 use Rattle.std.specs.Prelude.{if◌then◌else◌}
+use Rattle.std.proofs.lemmas.Bool.{not-true}
 use Rattle.plain_data.specs.Exact.{both_true}
 use Rattle.usda_grammar.specs.Machine.{choose, step}
 use Rattle.usda_grammar.specs.Table.{starts, may_be_absent}
-use Rattle.usda_grammar.specs.declared.kinds.TokenKind.{TokenKind}
+use Rattle.usda_grammar.specs.declared.kinds.WordKind.{WordKind}
 use Rattle.usda_grammar.specs.declared.symbols.Symbol.{Symbol}
 use Rattle.usda_grammar.specs.declared.symbols.Symbol.TheVariants as symbol
 use Rattle.usda_drafts.specs.declared.draft.Draft.{Draft}
@@ -13,17 +14,13 @@ use Rattle.properties_read.specs.Stacks.{is_above, has_no_list, is_shaped, open_
 use Rattle.properties_read.specs.Targets.{Reading, closed, begun, bracketed}
 use Rattle.properties_read.proofs.Symbols.{opens_none, opens_above, are_above, starts_above, absent_other, above_other}
 
-not_taken : (b : Bool) → not b ≡ true → b ≡ false
-not_taken true h = absurd cc
-not_taken false h = refl
-
 -- ---- stacks in which no list is open
 
 pub plain_shaped : (stack : List Symbol) → has_no_list stack ≡ true → is_shaped stack ≡ true
 plain_shaped [] h = refl
 plain_shaped (s ∷ rest) h =
     let p = both_true (not (takes_lists s)) (has_no_list rest) h in
-    by (takes_lists s) (is_above s) (not_taken (takes_lists s) p.0) p.1 (plain_shaped rest p.1)
+    by (takes_lists s) (is_above s) (not-true (takes_lists s) p.0) p.1 (plain_shaped rest p.1)
   where
     by : (a b : Bool) → a ≡ false → has_no_list rest ≡ true → is_shaped rest ≡ true → (if a then has_no_list rest else if b then is_shaped rest else has_no_list rest) ≡ true
     by true b f g k = absurd cc
@@ -34,7 +31,7 @@ pub plain_none : (stack : List Symbol) → has_no_list stack ≡ true → open_l
 plain_none [] h = refl
 plain_none (s ∷ rest) h =
     let p = both_true (not (takes_lists s)) (has_no_list rest) h in
-    ap (λ b. if b then Some s else open_list_of rest) (not_taken (takes_lists s) p.0) ∙ plain_none rest p.1
+    ap (λ b. if b then Some s else open_list_of rest) (not-true (takes_lists s) p.0) ∙ plain_none rest p.1
 
 plain_joined : (pushed below : List Symbol) → has_no_list pushed ≡ true → has_no_list below ≡ true → has_no_list (pushed ++ below) ≡ true
 plain_joined [] below h g = g
@@ -77,7 +74,7 @@ list_moved (Some symbol.PathsOrEnd) d next so same s = subst (λ l. HasSoundProp
 list_moved (Some symbol.MorePaths) d next so same s = subst (λ l. HasSoundProperties (if_of_property (is_of_property l) bracketed) next) (sym same) (so (if_of_property (is_of_property d.list) bracketed) s)
 list_moved (Some t) d next so same s = (ap is_of_property same ∙ s.0, so closed s.1)
 
-pub pushed_above : (s : Symbol) (k : TokenKind) (pushed below : List Symbol) (d next : Draft) → is_above s ≡ true → starts s k ≡ Some pushed → is_shaped (s ∷ below) ≡ true
+pub pushed_above : (s : Symbol) (k : WordKind) (pushed below : List Symbol) (d next : Draft) → is_above s ≡ true → starts s k ≡ Some pushed → is_shaped (s ∷ below) ≡ true
     → ((r : Reading) → HasSoundProperties r d → HasSoundProperties r next) → next.list ≡ d.list → IsListRead (open_list_of (s ∷ below)) d → IsReading (pushed ++ below) next
 pushed_above s k pushed below d next up e shaped so same read =
     let all : are_above pushed ≡ true = ap opens_above (sym e) ∙ starts_above s k up in
@@ -90,7 +87,7 @@ pushed_above s k pushed below d next up e shaped so same read =
 -- ---- the symbol that takes a word
 
 -- the symbol, what stood below it, and what stands above that behind the word
-pub record Taken (stack : List Symbol) (k : TokenKind) (s : Symbol) (after : List Symbol) : Type 0 where
+pub record Taken (stack : List Symbol) (k : WordKind) (s : Symbol) (after : List Symbol) : Type 0 where
   pub below : List Symbol
   pub pushed : List Symbol
   pub starts_is : starts s k ≡ Some pushed
@@ -106,7 +103,7 @@ rest_shaped t rest h shaped = by (takes_lists t) (is_above t) h shaped
     by false true f g = g
     by false false f g = plain_shaped rest g
 
-pub taken : (stack : List Symbol) (k : TokenKind) (s : Symbol) (after : List Symbol) → is_shaped stack ≡ true → step stack k ≡ Some (s, after) → Taken stack k s after
+pub taken : (stack : List Symbol) (k : WordKind) (s : Symbol) (after : List Symbol) → is_shaped stack ≡ true → step stack k ≡ Some (s, after) → Taken stack k s after
 taken [] k s after shaped e = absurd cc
 taken (t ∷ stack) k s after shaped e = by (starts t k) (may_be_absent t) refl refl e (λ g f. taken stack k s after g f)
   where

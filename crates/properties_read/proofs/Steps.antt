@@ -1,11 +1,10 @@
 -- From the first word of a text on, each word keeps the properties of the draft proper.
-use Rattle.std.proofs.Common.{◌≡◌, ◌∙◌, sym, ap, refl, subst, Bool, true, false, List, [], ◌∷◌, ◌++◌, Option, Some, None, Ok, Err, ◌⊎◌, inl, inr}
+use Rattle.std.proofs.Common.{◌≡◌, ◌∙◌, sym, ap, refl, subst, Bool, true, false, List, [], ◌∷◌, ◌++◌, Option, Some, None, Ok, ◌⊎◌, inl, inr}
 use Rattle.std.specs.Prelude.{if◌then◌else◌}
-use Rattle.sdf_values.specs.declared.refusal.RefusalKind.TheVariants.{NumberTooLong}
 use Rattle.usda_grammar.specs.Table.{layer, starts}
 use Rattle.usda_grammar.specs.declared.kinds.Keyword.TheVariants as word
-use Rattle.usda_grammar.specs.declared.kinds.TokenKind.{TokenKind}
-use Rattle.usda_grammar.specs.declared.kinds.TokenKind.TheVariants as token
+use Rattle.usda_grammar.specs.declared.kinds.WordKind.{WordKind}
+use Rattle.usda_grammar.specs.declared.kinds.WordKind.TheVariants as token
 use Rattle.usda_grammar.specs.declared.symbols.Symbol.{Symbol}
 use Rattle.usda_grammar.specs.declared.symbols.Symbol.TheVariants as symbol
 use Rattle.usda_lists.specs.declared.edit.ListEdit.TheVariants.{Explicit}
@@ -15,13 +14,12 @@ use Rattle.usda_drafts.specs.Acts.{layers_act, prims_act, bodies_act, act}
 use Rattle.usda_drafts.specs.Bodies.{dot_act}
 use Rattle.usda_drafts.specs.Lists.{in_list_act, in_references_act}
 use Rattle.usda_drafts.specs.Metadata.{edited_act, prim_item_act}
-use Rattle.usda_drafts.specs.Refusals.{refused}
 use Rattle.usda_drafts.specs.Drafts.{blank}
 use Rattle.usda_drafts.specs.Values.{token_act, first_act}
-use Rattle.layer_reads.specs.Lists.{AreAll}
 use Rattle.layer_texts.specs.Writable.{is_word}
 use Rattle.usda_drafts.specs.declared.draft.Draft.{Draft}
-use Rattle.properties_read.specs.Drafts.{IsProperEntry, IsNameWord, HasSoundProperties, is_of_property, behind_start, behind_part, takes_lists, takes_turns, takes_values, begins_values}
+use Rattle.value_texts.specs.Each.{AreAll}
+use Rattle.properties_read.specs.Drafts.{IsProperEntry, IsNameWord, HasSoundProperties, is_of_property, behind_start, behind_part, takes_lists, takes_turns, takes_values}
 use Rattle.properties_read.specs.Stacks.{has_no_list, is_shaped, open_list_of, if_of_property, is_above, IsListRead, IsReading, IsReady, StepsKeepProperties}
 use Rattle.properties_read.specs.Targets.{Reading, closed, begun, bracketed}
 use Rattle.properties_read.proofs.DraftLists.{other_list_sound, references_sound, started_sound, part_sound}
@@ -30,18 +28,18 @@ use Rattle.properties_read.proofs.OpenLists.{in_list_list, in_references_list, i
 use Rattle.properties_read.proofs.Others.{bodies_sound, statement_sound}
 use Rattle.properties_read.proofs.Stacks.{plain_read, plain_sound, pushed_plain, pushed_above, taken}
 use Rattle.properties_read.proofs.Symbols.{may_open, starts_plain, metadata_plain, edited_plain}
+use Rattle.text_syntax.proofs.Tokens.{acted_by}
+use Rattle.text_syntax.specs.Open.{begins_value}
 
 -- ---- whether a value is open
 
 pub acted : (s : Symbol) (w : Word) (d next : Draft) → act s w d ≡ Ok next → ((is_open d.value ≡ true) × (token_act w d ≡ Ok next)) ⊎ ((is_open d.value ≡ false) × (bodies_act s w d ≡ Ok next))
-unfolding act
-acted s w d next e = by w.too_long (is_open d.value) refl e
+acted s w d next e = by (is_open d.value) refl (acted_by s w d next (is_open d.value) refl e)
   where
-    by : (long inside : Bool) → is_open d.value ≡ inside → (if long then Err (refused NumberTooLong w.start) else if inside then token_act w d else bodies_act s w d) ≡ Ok next
+    by : (b : Bool) → is_open d.value ≡ b → (if b then token_act w d else bodies_act s w d) ≡ Ok next
         → ((is_open d.value ≡ true) × (token_act w d ≡ Ok next)) ⊎ ((is_open d.value ≡ false) × (bodies_act s w d ≡ Ok next))
-    by true inside o e = absurd cc
-    by false true o e = inl (o, e)
-    by false false o e = inr (o, e)
+    by true o h = inl (o, h)
+    by false o h = inr (o, h)
 
 -- no value is open at a symbol that takes no words of values
 shut : (s : Symbol) (w : Word) (d next : Draft) → takes_values s ≡ false → IsReady s w d → act s w d ≡ Ok next → bodies_act s w d ≡ Ok next
@@ -51,7 +49,7 @@ shut s w d next other ready e = elim (acted s w d next e) [
 ]
 
 -- a symbol at which no list begins or goes on
-other_sound : (r : Reading) (s : Symbol) (w : Word) (d next : Draft) → takes_lists s ≡ false → takes_turns s ≡ false → begins_values s ≡ false → IsReady s w d → act s w d ≡ Ok next
+other_sound : (r : Reading) (s : Symbol) (w : Word) (d next : Draft) → takes_lists s ≡ false → takes_turns s ≡ false → begins_value s ≡ false → IsReady s w d → act s w d ≡ Ok next
     → HasSoundProperties r d → HasSoundProperties r next
 other_sound r s w d next l t v ready e sound = elim (acted s w d next e) [
   | inl a ↦ token_sound r w d next sound (ready.value a.0) a.1
@@ -61,7 +59,7 @@ other_sound r s w d next l t v ready e sound = elim (acted s w d next e) [
 -- ---- lists between their words
 
 -- the words of a list of the property in hand, or of another
-list_read : (r after : Reading) (k : TokenKind) (w : Word) (d next : Draft)
+list_read : (r after : Reading) (k : WordKind) (w : Word) (d next : Draft)
     → (is_of_property d.list ≡ true → HasSoundProperties r d → HasSoundProperties after next) → in_list_act k w d ≡ Ok next
     → HasSoundProperties (if_of_property (is_of_property d.list) r) d → HasSoundProperties (if_of_property (is_of_property next.list) after) next
 list_read r after k w d next here e sound =
@@ -87,20 +85,20 @@ goes_on s below next t h sound = record {
   sound = subst (λ o. IsListRead o next) (sym (ap (λ b. if b then Some s else open_list_of below) t)) sound;
 }
 
-path_list_read : (k : TokenKind) (w : Word) (d next : Draft) (pushed below : List Symbol) → starts symbol.PathList k ≡ Some pushed → has_no_list below ≡ true
+path_list_read : (k : WordKind) (w : Word) (d next : Draft) (pushed below : List Symbol) → starts symbol.PathList k ≡ Some pushed → has_no_list below ≡ true
     → HasSoundProperties (if_of_property (is_of_property next.list) (behind_start k)) next → IsReading (pushed ++ below) next
 path_list_read (token.Word word.NoneWord) w d next pushed below e h s = pushed_is [] pushed below next e (plain_read below next h (list_over (is_of_property next.list) next s))
 path_list_read token.Path w d next pushed below e h s = pushed_is [] pushed below next e (plain_read below next h (list_over (is_of_property next.list) next s))
 path_list_read token.OpenBracket w d next pushed below e h s = pushed_is (symbol.PathsOrEnd ∷ []) pushed below next e (goes_on symbol.PathsOrEnd below next refl h s)
 path_list_read k w d next pushed below e h s = absurd cc
 
-paths_read : (k : TokenKind) (w : Word) (d next : Draft) (pushed below : List Symbol) → starts symbol.PathsOrEnd k ≡ Some pushed → has_no_list below ≡ true
+paths_read : (k : WordKind) (w : Word) (d next : Draft) (pushed below : List Symbol) → starts symbol.PathsOrEnd k ≡ Some pushed → has_no_list below ≡ true
     → HasSoundProperties (if_of_property (is_of_property next.list) (behind_part k)) next → IsReading (pushed ++ below) next
 paths_read token.CloseBracket w d next pushed below e h s = pushed_is [] pushed below next e (plain_read below next h (list_over (is_of_property next.list) next s))
 paths_read token.Path w d next pushed below e h s = pushed_is (symbol.MorePaths ∷ []) pushed below next e (goes_on symbol.MorePaths below next refl h s)
 paths_read k w d next pushed below e h s = absurd cc
 
-more_paths_read : (k : TokenKind) (w : Word) (d next : Draft) (pushed below : List Symbol) → starts symbol.MorePaths k ≡ Some pushed → has_no_list below ≡ true
+more_paths_read : (k : WordKind) (w : Word) (d next : Draft) (pushed below : List Symbol) → starts symbol.MorePaths k ≡ Some pushed → has_no_list below ≡ true
     → HasSoundProperties (if_of_property (is_of_property next.list) (behind_part k)) next → IsReading (pushed ++ below) next
 more_paths_read token.CloseBracket w d next pushed below e h s = pushed_is [] pushed below next e (plain_read below next h (list_over (is_of_property next.list) next s))
 more_paths_read token.Comma w d next pushed below e h s = pushed_is (symbol.PathsOrEnd ∷ []) pushed below next e (goes_on symbol.PathsOrEnd below next refl h s)
@@ -112,18 +110,18 @@ more_paths_read k w d next pushed below e h s = absurd cc
 abbrev IsOther : Draft → Type 0
 IsOther d = (is_of_property d.list ≡ false) × HasSoundProperties closed d
 
-strings_begin : (k : TokenKind) (next : Draft) (pushed below : List Symbol) → starts symbol.StringList k ≡ Some pushed → has_no_list below ≡ true → IsOther next → IsReading (pushed ++ below) next
+strings_begin : (k : WordKind) (next : Draft) (pushed below : List Symbol) → starts symbol.StringList k ≡ Some pushed → has_no_list below ≡ true → IsOther next → IsReading (pushed ++ below) next
 strings_begin (token.Word word.NoneWord) next pushed below e h s = pushed_is [] pushed below next e (plain_read below next h s.1)
 strings_begin token.Quoted next pushed below e h s = pushed_is [] pushed below next e (plain_read below next h s.1)
 strings_begin token.OpenBracket next pushed below e h s = pushed_is (symbol.StringsOrEnd ∷ []) pushed below next e (goes_on symbol.StringsOrEnd below next refl h s)
 strings_begin k next pushed below e h s = absurd cc
 
-strings_go_on : (k : TokenKind) (next : Draft) (pushed below : List Symbol) → starts symbol.StringsOrEnd k ≡ Some pushed → has_no_list below ≡ true → IsOther next → IsReading (pushed ++ below) next
+strings_go_on : (k : WordKind) (next : Draft) (pushed below : List Symbol) → starts symbol.StringsOrEnd k ≡ Some pushed → has_no_list below ≡ true → IsOther next → IsReading (pushed ++ below) next
 strings_go_on token.CloseBracket next pushed below e h s = pushed_is [] pushed below next e (plain_read below next h s.1)
 strings_go_on token.Quoted next pushed below e h s = pushed_is (symbol.MoreStrings ∷ []) pushed below next e (goes_on symbol.MoreStrings below next refl h s)
 strings_go_on k next pushed below e h s = absurd cc
 
-more_strings : (k : TokenKind) (next : Draft) (pushed below : List Symbol) → starts symbol.MoreStrings k ≡ Some pushed → has_no_list below ≡ true → IsOther next → IsReading (pushed ++ below) next
+more_strings : (k : WordKind) (next : Draft) (pushed below : List Symbol) → starts symbol.MoreStrings k ≡ Some pushed → has_no_list below ≡ true → IsOther next → IsReading (pushed ++ below) next
 more_strings token.CloseBracket next pushed below e h s = pushed_is [] pushed below next e (plain_read below next h s.1)
 more_strings token.Comma next pushed below e h s = pushed_is (symbol.StringsOrEnd ∷ []) pushed below next e (goes_on symbol.StringsOrEnd below next refl h s)
 more_strings k next pushed below e h s = absurd cc
@@ -135,14 +133,14 @@ with_path_above stack next r = record { shaped = r.shaped; sound = r.sound }
 with_offsets_above : (stack : List Symbol) (next : Draft) → IsReading stack next → IsReading (symbol.MaybeOffsets ∷ stack) next
 with_offsets_above stack next r = record { shaped = r.shaped; sound = r.sound }
 
-references_begin : (k : TokenKind) (next : Draft) (pushed below : List Symbol) → starts symbol.ReferenceList k ≡ Some pushed → has_no_list below ≡ true → IsOther next → IsReading (pushed ++ below) next
+references_begin : (k : WordKind) (next : Draft) (pushed below : List Symbol) → starts symbol.ReferenceList k ≡ Some pushed → has_no_list below ≡ true → IsOther next → IsReading (pushed ++ below) next
 references_begin (token.Word word.NoneWord) next pushed below e h s = pushed_is [] pushed below next e (plain_read below next h s.1)
 references_begin token.Asset next pushed below e h s = pushed_is (symbol.MaybePath ∷ symbol.MaybeOffsets ∷ []) pushed below next e (with_path_above below next (plain_read below next h s.1))
 references_begin token.Path next pushed below e h s = pushed_is (symbol.MaybeOffsets ∷ []) pushed below next e (with_offsets_above below next (plain_read below next h s.1))
 references_begin token.OpenBracket next pushed below e h s = pushed_is (symbol.ReferencesOrEnd ∷ []) pushed below next e (goes_on symbol.ReferencesOrEnd below next refl h s)
 references_begin k next pushed below e h s = absurd cc
 
-references_go_on : (k : TokenKind) (next : Draft) (pushed below : List Symbol) → starts symbol.ReferencesOrEnd k ≡ Some pushed → has_no_list below ≡ true → IsOther next → IsReading (pushed ++ below) next
+references_go_on : (k : WordKind) (next : Draft) (pushed below : List Symbol) → starts symbol.ReferencesOrEnd k ≡ Some pushed → has_no_list below ≡ true → IsOther next → IsReading (pushed ++ below) next
 references_go_on token.CloseBracket next pushed below e h s = pushed_is [] pushed below next e (plain_read below next h s.1)
 references_go_on token.Asset next pushed below e h s =
     pushed_is (symbol.MaybePath ∷ symbol.MaybeOffsets ∷ symbol.MoreReferences ∷ []) pushed below next e (with_path_above (symbol.MoreReferences ∷ below) next (goes_on symbol.MoreReferences below next refl h s))
@@ -150,15 +148,15 @@ references_go_on token.Path next pushed below e h s =
     pushed_is (symbol.MaybeOffsets ∷ symbol.MoreReferences ∷ []) pushed below next e (with_offsets_above (symbol.MoreReferences ∷ below) next (goes_on symbol.MoreReferences below next refl h s))
 references_go_on k next pushed below e h s = absurd cc
 
-more_references : (k : TokenKind) (next : Draft) (pushed below : List Symbol) → starts symbol.MoreReferences k ≡ Some pushed → has_no_list below ≡ true → IsOther next → IsReading (pushed ++ below) next
+more_references : (k : WordKind) (next : Draft) (pushed below : List Symbol) → starts symbol.MoreReferences k ≡ Some pushed → has_no_list below ≡ true → IsOther next → IsReading (pushed ++ below) next
 more_references token.CloseBracket next pushed below e h s = pushed_is [] pushed below next e (plain_read below next h s.1)
 more_references token.Comma next pushed below e h s = pushed_is (symbol.ReferencesOrEnd ∷ []) pushed below next e (goes_on symbol.ReferencesOrEnd below next refl h s)
 more_references k next pushed below e h s = absurd cc
 
-other_list : (k : TokenKind) (w : Word) (d next : Draft) → in_list_act k w d ≡ Ok next → IsOther d → IsOther next
+other_list : (k : WordKind) (w : Word) (d next : Draft) → in_list_act k w d ≡ Ok next → IsOther d → IsOther next
 other_list k w d next e s = (ap is_of_property (in_list_list k w d next e) ∙ s.0, other_list_sound closed k w d next s.0 s.1 e)
 
-other_references : (k : TokenKind) (w : Word) (d next : Draft) → in_references_act k w d ≡ Ok next → IsOther d → IsOther next
+other_references : (k : WordKind) (w : Word) (d next : Draft) → in_references_act k w d ≡ Ok next → IsOther d → IsOther next
 other_references k w d next e s = (ap is_of_property (in_references_list k w d next e) ∙ s.0, references_sound closed k w d next s.0 s.1 e)
 
 -- ---- words that begin a list
@@ -170,7 +168,7 @@ with_equals_above stack next r = record { shaped = r.shaped; sound = r.sound }
 begun_paths : (below : List Symbol) (next : Draft) → has_no_list below ≡ true → is_of_property next.list ≡ true → HasSoundProperties begun next → IsReading (symbol.PathList ∷ below) next
 begun_paths below next h is s = goes_on symbol.PathList below next refl h (subst (λ b. HasSoundProperties (if_of_property b begun) next) (sym is) s)
 
-targets_read : (k : TokenKind) (next : Draft) (pushed below : List Symbol) → starts symbol.MaybeTargets k ≡ Some pushed → has_no_list below ≡ true
+targets_read : (k : WordKind) (next : Draft) (pushed below : List Symbol) → starts symbol.MaybeTargets k ≡ Some pushed → has_no_list below ≡ true
     → is_of_property next.list ≡ true → HasSoundProperties begun next → IsReading (pushed ++ below) next
 targets_read token.Equals next pushed below e h is s = pushed_is (symbol.PathList ∷ []) pushed below next e (begun_paths below next h is s)
 targets_read k next pushed below e h is s = absurd cc
@@ -179,11 +177,11 @@ dot_list : (w : Word) (d next : Draft) → dot_act (token.Word word.Connect) w.s
 unfolding dot_act
 dot_list w d next e = targets_list d next e
 
-no_dot : (k : TokenKind) (w : Word) (d next : Draft) → dot_act (token.Word word.Spline) w.start d ≡ Ok next → ⊥
+no_dot : (k : WordKind) (w : Word) (d next : Draft) → dot_act (token.Word word.Spline) w.start d ≡ Ok next → ⊥
 unfolding dot_act
 no_dot k w d next e = cc
 
-dot_read : (k : TokenKind) (w : Word) (d next : Draft) (pushed below : List Symbol) → starts symbol.AfterDot k ≡ Some pushed → has_no_list below ≡ true
+dot_read : (k : WordKind) (w : Word) (d next : Draft) (pushed below : List Symbol) → starts symbol.AfterDot k ≡ Some pushed → has_no_list below ≡ true
     → HasSoundProperties closed d → dot_act k w.start d ≡ Ok next → IsReading (pushed ++ below) next
 dot_read (token.Word word.TimeSamples) w d next pushed below e h s a =
     pushed_is (symbol.Equals ∷ symbol.OpenBrace ∷ symbol.SamplesOrEnd ∷ []) pushed below next e
@@ -194,7 +192,7 @@ dot_read (token.Word word.Connect) w d next pushed below e h s a =
 dot_read (token.Word word.Spline) w d next pushed below e h s a = absurd (no_dot (token.Word word.Spline) w d next a)
 dot_read k w d next pushed below e h s a = absurd cc
 
-connect_read : (k : TokenKind) (w : Word) (d next : Draft) (pushed below : List Symbol) → starts symbol.ConnectWord k ≡ Some pushed → has_no_list below ≡ true
+connect_read : (k : WordKind) (w : Word) (d next : Draft) (pushed below : List Symbol) → starts symbol.ConnectWord k ≡ Some pushed → has_no_list below ≡ true
     → HasSoundProperties closed d → dot_act k w.start d ≡ Ok next → IsReading (pushed ++ below) next
 connect_read (token.Word word.Connect) w d next pushed below e h s a =
     pushed_is (symbol.Equals ∷ symbol.PathList ∷ []) pushed below next e
@@ -206,7 +204,7 @@ connect_read k w d next pushed below e h s a = absurd cc
 field_paths : (stack : List Symbol) (next : Draft) → has_no_list stack ≡ true → is_of_property next.list ≡ false → HasSoundProperties closed next → IsReading (symbol.PathList ∷ stack) next
 field_paths stack next h other s = goes_on symbol.PathList stack next refl h (subst (λ b. HasSoundProperties (if_of_property b begun) next) (sym other) s)
 
-metadata_read : (k : TokenKind) (w : Word) (d next : Draft) (pushed below : List Symbol) → starts symbol.PrimMetadata k ≡ Some pushed → has_no_list below ≡ true
+metadata_read : (k : WordKind) (w : Word) (d next : Draft) (pushed below : List Symbol) → starts symbol.PrimMetadata k ≡ Some pushed → has_no_list below ≡ true
     → prim_item_act k w d ≡ Ok next → HasSoundProperties closed next → IsReading (pushed ++ below) next
 unfolding prim_item_act
 metadata_read (token.Word word.StringField) w d next pushed below e h a s =
@@ -223,7 +221,7 @@ metadata_read (token.Word word.ReferenceField) w d next pushed below e h a s =
     (goes_on symbol.ReferenceList (symbol.MaybeSemicolon ∷ symbol.PrimMetadata ∷ below) next refl h (reference_field_list Explicit w d next a, s)))
 metadata_read k w d next pushed below e h a s = pushed_plain (starts symbol.PrimMetadata k) pushed below next e (metadata_plain k refl) h s
 
-edited_read : (k : TokenKind) (w : Word) (d next : Draft) (pushed below : List Symbol) → starts symbol.EditedField k ≡ Some pushed → has_no_list below ≡ true
+edited_read : (k : WordKind) (w : Word) (d next : Draft) (pushed below : List Symbol) → starts symbol.EditedField k ≡ Some pushed → has_no_list below ≡ true
     → edited_act k w d ≡ Ok next → HasSoundProperties closed next → IsReading (pushed ++ below) next
 unfolding edited_act
 edited_read (token.Word word.StringField) w d next pushed below e h a s =
@@ -237,14 +235,14 @@ edited_read (token.Word word.ReferenceField) w d next pushed below e h a s =
 edited_read k w d next pushed below e h a s = pushed_plain (starts symbol.EditedField k) pushed below next e (edited_plain k refl) h s
 
 -- the word that a property's name is
-name_word : (k : TokenKind) (w : Word) (pushed : List Symbol) → starts symbol.PropertyName k ≡ Some pushed → IsNameWord k w → is_word w.text ≡ true
+name_word : (k : WordKind) (w : Word) (pushed : List Symbol) → starts symbol.PropertyName k ≡ Some pushed → IsNameWord k w → is_word w.text ≡ true
 name_word (token.Word x) w pushed e is = is
 name_word k w pushed e is = absurd cc
 
 -- ---- any symbol
 
 -- a word of a symbol that may stand above a list
-above_made : (s : Symbol) (w : Word) (d next : Draft) (pushed below : List Symbol) → is_above s ≡ true → takes_lists s ≡ false → takes_turns s ≡ false → begins_values s ≡ false
+above_made : (s : Symbol) (w : Word) (d next : Draft) (pushed below : List Symbol) → is_above s ≡ true → takes_lists s ≡ false → takes_turns s ≡ false → begins_value s ≡ false
     → (bodies_act s w d ≡ Ok next → next.list ≡ d.list) → starts s w.kind ≡ Some pushed → is_shaped (s ∷ below) ≡ true
     → IsListRead (open_list_of (s ∷ below)) d → act s w d ≡ Ok next → IsReady s w d → IsReading (pushed ++ below) next
 above_made s w d next pushed below up l t v same e shaped read a ready =
@@ -259,7 +257,7 @@ plain_made : (s : Symbol) (w : Word) (next : Draft) (pushed below : List Symbol)
 plain_made s w next pushed below m e h s' = pushed_plain (starts s w.kind) pushed below next e (starts_plain s w.kind m) h s'
 
 -- the first word of a value
-first_made : (s : Symbol) (w : Word) (d next : Draft) → begins_values s ≡ true → IsReady s w d → (bodies_act s w d ≡ Ok next → first_act w d ≡ Ok next) → HasSoundProperties closed d
+first_made : (s : Symbol) (w : Word) (d next : Draft) → begins_value s ≡ true → IsReady s w d → (bodies_act s w d ≡ Ok next → first_act w d ≡ Ok next) → HasSoundProperties closed d
     → act s w d ≡ Ok next → HasSoundProperties closed next
 first_made s w d next v ready so sound a = elim (acted s w d next a) [
   | inl x ↦ token_sound closed w d next sound (ready.value x.0) x.1

@@ -1,80 +1,14 @@
 -- Targets and connections are paths without selections.
-use Rattle.std.proofs.Common.{◌≡◌, ◌∙◌, ℕ, zero, suc, ◌<◌, ◌≤◌, nat_le, not, ◌&&◌, Bool, true, false, cond, List, [], ◌∷◌, ◌++◌, length, take, drop, Option, Some, None, ap, sym, refl, subst, arith}
-use Rattle.std.specs.Prelude.{if◌then◌else◌}
+use Rattle.std.proofs.Common.{◌≡◌, ◌∙◌, not, ◌&&◌, Bool, true, false, cond, List, [], ◌∷◌, Option, Some, None, ap, refl, subst}
 use Rattle.std.specs.Option.{option_map}
-use Rattle.std.specs.Str.{chars, IsUtf8, IsAscii}
-use Rattle.std.proofs.lemmas.Bool.Decides.{nat_tests}
-use Rattle.sdf_paths.specs.Reader.{after}
-use Rattle.sdf_paths.specs.declared.reader.Reader.{Reader}
-use Rattle.std.proofs.lemmas.List.{take-append-drop}
-use Rattle.std.proofs.lemmas.Str.{IsUtf8-from_is_utf8, IsUtf8-append, IsUtf8-from_ascii, IsUtf8-drop}
-use Rattle.sdf_paths.specs.Paths.{IsPath, is_selection, parent, plain, is_plain, printed}
+use Rattle.std.proofs.lemmas.Str.{IsUtf8-from_is_utf8}
+use Rattle.sdf_paths.specs.Paths.{is_selection, plain, is_plain}
 use Rattle.sdf_paths.specs.declared.element.Element.{Element}
-use Rattle.sdf_paths.proofs.ParseExact.{is_read, path_of_read}
-use Rattle.sdf_paths.proofs.Shapes.{path_front, plain_path}
-use Rattle.usda_lexer.specs.Blanks.{begins}
-use Rattle.usda_values.specs.PathTexts.{begins_up}
-use Rattle.usda_values.proofs.Ups.{up_cut}
-use Rattle.usda_lists.specs.Paths.{finished, path_of, joins_directly, text_below, path_below, path_from}
-use Rattle.path_returns.proofs.Utf8.{path_utf8}
+use Rattle.sdf_paths.proofs.Shapes.{plain_path}
+use Rattle.usda_lists.specs.Paths.{path_from}
+use Rattle.path_returns.proofs.Meant.{path_means_one}
 use Rattle.value_returns.specs.Proper.{IsProperTarget}
 use Rattle.properties_read.specs.Laws.{TargetsAreProper}
-
--- the text of a path means one
-read_path : (text : List ℕ) (path : List Element) → IsUtf8 text → path_of text ≡ Some path → IsPath path
-unfolding path_of
-read_path text path u h = test (nat_le (length text) 4096) refl h
-  where
-    ran : (r : Option Reader) → after (chars text) ≡ r → length text ≤ 4096 → finished r ≡ Some path → IsPath path
-    ran None e short f = absurd cc
-    ran (Some last) e short f = path_of_read text path (is_read text path u (record { last = last; ran = e; done = f; short = short }))
-
-    test : (b : Bool) → nat_le (length text) 4096 ≡ b → (if b then finished (after (chars text)) else None) ≡ Some path → IsPath path
-    test false e f = absurd cc
-    test true e f =
-        let short : length text ≤ 4096 = grind (arith, nat_tests) in
-        ran (after (chars text)) refl short f
-
--- there is no prim, or its path is one
-abbrev IsPathOrNone : Option (List Element) → Type 0
-IsPathOrNone None = Unit {0}
-IsPathOrNone (Some prim) = IsPath prim
-
-parent_path : (prim : List Element) → IsPath prim → IsPathOrNone (parent prim)
-parent_path [] is = tt
-parent_path (e ∷ rest) is = path_front (take (length rest) (e ∷ rest)) (drop (length rest) (e ∷ rest)) (subst IsPath (sym (take-append-drop (length rest) (e ∷ rest))) is)
-
-one_ascii : (c : ℕ) → c < 128 → IsAscii (c ∷ [])
-one_ascii c h zero = h
-one_ascii c h (suc i) = omega arith
-
-joined_utf8 : (prim : List Element) (text : List ℕ) → IsPath prim → IsUtf8 text → IsUtf8 (text_below prim text)
-joined_utf8 prim text is u = cases (joins_directly prim text)
-  where
-    cases : (b : Bool) → IsUtf8 (if b then printed prim ++ text else printed prim ++ 47 ∷ text)
-    cases true = IsUtf8-append (printed prim) text (path_utf8 prim is) u
-    cases false = IsUtf8-append (printed prim) (47 ∷ text) (path_utf8 prim is) (IsUtf8-append (47 ∷ []) text (IsUtf8-from_ascii (47 ∷ []) (one_ascii 47 (omega arith))) u)
-
-below_path : (taken : ℕ) (o : Option (List Element)) (text : List ℕ) (path : List Element) → IsPathOrNone o → IsUtf8 (drop taken text) → path_below taken o text ≡ Some path → IsPath path
-below_path taken None text path is u h = absurd cc
-below_path zero (Some prim) [] path is u h = absurd cc
-below_path (suc taken) (Some prim) [] path is u h = absurd cc
-below_path (suc taken) (Some prim) (c ∷ cs) path is u h = below_path taken (Some prim) cs path is u h
-below_path zero (Some prim) (c ∷ cs) path is u h = cases (begins_up (c ∷ cs)) refl h (λ v g. below_path 2 (parent prim) cs path (parent_path prim is) v g)
-  where
-    cases : (b : Bool) → begins_up (c ∷ cs) ≡ b → elim b as (λ _. Option (List Element)) [ true ↦ path_below 2 (parent prim) cs | false ↦ path_of (text_below prim (c ∷ cs)) ] ≡ Some path
-        → (IsUtf8 (drop 2 cs) → path_below 2 (parent prim) cs ≡ Some path → IsPath path) → IsPath path
-    cases true e g more = more (IsUtf8-drop (c ∷ cs) 3 u (up_cut (c ∷ cs) u e)) g
-    cases false e g more = read_path (text_below prim (c ∷ cs)) path (joined_utf8 prim (c ∷ cs) is u) g
-
--- the path that a text means in the statements of a prim
-from_path : (base : List Element) (text : List ℕ) (path : List Element) → IsPath base → IsUtf8 text → path_from base text ≡ Some path → IsPath path
-unfolding path_from
-from_path base text path is u h = cases (begins 47 text) h
-  where
-    cases : (b : Bool) → elim b as (λ _. Option (List Element)) [ true ↦ path_of text | false ↦ path_below 0 (Some base) text ] ≡ Some path → IsPath path
-    cases true g = read_path text path u g
-    cases false g = below_path 0 (Some base) text path is u g
 
 plain_is_plain : (path : List Element) → is_plain (plain path) ≡ true
 plain_is_plain [] = refl
@@ -91,4 +25,4 @@ targets_proper base text path is u h = cases (path_from base text) refl h
     cases None e g = absurd cc
     cases (Some whole) e g =
         let same : plain whole ≡ path = cc g in
-        subst IsProperTarget same (record { formed = plain_path whole (from_path base text whole is (IsUtf8-from_is_utf8 text u) e); plain = plain_is_plain whole })
+        subst IsProperTarget same (record { formed = plain_path whole (path_means_one base text whole is (IsUtf8-from_is_utf8 text u) e); plain = plain_is_plain whole })

@@ -13,18 +13,19 @@ use Rattle.sdf_values.specs.declared.value.Value.{Value}
 use Rattle.spec_properties.specs.Entries.{SampleEntries}
 use Rattle.spec_tables.specs.Tables.{with_key}
 use Rattle.usda_lexer.specs.Meanings.{number_of}
-use Rattle.usda_values.specs.Scalars.{if_time, time_of}
+use Rattle.usda_values.specs.Scalars.{if_time, time_of, finite_time}
 use Rattle.value_texts.proofs.TypesRead.{types_read}
-use Rattle.usda_drafts.specs.Values.{in_range, finite_time, time_of_number}
+use Rattle.usda_drafts.specs.Values.{in_range, time_of_number}
 use Rattle.properties_read.specs.Laws.{TimesAreNear, TypedValuesAreProper}
 use Rattle.value_returns.specs.Proper.{IsProperSample}
+use Rattle.value_returns.proofs.Tables.{all_with}
 use Rattle.properties_read.specs.Values.{IsValueOf, AreValuesOf}
-use Rattle.properties_read.proofs.Tables.{table_of_none, table_with, each_with}
+use Rattle.shared_tables.proofs.Order.{none as no_entries, table_with}
 
 -- an attribute of which no value is said
 pub no_values : (o : Option TypeName) → AreValuesOf o None []
 no_values None = tt
-no_values (Some ty) = record { defaulted = tt; times = table_of_none ℤ Value int_cmp; sampled = tt }
+no_values (Some ty) = record { defaulted = tt; times = no_entries int_cmp; sampled = tt }
 
 pub value_given : (o : Option TypeName) (default : Option Value) (samples : SampleEntries) (v : Value) → IsValueOf o v → AreValuesOf o default samples → AreValuesOf o (Some v) samples
 value_given None default samples v p values = tt
@@ -35,8 +36,8 @@ pub sample_given : (o : Option TypeName) (default : Option Value) (samples : Sam
 sample_given None default samples time v near p values = tt
 sample_given (Some ty) default samples time v near p values = record {
   defaulted = values.defaulted;
-  times = table_with int_cmp int_cmp_total time v samples values.times;
-  sampled = each_with int_cmp exact_signed (IsProperSample ty) time v samples values.sampled (near, p);
+  times = table_with int_cmp_total time v samples values.times;
+  sampled = all_with int_cmp exact_signed (IsProperSample ty) time v samples (near, p) values.sampled;
 }
 
 -- a time is within 10^12

@@ -2,7 +2,7 @@
 use Rattle.std.specs.Prelude.{◌≡◌, ◌⊎◌, ◌≤◌, ◌^◌, Bool, true, false, not, ◌&&◌, ◌||◌, if◌then◌else◌, List, [], ◌∷◌, Some, Ok, unsigned_abs}
 use Rattle.sdf_values.specs.declared.value.Value.{Value}
 use Rattle.usda_fields.specs.Keys.{key_rule, rule_shape}
-use Rattle.usda_grammar.specs.declared.kinds.TokenKind.TheVariants as token
+use Rattle.usda_grammar.specs.declared.kinds.WordKind.TheVariants as token
 use Rattle.usda_grammar.specs.Machine.{step}
 use Rattle.usda_grammar.specs.Table.{layer}
 use Rattle.usda_grammar.specs.declared.symbols.Symbol.{Symbol}

@@ -1,7 +1,7 @@
 -- Each word of a text keeps the properties of a draft proper.
 use Rattle.std.specs.Prelude.{◌≡◌, ℕ, true, false, Ok}
 use Rattle.sdf_paths.specs.Paths.{IsPath}
-use Rattle.usda_grammar.specs.declared.kinds.TokenKind.{TokenKind}
+use Rattle.usda_grammar.specs.declared.kinds.WordKind.{WordKind}
 use Rattle.usda_grammar.specs.declared.symbols.Symbol.{Symbol}
 use Rattle.usda_statements.specs.OpenValues.{is_open}
 use Rattle.usda_words.specs.Words.{Word}
@@ -13,7 +13,8 @@ use Rattle.usda_drafts.specs.Prims.{body_end_act}
 use Rattle.usda_drafts.specs.Values.{token_act, first_act, with_value_begun}
 use Rattle.usda_drafts.specs.declared.draft.Draft.{Draft}
 use Rattle.layer_texts.specs.Writable.{is_word}
-use Rattle.properties_read.specs.Drafts.{HasSoundProperties, CompletesWell, IsUtf8Path, is_of_property, behind_start, behind_part, behind_dot, takes_lists, takes_turns, begins_values}
+use Rattle.text_syntax.specs.Open.{begins_value}
+use Rattle.properties_read.specs.Drafts.{HasSoundProperties, CompletesWell, IsUtf8Path, is_of_property, behind_start, behind_part, behind_dot, takes_lists, takes_turns}
 use Rattle.properties_read.specs.Targets.{Reading, closed, begun, bracketed}
 
 -- A draft whose properties are proper so far stays one with each word, where a word that is taken as a name is one, a word that is taken
@@ -30,18 +31,18 @@ pub record DraftsAreRead : Type 0 where
   pub ended : (d next : Draft) → HasSoundProperties closed d → body_end_act d ≡ Ok next → HasSoundProperties closed next
   -- the name of a property, the word behind its `.`, and the `=` of the targets of a relationship
   pub named : (r : Reading) (w : Word) (d next : Draft) → is_word w.text ≡ true → HasSoundProperties r d → name_act w d ≡ Ok next → HasSoundProperties closed next
-  pub dotted : (k : TokenKind) (at : ℕ) (d next : Draft) → HasSoundProperties closed d → dot_act k at d ≡ Ok next → HasSoundProperties (behind_dot k) next
+  pub dotted : (k : WordKind) (at : ℕ) (d next : Draft) → HasSoundProperties closed d → dot_act k at d ≡ Ok next → HasSoundProperties (behind_dot k) next
   pub targets : (d next : Draft) → HasSoundProperties closed d → list_begun d ≡ Ok next → HasSoundProperties begun next
   -- the words of a list of the property in hand
-  pub list_started : (k : TokenKind) (w : Word) (d next : Draft) → is_of_property d.list ≡ true → IsPath d.owner.said.base → IsUtf8Path k w
+  pub list_started : (k : WordKind) (w : Word) (d next : Draft) → is_of_property d.list ≡ true → IsPath d.owner.said.base → IsUtf8Path k w
       → HasSoundProperties begun d → in_list_act k w d ≡ Ok next → HasSoundProperties (behind_start k) next
-  pub list_part : (k : TokenKind) (w : Word) (d next : Draft) → is_of_property d.list ≡ true → IsPath d.owner.said.base → IsUtf8Path k w
+  pub list_part : (k : WordKind) (w : Word) (d next : Draft) → is_of_property d.list ≡ true → IsPath d.owner.said.base → IsUtf8Path k w
       → HasSoundProperties bracketed d → in_list_act k w d ≡ Ok next → HasSoundProperties (behind_part k) next
   -- the words of other lists
-  pub other_list : (r : Reading) (k : TokenKind) (w : Word) (d next : Draft)
+  pub other_list : (r : Reading) (k : WordKind) (w : Word) (d next : Draft)
       → is_of_property d.list ≡ false → HasSoundProperties r d → in_list_act k w d ≡ Ok next → HasSoundProperties r next
-  pub references : (r : Reading) (k : TokenKind) (w : Word) (d next : Draft)
+  pub references : (r : Reading) (k : WordKind) (w : Word) (d next : Draft)
       → is_of_property d.list ≡ false → HasSoundProperties r d → in_references_act k w d ≡ Ok next → HasSoundProperties r next
   -- any other word
-  pub others : (r : Reading) (s : Symbol) (w : Word) (d next : Draft) → is_open d.value ≡ false → takes_lists s ≡ false → takes_turns s ≡ false → begins_values s ≡ false
+  pub others : (r : Reading) (s : Symbol) (w : Word) (d next : Draft) → is_open d.value ≡ false → takes_lists s ≡ false → takes_turns s ≡ false → begins_value s ≡ false
       → HasSoundProperties r d → act s w d ≡ Ok next → HasSoundProperties r next

@@ -7,8 +7,8 @@ use Rattle.spec_parts.specs.declared.spec.Spec.{Spec}
 use Rattle.spec_properties.specs.Properties.{AreProperties}
 use Rattle.spec_properties.specs.declared.property.Property.{Property}
 use Rattle.usda_grammar.specs.declared.kinds.Keyword.TheVariants as word
-use Rattle.usda_grammar.specs.declared.kinds.TokenKind.{TokenKind}
-use Rattle.usda_grammar.specs.declared.kinds.TokenKind.TheVariants as token
+use Rattle.usda_grammar.specs.declared.kinds.WordKind.{WordKind}
+use Rattle.usda_grammar.specs.declared.kinds.WordKind.TheVariants as token
 use Rattle.usda_grammar.specs.declared.symbols.Symbol.{Symbol}
 use Rattle.usda_grammar.specs.declared.symbols.Symbol.TheVariants as symbol
 use Rattle.usda_lexer.specs.Meanings.{path_text}
@@ -23,12 +23,14 @@ use Rattle.usda_drafts.specs.declared.draft.Draft.{Draft}
 use Rattle.usda_drafts.specs.declared.draft.OpenList.{OpenList}
 use Rattle.usda_drafts.specs.declared.draft.OpenList.TheVariants as open_list
 use Rattle.usda_drafts.specs.declared.owner.Owner.{Owner}
-use Rattle.layer_reads.specs.Lists.{AreAll}
 use Rattle.layer_texts.specs.Writable.{is_word}
 use Rattle.value_returns.specs.Proper.{IsProperProperty}
+use Rattle.value_texts.specs.Each.{AreAll}
 use Rattle.properties_read.specs.Sound.{IsSoundProperty, AreRead}
 use Rattle.properties_read.specs.Targets.{Reading, closed, begun, bracketed}
-use Rattle.properties_read.specs.Values.{IsValueOf, IsReadFor}
+use Rattle.properties_read.specs.Values.{IsValueOf}
+use Rattle.prim_reads.specs.Properties.{is_any_key}
+use Rattle.fields_read.specs.Laws.{IsReadFor}
 
 -- no property is in hand, or one that is sound
 abbrev pub IsSoundInHand : Reading → PropertyDraft → Type 0
@@ -60,7 +62,7 @@ pub record HasSoundProperties (r : Reading) (d : Draft) : Type 0 where
 abbrev pub IsFor : Goal → Value → Draft → Type 0
 IsFor goal.Default v d = IsValueOf d.property.ty v
 IsFor goal.Sample v d = (unsigned_abs d.aim.time ≤ 10 ^ 30) × IsValueOf d.property.ty v
-IsFor goal.PropertyKey v d = IsReadFor d.aim.key v
+IsFor goal.PropertyKey v d = IsReadFor is_any_key d.aim.key v
 IsFor g v d = Unit {0}
 
 -- where a word completes the value of a draft, the value is one for what it goes to
@@ -70,12 +72,12 @@ CompletesWell w d = (v : OpenValue) → given d.owner.said.base w.token w.text d
 -- ---- words
 
 -- a name of the text is one
-abbrev pub IsNameWord : TokenKind → Word → Type 0
+abbrev pub IsNameWord : WordKind → Word → Type 0
 IsNameWord (token.Word x) w = is_word w.text ≡ true
 IsNameWord k w = Unit {0}
 
 -- what a path of the text stands for is UTF-8
-abbrev pub IsUtf8Path : TokenKind → Word → Type 0
+abbrev pub IsUtf8Path : WordKind → Word → Type 0
 IsUtf8Path token.Path w = is_utf8 (path_text w.text) ≡ true
 IsUtf8Path k w = Unit {0}
 
@@ -87,17 +89,17 @@ is_of_property open_list.Property = true
 is_of_property l = false
 
 -- what is read of a list whose first word has this kind
-abbrev pub behind_start : TokenKind → Reading
+abbrev pub behind_start : WordKind → Reading
 behind_start token.OpenBracket = bracketed
 behind_start k = closed
 
 -- what is read of a list between its brackets behind a word of this kind
-abbrev pub behind_part : TokenKind → Reading
+abbrev pub behind_part : WordKind → Reading
 behind_part token.CloseBracket = closed
 behind_part k = bracketed
 
 -- what is read of a list behind the word that stands behind the `.` of an attribute
-abbrev pub behind_dot : TokenKind → Reading
+abbrev pub behind_dot : WordKind → Reading
 behind_dot (token.Word word.Connect) = begun
 behind_dot k = closed
 
@@ -125,12 +127,6 @@ takes_turns symbol.AfterDot = true
 takes_turns symbol.ConnectWord = true
 takes_turns symbol.MaybeTargets = true
 takes_turns s = false
-
--- the symbols that take the first word of a value
-abbrev pub begins_values : Symbol → Bool
-begins_values symbol.Value = true
-begins_values symbol.Dictionary = true
-begins_values s = false
 
 -- the symbols that take the words of values
 abbrev pub takes_values : Symbol → Bool

@@ -16,7 +16,7 @@ use Rattle.usda_statements.specs.declared.property.PropertyMarks.{PropertyMarks}
 use Rattle.usda_values.specs.declared.shape.Shape.TheVariants.{Typed}
 use Rattle.value_texts.specs.Readable.{is_read_as}
 use Rattle.value_texts.specs.Writable.{is_writable}
-use Rattle.layer_reads.specs.Lists.{AreAll}
+use Rattle.value_texts.specs.Each.{AreAll}
 use Rattle.layer_texts.specs.Writable.{is_word}
 use Rattle.text_checks.specs.Utf8.{is_utf8_value}
 use Rattle.value_returns.specs.Proper.{IsProperValue, IsProperProperty, IsProperTarget}
@@ -25,7 +25,9 @@ use Rattle.usda_drafts.specs.Values.{time_of_number}
 use Rattle.usda_drafts.specs.declared.owner.Owner.{Owner}
 use Rattle.properties_read.specs.Sound.{IsSoundProperty, IsReadSoFar, AreRead}
 use Rattle.properties_read.specs.Targets.{Reading, closed, begun, bracketed}
-use Rattle.properties_read.specs.Values.{IsValueOf, IsReadFor}
+use Rattle.properties_read.specs.Values.{IsValueOf}
+use Rattle.prim_reads.specs.Properties.{is_any_key}
+use Rattle.fields_read.specs.Laws.{IsReadFor}
 
 -- a target or a connection that a text means in the statements of a prim is a path without selections
 abbrev pub TargetsAreProper : Type 0
@@ -41,7 +43,7 @@ TypedValuesAreProper = (ty : TypeName) (v : Value) → is_read_as v (Typed ty) t
 
 -- What each part of a statement makes of a property whose parts are proper so far is such a property, and is a proper property once no
 -- list of it is open.
-pub record PropertiesAreRead : Type 0 where
+pub record ReadPropertiesAreProper : Type 0 where
   -- the first statement on a property, or a further one on one that is read
   pub named : (h : Heading) (name : List ℕ) (marks : PropertyMarks) (before : Option Property) (p : PropertyDraft)
       → is_word name ≡ true → IsReadSoFar marks before → joined h name marks before ≡ Ok p → IsSoundProperty closed p
@@ -63,7 +65,7 @@ pub record PropertiesAreRead : Type 0 where
   pub list_closed : (p : PropertyDraft) → IsSoundProperty bracketed p → IsSoundProperty closed (with_list_closed p)
   -- metadata: a string that stands alone, and the value of a key
   pub commented : (r : Reading) (token : List ℕ) (p next : PropertyDraft) → IsSoundProperty r p → meta_comment_act token p ≡ Ok next → IsSoundProperty r next
-  pub keyed : (r : Reading) (key : List ℕ) (v : Value) (p next : PropertyDraft) → IsSoundProperty r p → IsReadFor key v → meta_act key v p ≡ Ok next → IsSoundProperty r next
+  pub keyed : (r : Reading) (key : List ℕ) (v : Value) (p next : PropertyDraft) → IsSoundProperty r p → IsReadFor is_any_key key v → meta_act key v p ≡ Ok next → IsSoundProperty r next
   -- the property that the statements make
   pub complete : (p : PropertyDraft) → IsSoundProperty closed p → IsProperProperty (property_of p)
 

@@ -1,19 +1,17 @@
 -- Properties in the making, and those of an owner: what their statements have said so far is proper.
 use Rattle.std.specs.Prelude.{◌≡◌, ℕ, true, List, Option, Some, None, unwrap_or}
-use Rattle.list_ops.specs.declared.op.ListOp.{ListOp}
 use Rattle.sdf_paths.specs.Order.{text_cmp}
-use Rattle.sdf_paths.specs.declared.element.Element.{Element}
 use Rattle.spec_properties.specs.Properties.{AreProperties, property_name}
 use Rattle.spec_properties.specs.declared.property.Property.{Property}
-use Rattle.spec_properties.specs.declared.property.Property.TheVariants.{Attr, Rel}
 use Rattle.spec_tables.specs.Tables.{at_key}
 use Rattle.usda_statements.specs.PropertyDrafts.{no_marks}
 use Rattle.usda_statements.specs.declared.property.PropertyDraft.{PropertyDraft}
 use Rattle.usda_statements.specs.declared.property.PropertyMarks.{PropertyMarks}
-use Rattle.layer_reads.specs.Lists.{AreAll}
 use Rattle.layer_texts.specs.Writable.{is_word}
 use Rattle.prim_reads.specs.Properties.{is_any_key, Marks}
 use Rattle.value_returns.specs.Proper.{IsProperMeta, IsProperProperty}
+use Rattle.value_texts.specs.Each.{AreAll}
+use Rattle.trees_read.specs.Lists.{paths_of}
 use Rattle.properties_read.specs.Targets.{Reading, IsApart, AreGiven, AreLists}
 use Rattle.properties_read.specs.Values.{AreValuesOf}
 
@@ -24,15 +22,10 @@ pub record IsSoundProperty (r : Reading) (p : PropertyDraft) : Type 0 where
   pub listed : AreLists r p.edit p.marks.lists p.paths
   pub said : IsProperMeta is_any_key p.meta
 
--- the connections of an attribute, the targets of a relationship
-abbrev pub lists_in : Property → ListOp (List Element)
-lists_in (Attr name ty custom uniform default samples connections meta) = connections
-lists_in (Rel name custom targets meta) = targets
-
 -- a property that is read, of whose lists these were given
 pub record IsRead (marks : PropertyMarks) (p : Property) : Type 0 where
   pub proper : IsProperProperty p
-  pub listed : AreGiven marks.lists (lists_in p)
+  pub listed : AreGiven marks.lists (paths_of p)
 
 -- nothing is said so far, or a property is read
 abbrev pub IsReadSoFar : PropertyMarks → Option Property → Type 0

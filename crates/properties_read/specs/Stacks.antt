@@ -3,7 +3,7 @@ use Rattle.std.specs.Prelude.{◌≡◌, Bool, true, false, not, ◌&&◌, if◌
 use Rattle.sdf_paths.specs.Paths.{IsPath}
 use Rattle.usda_grammar.specs.Machine.{step}
 use Rattle.usda_grammar.specs.Table.{layer}
-use Rattle.usda_grammar.specs.declared.kinds.TokenKind.{TokenKind}
+use Rattle.usda_grammar.specs.declared.kinds.WordKind.{WordKind}
 use Rattle.usda_grammar.specs.declared.symbols.Symbol.{Symbol}
 use Rattle.usda_grammar.specs.declared.symbols.Symbol.TheVariants as symbol
 use Rattle.usda_statements.specs.OpenValues.{is_open}
@@ -11,12 +11,13 @@ use Rattle.usda_values.specs.Drafts.{is_complete}
 use Rattle.usda_values.specs.declared.draft.ValueDraft.{ValueDraft}
 use Rattle.usda_words.specs.Words.{Word}
 use Rattle.value_texts.specs.Following.{awaited, is_formed}
+use Rattle.value_texts.specs.Each.{AreAll}
 use Rattle.usda_drafts.specs.Acts.{act}
 use Rattle.usda_drafts.specs.Drafts.{blank}
 use Rattle.usda_drafts.specs.Values.{with_value_begun}
 use Rattle.usda_drafts.specs.declared.draft.Draft.{Draft}
-use Rattle.layer_reads.specs.Lists.{AreAll}
-use Rattle.properties_read.specs.Drafts.{IsProperEntry, HasSoundProperties, CompletesWell, IsNameWord, IsUtf8Path, is_of_property, takes_lists, takes_values, begins_values}
+use Rattle.text_syntax.specs.Open.{begins_value}
+use Rattle.properties_read.specs.Drafts.{IsProperEntry, HasSoundProperties, CompletesWell, IsNameWord, IsUtf8Path, is_of_property, takes_lists, takes_values}
 use Rattle.properties_read.specs.Targets.{Reading, closed, begun, bracketed}
 
 -- ---- stacks
@@ -78,14 +79,14 @@ pub record IsReady (s : Symbol) (w : Word) (d : Draft) : Type 0 where
   pub base : IsPath d.owner.said.base
   pub apart : is_open d.value ≡ true → takes_values s ≡ true
   pub value : is_open d.value ≡ true → CompletesWell w d
-  pub first : is_open d.value ≡ false → begins_values s ≡ true → CompletesWell w (with_value_begun d)
+  pub first : is_open d.value ≡ false → begins_value s ≡ true → CompletesWell w (with_value_begun d)
 
 -- ---- the laws
 
 -- while a value is open, each word is taken by a symbol of values, whatever stands below those that the value awaits
 abbrev pub OpenValuesTakeTheirWords : Type 0
 OpenValuesTakeTheirWords =
-    (v : ValueDraft) (below after : List Symbol) (k : TokenKind) (s : Symbol) → is_formed v ≡ true → is_complete v ≡ false → step (awaited v ++ below) k ≡ Some (s, after) → takes_values s ≡ true
+    (v : ValueDraft) (below after : List Symbol) (k : WordKind) (s : Symbol) → is_formed v ≡ true → is_complete v ≡ false → step (awaited v ++ below) k ≡ Some (s, after) → takes_values s ≡ true
 
 -- From the first word of a text on, each word keeps the properties of the draft proper; so they are in the end.
 pub record StepsKeepProperties : Type 0 where

@@ -7,9 +7,9 @@ use Rattle.usda_lists.specs.Lists.{list_at, with_list}
 use Rattle.usda_lists.specs.References.{same_path}
 use Rattle.usda_lists.specs.declared.edit.GivenLists.{GivenLists}
 use Rattle.usda_lists.specs.declared.edit.ListEdit.{ListEdit}
-use Rattle.layer_reads.specs.Lists.{AreAll}
 use Rattle.metadata_reads.specs.Kept.{AreKept}
 use Rattle.value_returns.specs.Proper.{IsProperTarget}
+use Rattle.value_texts.specs.Each.{AreAll}
 
 -- How far the list that a statement gives is read: no list is open, or one is of which nothing stands there yet, or one between its
 -- brackets.

@@ -1,7 +1,7 @@
 // What holds of each property that the statements of a text make, each law as the clause of a function that does nothing.
 ghost use Rattle.properties_read.specs.Aims.{StepsKeepAims, ValuesAreAimed};
 ghost use Rattle.properties_read.specs.DraftLaws.{DraftsAreRead};
-ghost use Rattle.properties_read.specs.Laws.{TargetsAreProper, TimesAreNear, TypedValuesAreProper, PropertiesAreRead, OwnersAreRead};
+ghost use Rattle.properties_read.specs.Laws.{TargetsAreProper, TimesAreNear, TypedValuesAreProper, ReadPropertiesAreProper, OwnersAreRead};
 ghost use Rattle.properties_read.specs.Stacks.{OpenValuesTakeTheirWords, StepsKeepProperties};
 
 /// A target or a connection, as a text means it in the statements of a prim, is a path without selections.
@@ -22,8 +22,8 @@ pub fn typed_values_are_proper()
 
 /// What each part of a statement makes of the property in hand keeps its parts proper, and the property that the statements
 /// make is proper.
-pub fn properties_are_read()
-    ensures { PropertiesAreRead }
+pub fn read_properties_are_proper()
+    ensures { ReadPropertiesAreProper }
 {}
 
 /// The properties that an owner has while its statements are read are proper, and each name stands once.

@@ -14,7 +14,7 @@
 mod laws;
 
 pub use laws::{
-    drafts_are_read, open_values_take_their_words, owners_are_read, properties_are_read,
+    drafts_are_read, open_values_take_their_words, owners_are_read, read_properties_are_proper,
     steps_keep_aims, steps_keep_properties, targets_are_proper, times_are_near,
     typed_values_are_proper, values_are_aimed,
 };

@@ -13,11 +13,11 @@ use std::alloc::{AllocError, Global};
 use std::mem;
 
 /// As many paths as a stage has at most.
-const MOST_PATHS: usize = 262_144;
+const MAX_PATHS: usize = 262_144;
 
 // The stage of a world.
 fn composed(alloc: Global, world: &World) -> Result<Stage, CallFault> {
-    match stage_items_within(alloc, &UsdComposer::new(alloc), world, MOST_PATHS) {
+    match stage_items_within(alloc, &UsdComposer::new(alloc), world, MAX_PATHS) {
         Ok(items) => Ok(Edition::build(alloc, 0, 0, items, None)?),
         Err(StageRefused::Full) => Err(CallFault::Bad),
         Err(StageRefused::NoMemory) => Err(CallFault::NoMemory),

@@ -17,7 +17,7 @@ use Rattle.script_words.specs.Repeats.{same_reference}
 use Rattle.script_words.specs.declared.items.ListItems.TheVariants.{Texts, Paths, Targets, References, SubLayers}
 use Rattle.script_words.specs.declared.place.ListPlace.TheVariants as place
 use Rattle.script_words.specs.Words.{name_at, layer_at, behind_word}
-use Rattle.script_lines.specs.MetaLines.{is_text, is_path_field, is_reference_field, is_text_field}
+use Rattle.script_lines.specs.MetaLines.{is_path_field, is_reference_field, is_text_field}
 use Rattle.script_lines.specs.Places.{target_at, prim_base}
 use Rattle.script_lines.specs.declared.line.Line.{Line}
 use Rattle.script_lines.specs.declared.line.Line.TheVariants.{Change}
@@ -47,8 +47,8 @@ field_list word base bytes =
     if is_path_field word then paths_list word base bytes
     else if is_reference_field word then references_list word base bytes
     else if is_text_field word then texts_list word base bytes
-    else if is_text word (codes "targets") then (targets_in base bytes >>= λ items. Some (list.Targets items))
-    else if is_text word (codes "connect") then (targets_in base bytes >>= λ items. Some (list.Connections items))
+    else if same_text word (codes "targets") then (targets_in base bytes >>= λ items. Some (list.Targets items))
+    else if same_text word (codes "connect") then (targets_in base bytes >>= λ items. Some (list.Connections items))
     else None
 
 -- ---- edits

@@ -9,7 +9,8 @@ use Rattle.usda_lexer.specs.declared.token.LexFault.{LexFault}
 use Rattle.usda_lexer.specs.declared.token.LexFault.TheVariants.{Unclosed}
 use Rattle.script_words.specs.Answers.{◌>>=◌}
 use Rattle.script_words.specs.Words.{lexer_of, no_word, name_at, layer_at, ended}
-use Rattle.script_lines.specs.MetaLines.{is_text, meta_line, unmeta_line, select_line, unselect_line, order_line, load_line, unload_line, unrule_line}
+use Rattle.usda_lists.specs.References.{same_text}
+use Rattle.script_lines.specs.MetaLines.{meta_line, unmeta_line, select_line, unselect_line, order_line, load_line, unload_line, unrule_line}
 use Rattle.script_lines.specs.FieldLines.{list_line, sublayers_line}
 use Rattle.script_lines.specs.QuestionLines.{asked, value_line, default_line, samples_line, targets_line, children_line, faults_line, sites_line}
 use Rattle.script_lines.specs.SpecLines.{new_layer_line, spec_line, variant_line, attribute_line, relationship_line, remove_line}
@@ -26,58 +27,58 @@ open_line bytes = layer_at bytes >>= λ l. ended (Open l.0) l.1
 -- lines of lists, selections, orders, sublayers and load rules; any other word begins no line
 unfoldable pub field_worded : List ℕ → List ℕ → Option Line
 field_worded word bytes =
-    if is_text word (codes "list") then list_line bytes
-    else if is_text word (codes "select") then select_line bytes
-    else if is_text word (codes "unselect") then unselect_line bytes
-    else if is_text word (codes "order") then order_line bytes
-    else if is_text word (codes "sublayers") then sublayers_line bytes
-    else if is_text word (codes "load") then load_line bytes
-    else if is_text word (codes "unload") then unload_line bytes
-    else if is_text word (codes "unrule") then unrule_line bytes
+    if same_text word (codes "list") then list_line bytes
+    else if same_text word (codes "select") then select_line bytes
+    else if same_text word (codes "unselect") then unselect_line bytes
+    else if same_text word (codes "order") then order_line bytes
+    else if same_text word (codes "sublayers") then sublayers_line bytes
+    else if same_text word (codes "load") then load_line bytes
+    else if same_text word (codes "unload") then unload_line bytes
+    else if same_text word (codes "unrule") then unrule_line bytes
     else None
 
 -- lines of values and metadata, or one of those above
 unfoldable pub value_worded : List ℕ → List ℕ → Option Line
 value_worded word bytes =
-    if is_text word (codes "set") then set_line bytes
-    else if is_text word (codes "clear") then clear_line bytes
-    else if is_text word (codes "sample") then sample_line bytes
-    else if is_text word (codes "unsample") then unsample_line bytes
-    else if is_text word (codes "meta") then meta_line bytes
-    else if is_text word (codes "unmeta") then unmeta_line bytes
+    if same_text word (codes "set") then set_line bytes
+    else if same_text word (codes "clear") then clear_line bytes
+    else if same_text word (codes "sample") then sample_line bytes
+    else if same_text word (codes "unsample") then unsample_line bytes
+    else if same_text word (codes "meta") then meta_line bytes
+    else if same_text word (codes "unmeta") then unmeta_line bytes
     else field_worded word bytes
 
 -- lines that add and remove layers, prims, variants and properties, or one of those above
 unfoldable pub spec_worded : List ℕ → List ℕ → Option Line
 spec_worded word bytes =
-    if is_text word (codes "newlayer") then new_layer_line bytes
-    else if is_text word (codes "spec") then spec_line bytes
-    else if is_text word (codes "variant") then variant_line bytes
-    else if is_text word (codes "attr") then attribute_line bytes
-    else if is_text word (codes "rel") then relationship_line bytes
-    else if is_text word (codes "remove") then remove_line bytes
+    if same_text word (codes "newlayer") then new_layer_line bytes
+    else if same_text word (codes "spec") then spec_line bytes
+    else if same_text word (codes "variant") then variant_line bytes
+    else if same_text word (codes "attr") then attribute_line bytes
+    else if same_text word (codes "rel") then relationship_line bytes
+    else if same_text word (codes "remove") then remove_line bytes
     else value_worded word bytes
 
 -- lines that ask, or one that is an operation
 unfoldable pub question_worded : List ℕ → List ℕ → Option Line
 question_worded word bytes =
-    if is_text word (codes "value") then value_line bytes
-    else if is_text word (codes "default") then default_line bytes
-    else if is_text word (codes "samples") then samples_line bytes
-    else if is_text word (codes "targets") then targets_line bytes
-    else if is_text word (codes "children") then children_line bytes
-    else if is_text word (codes "faults") then faults_line bytes
-    else if is_text word (codes "sites") then sites_line bytes
-    else if is_text word (codes "flatten") then asked question.Flatten bytes
+    if same_text word (codes "value") then value_line bytes
+    else if same_text word (codes "default") then default_line bytes
+    else if same_text word (codes "samples") then samples_line bytes
+    else if same_text word (codes "targets") then targets_line bytes
+    else if same_text word (codes "children") then children_line bytes
+    else if same_text word (codes "faults") then faults_line bytes
+    else if same_text word (codes "sites") then sites_line bytes
+    else if same_text word (codes "flatten") then asked question.Flatten bytes
     else spec_worded word bytes
 
 -- `begin`, `commit` and `publish`, behind which nothing stands, `open`, or a question or an operation
 unfoldable pub worded : List ℕ → List ℕ → Option Line
 worded word bytes =
-    if is_text word (codes "begin") then ended Begin bytes
-    else if is_text word (codes "commit") then ended Commit bytes
-    else if is_text word (codes "publish") then ended Publish bytes
-    else if is_text word (codes "open") then open_line bytes
+    if same_text word (codes "begin") then ended Begin bytes
+    else if same_text word (codes "commit") then ended Commit bytes
+    else if same_text word (codes "publish") then ended Publish bytes
+    else if same_text word (codes "open") then open_line bytes
     else question_worded word bytes
 
 -- ---- blank lines and comments

@@ -1,8 +1,8 @@
 -- Lines of metadata, selections, orders and load rules.
-use Rattle.std.specs.Prelude.{ℕ, Bool, ◌==◌, ◌||◌, if◌then◌else◌, List, [], codes, Option, Some, None}
-use Rattle.std.specs.Cmp.Lexicographic.{pointwise}
+use Rattle.std.specs.Prelude.{ℕ, Bool, ◌||◌, if◌then◌else◌, List, [], codes, Option, Some, None}
 use Rattle.edit_batches.specs.declared.op.Op.TheVariants as op
 use Rattle.usd_names.specs.Names.{is_identifier}
+use Rattle.usda_lists.specs.References.{same_text}
 use Rattle.usda_fields.specs.declared.owner.OrderWord.{OrderWord}
 use Rattle.usda_fields.specs.declared.owner.OrderWord.TheVariants.{NameChildren, PropertyNames}
 use Rattle.script_words.specs.Answers.{◌>>=◌}
@@ -15,27 +15,23 @@ use Rattle.script_lines.specs.Places.{target_at, prim_base, changed}
 use Rattle.script_lines.specs.declared.line.Line.{Line}
 use Rattle.script_lines.specs.declared.line.Line.TheVariants.{Change}
 
--- two texts are one, byte by byte
-abbrev pub is_text : List ℕ → List ℕ → Bool
-is_text a b = pointwise ◌==◌ a b
-
 -- ---- metadata
 
 -- the words of list fields
 abbrev pub is_path_field : List ℕ → Bool
-is_path_field word = is_text word (codes "inherits") || is_text word (codes "specializes")
+is_path_field word = same_text word (codes "inherits") || same_text word (codes "specializes")
 
 abbrev pub is_reference_field : List ℕ → Bool
-is_reference_field word = is_text word (codes "references") || is_text word (codes "payload")
+is_reference_field word = same_text word (codes "references") || same_text word (codes "payload")
 
 abbrev pub is_text_field : List ℕ → Bool
-is_text_field word = is_text word (codes "variantSets") || (is_text word (codes "apiSchemas") || is_text word (codes "clipSets"))
+is_text_field word = same_text word (codes "variantSets") || (same_text word (codes "apiSchemas") || same_text word (codes "clipSets"))
 
 -- words that a layer's text gives another meaning, so that they are no keys
 unfoldable pub is_no_key : List ℕ → Bool
 is_no_key word =
     is_path_field word || (is_reference_field word || (is_text_field word
-    || (is_text word (codes "variants") || (is_text word (codes "subLayers") || is_text word (codes "relocates")))))
+    || (same_text word (codes "variants") || (same_text word (codes "subLayers") || same_text word (codes "relocates")))))
 
 -- a key and what stands behind it
 unfoldable pub key_at : List ℕ → Option (List ℕ × List ℕ)
@@ -71,7 +67,7 @@ unselect_line bytes = target_at bytes >>= λ t. set_at t.2 >>= λ set. changed (
 
 -- `nameChildren` orders children, `properties` properties, and no other word orders
 unfoldable pub order_of : List ℕ → Option OrderWord
-order_of word = if is_text word (codes "nameChildren") then Some NameChildren else if is_text word (codes "properties") then Some PropertyNames else None
+order_of word = if same_text word (codes "nameChildren") then Some NameChildren else if same_text word (codes "properties") then Some PropertyNames else None
 
 -- names in brackets, in which repeats stay
 unfoldable pub names_in : List ℕ → Option (List (List ℕ))

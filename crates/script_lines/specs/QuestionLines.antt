@@ -1,10 +1,8 @@
 -- Lines that ask.
-use Rattle.std.specs.Prelude.{ℕ, ℤ, if◌then◌else◌, List, Option, Some, None}
+use Rattle.std.specs.Prelude.{ℕ, if◌then◌else◌, List, Option, Some, None}
 use Rattle.sdf_paths.specs.Paths.{is_property}
 use Rattle.sdf_paths.specs.declared.element.Element.{Element}
-use Rattle.sdf_values.specs.declared.decimal.Num.{Num}
-use Rattle.sdf_values.specs.declared.decimal.Num.TheVariants.{Finite}
-use Rattle.usda_values.specs.Scalars.{time_of}
+pub use Rattle.usda_values.specs.Scalars.{finite_time as time_in}
 use Rattle.stage_questions.specs.declared.question.Question.{Question}
 use Rattle.stage_questions.specs.declared.question.Question.TheVariants as question
 use Rattle.script_words.specs.Answers.{◌>>=◌}
@@ -15,11 +13,6 @@ use Rattle.script_lines.specs.declared.line.Line.TheVariants.{Ask}
 -- the path of a property, and the bytes behind it
 unfoldable pub property_at : List ℕ → Option (List Element × List ℕ)
 property_at bytes = path_at bytes >>= λ p. if is_property p.0 then Some p else None
-
--- the time that a number is; `inf` and `nan` are none
-unfoldable pub time_in : Num → Option ℤ
-time_in (Finite d) = time_of d
-time_in x = None
 
 -- a question, where nothing follows
 unfoldable pub asked : Question → List ℕ → Option Line

@@ -12,11 +12,11 @@ use edit_batches::{
 };
 use plain_data::Items;
 use script_words::{
-    LineFault, ListItems, ListPlace, behind_word, first_paths, first_references, first_texts,
-    layer_at, list_in, name_at,
+    LineFault, ListItems, ListPlace, behind_word, first_references, layer_at, list_in, name_at,
 };
 use sdf_paths::Path;
 use std::alloc::Global;
+use usda_lists::{first_paths, first_texts};
 
 #[tactic(auto, unfolding(crate::specs::FieldLines::paths_list))]
 fn paths_list(alloc: Global, word: &str, base: &Path, bytes: &[u8]) -> Result<FieldList, LineFault>

@@ -1,7 +1,6 @@
 //! Reads a line.
 ghost use Rattle.std.specs.Prelude.{◌≡◌, ◌≤◌, IfOk, length};
 ghost use Rattle.std.specs.Str.{is_utf8};
-ghost use Rattle.usda_lexer.specs.Blanks.{is_blank, begins};
 ghost use Rattle.script_words.specs.Answers.{Finds};
 ghost use Rattle.script_lines.specs.Lines.{open_line, field_worded, value_worded, spec_worded, question_worded, worded, begins_comment, is_open_comment, comment_line, word_line, line_from, blanks_len, line_of};
 
@@ -22,7 +21,7 @@ use crate::value_lines::{clear_line, sample_line, set_line, unsample_line};
 use script_words::{LineFault, ended, layer_at, name_at, tokens_of};
 use stage_questions::Question;
 use std::alloc::{AllocError, Global};
-use usda_lexer::{LexFault, Tokens};
+use usda_lexer::{LexFault, Tokens, begins, is_blank};
 
 // Behind `open`: a layer.
 #[tactic(auto, unfolding(crate::specs::Lines::open_line))]
@@ -115,15 +114,6 @@ fn worded(alloc: Global, word: &str, bytes: &[u8]) -> Result<Line, LineFault>
     }
 }
 
-fn begins(c: u8, bytes: &[u8]) -> bool
-    ensures { result ≡ begins c bytes.now }
-{
-    match bytes {
-        [] => false,
-        [first, ..] => *first == c,
-    }
-}
-
 // Whether a byte, before these, begins a comment.
 fn begins_comment(c: u8, rest: &[u8]) -> bool
     ensures { result ≡ begins_comment c rest.now }
@@ -177,12 +167,6 @@ fn line_from(alloc: Global, bytes: &[u8]) -> Result<Line, LineFault>
     } else {
         word_line(alloc, bytes)
     }
-}
-
-fn is_blank(c: u8) -> bool
-    ensures { result ≡ is_blank c }
-{
-    c == b' ' || c == b'\t' || c == b'\r' || c == b'\n'
 }
 
 // How many blanks stand in front.

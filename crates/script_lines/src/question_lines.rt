@@ -1,15 +1,14 @@
 //! Lines that ask.
 ghost use Rattle.std.specs.Prelude.{◌≡◌};
 ghost use Rattle.script_words.specs.Answers.{Finds, FindsAs};
-ghost use Rattle.script_lines.specs.QuestionLines.{property_at, time_in, asked, value_line, default_line, samples_line, targets_line, children_line, faults_line, sites_line};
+ghost use Rattle.script_lines.specs.QuestionLines.{property_at, asked, value_line, default_line, samples_line, targets_line, children_line, faults_line, sites_line};
 
 use crate::line::Line;
 use script_words::{LineFault, ended, number_at, path_at};
 use sdf_paths::Path;
-use sdf_values::{Num, TimeCode};
 use stage_questions::Question;
 use std::alloc::Global;
-use usda_values::time_of;
+use usda_values::finite_time;
 
 // The path of a property, and the bytes behind it.
 #[tactic(auto, unfolding(crate::specs::QuestionLines::property_at))]
@@ -21,17 +20,6 @@ fn property_at(alloc: Global, bytes: &[u8]) -> Result<(Path, &[u8]), LineFault>
         Ok((path, rest))
     } else {
         Err(LineFault::Bad)
-    }
-}
-
-// The time that a number is; `inf` and `nan` are none.
-#[tactic(auto, unfolding(crate::specs::QuestionLines::time_in))]
-fn time_in(number: Num) -> Option<TimeCode>
-    ensures { result ≡ time_in number }
-{
-    match number {
-        Num::Finite(number) => time_of(number),
-        _ => None,
     }
 }
 
@@ -50,7 +38,7 @@ pub fn value_line(alloc: Global, bytes: &[u8]) -> Result<Line, LineFault>
 {
     let (path, rest) = property_at(alloc, bytes)?;
     let (number, rest) = read_or_drop!(number_at(rest), path);
-    let time = read_or_drop!(time_in(number).ok_or(LineFault::Bad), path);
+    let time = read_or_drop!(finite_time(number).ok_or(LineFault::Bad), path);
     asked(Question::Value { path, time }, rest)
 }
 

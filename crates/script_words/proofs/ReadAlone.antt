@@ -22,7 +22,8 @@ use Rattle.usda_values.specs.declared.shape.Shape.TheVariants.{Untyped}
 use Rattle.script_words.specs.Answers.{◌>>=◌, made}
 use Rattle.script_words.specs.Values.{unless_fault, of_all, value_from, value_in}
 use Rattle.script_words.specs.Words.{lexer_of}
-use Rattle.script_words.specs.Laws.{absolute_text, put_word, absolute_words, IsValueOf, ValuesAreRead}
+use Rattle.script_words.specs.Laws.{absolute_text, put_word, absolute_words, IsValueOf, LineValuesAreRead}
+use Rattle.composition.proofs.Tests.{by_test}
 
 -- ---- cases
 
@@ -33,10 +34,6 @@ by_option (Some x) none some = some x refl
 by_result : {A E R : Type 0} → (r : Result A E) → ((x : A) → r ≡ Ok x → R) → ((e : E) → r ≡ Err e → R) → R
 by_result (Ok x) ok err = ok x refl
 by_result (Err e) ok err = err e refl
-
-by_test : {R : Type 0} → (b : Bool) → (b ≡ true → R) → (b ≡ false → R) → R
-by_test true on off = on refl
-by_test false on off = off refl
 
 nothing : {A R : Type 0} {x : A} → None ≡ Some x → R
 nothing e = absurd cc
@@ -244,5 +241,5 @@ back_again base bytes v w =
     ∙ ap (λ (f : Option LexFault). unless_fault f (value_from base (open_with first_draft) (left w.tokens).words)) w.good
     ∙ backward base 0 (left w.tokens).words a.words first_draft v a.absolute a.read
 
-pub values_are_read : ValuesAreRead
-values_are_read base bytes v = (there base bytes v, back_again base bytes v)
+pub line_values_are_read : LineValuesAreRead
+line_values_are_read base bytes v = (there base bytes v, back_again base bytes v)

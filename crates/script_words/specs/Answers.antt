@@ -1,8 +1,8 @@
 -- What reading a part of a line answers.
 use Rattle.std.specs.Prelude.{◌≡◌, Option, Some, None, Result, Ok, Err}
 use Rattle.sdf_values.specs.declared.refusal.RefusalKind.{RefusalKind}
-use Rattle.usda_values.specs.declared.fault.ActFault.{ActFault}
-use Rattle.usda_values.specs.declared.fault.ActFault.TheVariants as act
+use Rattle.usda_values.specs.declared.fault.PartFault.{PartFault}
+use Rattle.usda_values.specs.declared.fault.PartFault.TheVariants as act
 use Rattle.script_words.specs.declared.fault.LineFault.{LineFault}
 use Rattle.script_words.specs.declared.fault.LineFault.TheVariants.{Bad, NoMemory}
 
@@ -31,7 +31,7 @@ Goes (Err Bad) before after = before ≡ None
 Goes (Err NoMemory) before after = Unit {0}
 
 -- a refusal of a token is one of the line
-abbrev pub of_act : ActFault → LineFault
+abbrev pub of_act : PartFault → LineFault
 of_act (act.Refused k) = Bad
 of_act act.NoMemory = NoMemory
 

@@ -43,5 +43,5 @@ pub record IsValueOf (base : List Element) (bytes : List ℕ) (v : Value) : Type
   pub alone : (end : ℕ) → IsReadAlone base end (left tokens).words v
 
 -- a value of a line is what the reader of values reads alone
-abbrev pub ValuesAreRead : Type 0
-ValuesAreRead = (base : List Element) (bytes : List ℕ) (v : Value) → (value_in base bytes ≡ Some v) ↔ IsValueOf base bytes v
+abbrev pub LineValuesAreRead : Type 0
+LineValuesAreRead = (base : List Element) (bytes : List ℕ) (v : Value) → (value_in base bytes ≡ Some v) ↔ IsValueOf base bytes v

@@ -8,7 +8,7 @@ use Rattle.std.proofs.lemmas.Map.Lookups.{exact_bytes}
 use Rattle.sdf_paths.specs.contracts.path.PathPartialEq.TheImpl.{ghosts as path_eq}
 use Rattle.sdf_paths.specs.contracts.path.PathOrd.TheImpl.{ghosts as path_order}
 use Rattle.sdf_paths.specs.declared.element.Element.{Element}
-use Rattle.sdf_paths.specs.PathOrder.{path_equal, path_tie}
+use Rattle.sdf_paths.specs.PathOrder.{path_equal, path_is, path_tie}
 use Rattle.sdf_paths.specs.Order.{text_cmp}
 use Rattle.plain_data.specs.Exact.{both_true, option_same, option_tie, text_same, then_both}
 use Rattle.sdf_values.specs.Numbers.{DecimalNumber}
@@ -19,7 +19,6 @@ use Rattle.sdf_values.specs.declared.decimal.Num.TheVariants.{Finite, Inf, NegIn
 use Rattle.edit_batches.specs.declared.written.WrittenOffset.{WrittenOffset}
 use Rattle.edit_batches.specs.declared.written.WrittenReference.{WrittenReference}
 use Rattle.usda_lists.specs.References.{same_text, same_path}
-use Rattle.usda_lists.specs.Repeats.{path_is}
 use Rattle.script_words.specs.contracts.repeats.OrderedReferencePartialEq.TheImpl.{ghosts as reference_eq}
 use Rattle.script_words.specs.contracts.repeats.OrderedReferenceOrd.TheImpl.{ghosts as reference_order}
 

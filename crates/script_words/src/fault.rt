@@ -1,5 +1,5 @@
 use std::alloc::AllocError;
-use usda_values::ActFault;
+use usda_values::PartFault;
 
 /// Why a part of a line was not read.
 #[derive(Clone, Copy, Debug, PartialEq, Eq)]
@@ -21,16 +21,16 @@ impl From<AllocError> for LineFault {
     }
 }
 
-impl From<ActFault> for LineFault {
+impl From<PartFault> for LineFault {
     ghost use Rattle.std.specs.Prelude.{◌≡◌};
     ghost use Rattle.script_words.specs.Answers.{of_act};
 
     ghost from_gives = { λ fault e. e ≡ of_act fault };
 
-    fn from(fault: ActFault) -> LineFault {
+    fn from(fault: PartFault) -> LineFault {
         match fault {
-            ActFault::Refused(_) => LineFault::Bad,
-            ActFault::NoMemory => LineFault::NoMemory,
+            PartFault::Refused(_) => LineFault::Bad,
+            PartFault::NoMemory => LineFault::NoMemory,
         }
     }
 }

@@ -14,10 +14,10 @@ mod words;
 
 pub use fault::LineFault;
 pub use items::ListItems;
-pub use laws::values_are_read;
+pub use laws::line_values_are_read;
 pub use list::{ListDraft, list_in};
 pub use place::{ItemForm, ListPlace};
-pub use repeats::{first_paths, first_references, first_texts};
+pub use repeats::first_references;
 pub use value::value_in;
 pub use words::{
     behind_word, ended, flag_at, is_end, layer_at, layer_named, name_at, number_at, path_at,

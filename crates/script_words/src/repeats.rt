@@ -1,55 +1,18 @@
-//! Lists of which the first of each item is kept.
+//! Lists of references of which the first of each is kept.
 ghost use Rattle.std.specs.Prelude.{◌≡◌, IfOk};
 ghost use Rattle.list_ops.specs.ListEdits.{firsts};
-ghost use Rattle.usda_lists.specs.References.{same_text, same_path};
 ghost use Rattle.script_words.specs.Repeats.{same_reference};
 
 use edit_batches::{WrittenOffset, WrittenReference};
-use list_ops::ListOp;
+use list_ops::firsts_ordered;
 use plain_data::{ExactClone, ExactEq, ExactOrd, Items, Text};
 use sdf_paths::Path;
 use sdf_values::Num;
 use std::alloc::{AllocError, Global};
 use std::marker::Model;
 
-// The first of each item. With `n` items it makes `n log n` comparisons.
-fn firsts<T: ExactEq + ExactOrd + ExactClone + Drop>(
-    alloc: Global,
-    items: Items<T>,
-) -> Result<Items<T>, AllocError>
-    ensures { IfOk result (λ kept. kept ≡ firsts T.eq items) }
-{
-    let mut kept = Vec::new(alloc);
-    let mut op = ListOp::new(alloc);
-    op.explicit = Some(items);
-    match op.apply_ordered(&mut kept) {
-        Ok(()) => {
-            drop(op);
-            Ok(Items::from_vec(kept))
-        }
-        Err(error) => {
-            drop((op, kept));
-            Err(error)
-        }
-    }
-}
-
-/// The first of each text.
-pub fn first_texts(alloc: Global, items: Items<Text>) -> Result<Items<Text>, AllocError>
-    ensures { IfOk result (λ kept. kept ≡ firsts same_text items) }
-{
-    firsts(alloc, items)
-}
-
-/// The first of each path.
-pub fn first_paths(alloc: Global, items: Items<Path>) -> Result<Items<Path>, AllocError>
-    ensures { IfOk result (λ kept. kept ≡ firsts same_path items) }
-{
-    firsts(alloc, items)
-}
-
 /// A reference in an order.
-#[derive(Clone, Debug, Drop, PartialEq, Eq, PartialOrd, Ord)]
+#[derive(Clone, Drop, PartialEq, Eq, PartialOrd, Ord)]
 struct OrderedReference {
     asset: Option<Text>,
     path: Option<Path>,
@@ -138,6 +101,7 @@ pub fn first_references(
 ) -> Result<Items<WrittenReference>, AllocError>
     ensures { IfOk result (λ kept. kept ≡ firsts same_reference items) }
 {
-    let kept = firsts(alloc, ordered(alloc, items)?)?;
+    let all = ordered(alloc, items)?;
+    let kept = firsts_ordered(alloc, all.as_slice())?;
     unordered(alloc, kept)
 }

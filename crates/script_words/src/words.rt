@@ -2,7 +2,7 @@
 ghost use Rattle.std.specs.Prelude.{◌≡◌, ◌≤◌, IfSome, drop, length, slice_range};
 ghost use Rattle.std.specs.List.{prefix_len};
 ghost use Rattle.std.specs.Option.{option_copied, option_map};
-ghost use Rattle.usda_lexer.specs.Blanks.{is_blank, IsGap};
+ghost use Rattle.usda_lexer.specs.Blanks.{IsGap};
 ghost use Rattle.usda_lexer.specs.Meanings.{string_text};
 ghost use Rattle.usda_lexer.specs.Words.{left, word_of};
 ghost use Rattle.script_words.specs.Answers.{Finds, FindsAs};
@@ -11,11 +11,12 @@ ghost use Rattle.script_words.specs.Words.{lexer_of, token_at, is_over, is_end, 
 use crate::fault::LineFault;
 use asset_names::{AssetFault, AssetId};
 use plain_data::Text;
-use sdf_paths::Path;
+use sdf_paths::{Path, path_of};
 use sdf_values::Num;
 use std::alloc::Global;
-use usda_lexer::{LexFault, Token, TokenKind, Tokens, asset_text, number_of, string_text};
-use usda_lists::path_of;
+use usda_lexer::{
+    LexFault, Token, TokenKind, Tokens, asset_text, is_blank, number_of, string_text,
+};
 
 /// The tokens of the bytes; nothing where these are not UTF-8.
 #[tactic(auto, unfolding(crate::specs::Words::lexer_of))]
@@ -156,12 +157,6 @@ pub fn layer_at(alloc: Global, bytes: &[u8]) -> Result<(AssetId, &[u8]), LineFau
         }
         _ => Err(LineFault::Bad),
     }
-}
-
-fn is_blank(c: u8) -> bool
-    ensures { result ≡ is_blank c }
-{
-    c == b' ' || c == b'\t' || c == b'\r' || c == b'\n'
 }
 
 // How far it is to the next blank.

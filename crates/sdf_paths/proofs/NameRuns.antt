@@ -4,7 +4,7 @@ use Rattle.std.specs.Cmp.Lexicographic.{pointwise}
 use Rattle.std.specs.List.{list_all, list_any}
 use Rattle.std.specs.Str.{chars, is_utf8, encode_utf8_all}
 use Rattle.std.specs.Prelude.{encode_utf8, codes}
-use Rattle.std.proofs.lemmas.Bool.{and_parts, cases_Bool, eqb-true}
+use Rattle.std.proofs.lemmas.Bool.{and_parts, cases_Bool, eqb-true, or_parts}
 use Rattle.std.proofs.lemmas.Str.{encodes-chars, encode_ascii, IsUtf8-from_is_utf8}
 use Rattle.unicode_ident.specs.Ident.{is_xid_continue}
 use Rattle.unicode_ident.proofs.IdentLemmas.{is_xid_start-ascii, is_xid_continue-ascii}
@@ -235,10 +235,6 @@ property_chars name h =
 pub property_no_number : (name : List ℕ) → is_property_name name ≡ true → is_number_word name ≡ false
 property_no_number name h = (property_parts name h).other
 
-neither : (a b : Bool) → (a || b) ≡ false → (a ≡ false) × (b ≡ false)
-neither true b h = absurd cc
-neither false b h = (refl, h)
-
 pub and_false : (b : Bool) → (b && false) ≡ false
 and_false true = refl
 and_false false = refl
@@ -246,9 +242,9 @@ and_false false = refl
 -- a text that ends in `x` is no word without one
 ends_in_x : (name word : List ℕ) → list_any (λ c. 120 == c) word ≡ false → pointwise ◌==◌ (name ++ 120 ∷ []) word ≡ false
 ends_in_x [] [] h = refl
-ends_in_x [] (w ∷ word) h = ap (λ b. b && pointwise ◌==◌ [] word) (neither (120 == w) (list_any (λ c. 120 == c) word) h).0
+ends_in_x [] (w ∷ word) h = ap (λ b. b && pointwise ◌==◌ [] word) (or_parts (120 == w) (list_any (λ c. 120 == c) word) h).0
 ends_in_x (c ∷ name) [] h = refl
-ends_in_x (c ∷ name) (w ∷ word) h = ap (λ b. (c == w) && b) (ends_in_x name word (neither (120 == w) (list_any (λ c. 120 == c) word) h).1) ∙ and_false (c == w)
+ends_in_x (c ∷ name) (w ∷ word) h = ap (λ b. (c == w) && b) (ends_in_x name word (or_parts (120 == w) (list_any (λ c. 120 == c) word) h).1) ∙ and_false (c == w)
 
 -- so it is no number
 pub no_number_with_x : (name : List ℕ) → is_number_word (name ++ encode_utf8 120) ≡ false

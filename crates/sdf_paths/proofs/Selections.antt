@@ -1,19 +1,19 @@
 -- A path with a selection more, and names of variants.
-use Rattle.std.proofs.Common.{◌≡◌, ℕ, ◌+◌, ◌≤◌, Bool, true, false, ◌&&◌, List, [], ◌∷◌, ◌++◌, Option, Some, None, refl, sym, ap, ◌∙◌, arith, length, length-append, not, ◌||◌}
+use Rattle.std.proofs.Common.{◌≡◌, ℕ, ◌+◌, ◌≤◌, Bool, true, false, ◌&&◌, List, [], ◌∷◌, ◌++◌, Option, Some, None, refl, ap, ◌∙◌, arith, length, length-append, not}
 use Rattle.std.specs.Prelude.{encode_utf8, ◌==◌, if◌then◌else◌}
 use Rattle.std.specs.List.{list_all}
 use Rattle.std.specs.Str.{chars, IsUtf8}
-use Rattle.std.proofs.lemmas.Bool.{and_parts}
+use Rattle.std.proofs.lemmas.Bool.{and_from, and_parts}
 use Rattle.std.proofs.lemmas.List.Folds.{list_all-append}
 use Rattle.std.proofs.lemmas.Str.{chars_past_char, chars-nil}
-use Rattle.usd_names.specs.Names.{is_identifier, is_variant, is_variant_character, spells_run, spells_variant}
-use Rattle.sdf_paths.specs.Paths.{IsPath, is_empty, is_ordered, is_property, is_well_named, is_prim_name, depth, ends_selected, printed, written, written_all}
+use Rattle.usd_names.specs.Names.{is_identifier, is_variant, is_variant_character, spells_run}
+use Rattle.sdf_paths.specs.Paths.{IsPath, is_empty, is_property, is_well_named, depth, ends_selected, written, written_all}
 use Rattle.sdf_paths.specs.Variants.{ends_variant, part_after, run_part, is_whole}
 use Rattle.sdf_paths.specs.declared.element.Element.{Element}
-use Rattle.sdf_paths.specs.declared.element.Element.TheVariants.{Prim, Property, Selection}
+use Rattle.sdf_paths.specs.declared.element.Element.TheVariants.{Prim, Selection}
 use Rattle.sdf_paths.specs.declared.variants.VariantPart.{VariantPart}
 use Rattle.sdf_paths.specs.declared.variants.VariantPart.TheVariants.{Start, Dotted, Run}
-use Rattle.sdf_paths.proofs.Shapes.{both_hold, depth_joined, length_joined, length_printed, named_back, ordered_joined, path_of}
+use Rattle.sdf_paths.proofs.Shapes.{depth_joined, length_joined, length_printed, named_back, ordered_joined, path_of}
 
 -- ---- names of variants
 
@@ -61,7 +61,7 @@ pub select_path : (path : List Element) (s v : List ℕ) → IsPath path → is_
     → length (written_all false path) + (3 + length s + length v) ≤ 4096 → IsPath (path ++ Selection s v ∷ [])
 select_path path s v h prim some set variant short = path_of (path ++ Selection s v ∷ [])
     (ordered_joined path (Selection s v ∷ []) false h.well_formed.ordered prim (ap not some) refl)
-    (list_all-append is_well_named path (Selection s v ∷ []) ∙ both_hold _ _ h.well_formed.named (both_hold (is_identifier s && is_variant v) true (both_hold _ _ set variant) refl))
+    (list_all-append is_well_named path (Selection s v ∷ []) ∙ and_from _ _ h.well_formed.named (and_from (is_identifier s && is_variant v) true (and_from _ _ set variant) refl))
     (omega (arith, h.well_formed.few, depth_joined path (Selection s v ∷ []), depth_one s v)) (omega (arith, short, length_more path s v))
 
 pub select_some : (path : List Element) (s v : List ℕ) → IsPath (path ++ Selection s v ∷ []) → is_empty path ≡ false

@@ -1,7 +1,8 @@
 -- Parts of paths, and paths that are put together.
-use Rattle.std.proofs.Common.{◌≡◌, ℕ, ◌+◌, ◌<◌, ◌≤◌, Bool, true, false, cond, not, ◌&&◌, ◌||◌, List, [], ◌∷◌, ◌++◌, Option, Some, None, refl, sym, ap, ◌∙◌, subst, append_assoc, append-nil, arith, length, length-append}
+use Rattle.std.proofs.Common.{◌≡◌, ℕ, ◌+◌, ◌<◌, ◌≤◌, Bool, true, false, cond, not, ◌||◌, List, [], ◌∷◌, ◌++◌, Option, Some, None, refl, sym, ap, ◌∙◌, subst, append_assoc, append-nil, arith, length, length-append}
 use Rattle.std.specs.List.{list_all}
-use Rattle.std.proofs.lemmas.Bool.{and_parts}
+use Rattle.std.proofs.lemmas.Bool.{and_from, and_parts}
+pub use Rattle.std.proofs.lemmas.Bool.{and_from as both_hold}
 use Rattle.std.proofs.lemmas.List.Folds.{list_all-append}
 use Rattle.std.proofs.lemmas.List.Sums.{sum_by-append, sum_by-cons}
 use Rattle.std.proofs.lemmas.Slice.Eq.{bytes_eq-Decides}
@@ -11,9 +12,6 @@ use Rattle.sdf_paths.specs.Paths.{same_element, rest_after, has_prefix, HasPrefi
 use Rattle.usd_names.specs.Names.{is_identifier}
 use Rattle.sdf_paths.specs.declared.element.Element.{Element}
 use Rattle.sdf_paths.specs.declared.element.Element.TheVariants.{Prim, Property, Selection}
-
-pub both_hold : (a b : Bool) → a ≡ true → b ≡ true → (a && b) ≡ true
-both_hold a b p q = rw (p, q) refl
 
 pub written_append : (xs ys : List Element) (a : Bool) → written_all a (xs ++ ys) ≡ written_all a xs ++ written_all (ends_selected a xs) ys
 written_append [] ys a = refl
@@ -29,8 +27,8 @@ depth_joined xs ys = sum_by-append (λ e. cond (is_prim_name e) 1 0) xs ys
 ordered_front : (xs ys : List Element) (named : Bool) → is_ordered named (xs ++ ys) ≡ true → is_ordered named xs ≡ true
 ordered_front [] ys named h = refl
 ordered_front (Prim n ∷ xs) ys named h = ordered_front xs ys true h
-ordered_front (Selection s v ∷ xs) ys named h = let both = and_parts named (is_ordered true (xs ++ ys)) h in both_hold _ _ both.0 (ordered_front xs ys true both.1)
-ordered_front (Property n ∷ []) ys named h = let both = and_parts named (is_empty ys) h in both_hold named true both.0 refl
+ordered_front (Selection s v ∷ xs) ys named h = let both = and_parts named (is_ordered true (xs ++ ys)) h in and_from _ _ both.0 (ordered_front xs ys true both.1)
+ordered_front (Property n ∷ []) ys named h = let both = and_parts named (is_empty ys) h in and_from named true both.0 refl
 ordered_front (Property n ∷ x ∷ xs) ys named h = absurd (cc (and_parts named false h).1)
 
 named_front : (xs ys : List Element) → list_all is_well_named (xs ++ ys) ≡ true → list_all is_well_named xs ≡ true
@@ -72,8 +70,8 @@ plain_ordered (Property n ∷ e ∷ path) named h = absurd (cc (and_parts named 
 
 plain_named : (path : List Element) → list_all is_well_named path ≡ true → list_all is_well_named (plain path) ≡ true
 plain_named [] h = refl
-plain_named (Prim n ∷ path) h = let both = and_parts _ (list_all is_well_named path) h in both_hold _ _ both.0 (plain_named path both.1)
-plain_named (Property n ∷ path) h = let both = and_parts _ (list_all is_well_named path) h in both_hold _ _ both.0 (plain_named path both.1)
+plain_named (Prim n ∷ path) h = let both = and_parts _ (list_all is_well_named path) h in and_from _ _ both.0 (plain_named path both.1)
+plain_named (Property n ∷ path) h = let both = and_parts _ (list_all is_well_named path) h in and_from _ _ both.0 (plain_named path both.1)
 plain_named (Selection s v ∷ path) h = let both = and_parts _ (list_all is_well_named path) h in plain_named path both.1
 
 depth_cons : (e : Element) (path : List Element) → depth (e ∷ path) ≡ cond (is_prim_name e) 1 0 + depth path
@@ -118,7 +116,7 @@ owner_path path h = let split = owner_split path false h.well_formed.ordered in 
 ordered_prim : (path : List Element) (named : Bool) (n : List ℕ) → is_ordered named path ≡ true → is_property path ≡ false → is_ordered named (path ++ Prim n ∷ []) ≡ true
 ordered_prim [] named n h prim = refl
 ordered_prim (Prim x ∷ path) named n h prim = ordered_prim path true n h prim
-ordered_prim (Selection s v ∷ path) named n h prim = let both = and_parts named (is_ordered true path) h in both_hold _ _ both.0 (ordered_prim path true n both.1 prim)
+ordered_prim (Selection s v ∷ path) named n h prim = let both = and_parts named (is_ordered true path) h in and_from _ _ both.0 (ordered_prim path true n both.1 prim)
 ordered_prim (Property x ∷ path) named n h prim = absurd cc
 
 written_prim : (a : Bool) (n : List ℕ) → length (written a (Prim n)) ≡ cond a 0 1 + length n
@@ -133,7 +131,7 @@ length_more path n =
 pub append_path : (path : List Element) (n : List ℕ) → IsPath path → is_property path ≡ false → is_identifier n ≡ true → depth path < 64
     → length (written_all false path) + (cond (ends_selected false path) 0 1 + length n) ≤ 4096 → IsPath (path ++ Prim n ∷ [])
 append_path path n h prim good few short = path_of (path ++ Prim n ∷ []) (ordered_prim path false n h.well_formed.ordered prim)
-    (list_all-append is_well_named path (Prim n ∷ []) ∙ both_hold _ _ h.well_formed.named (both_hold (is_identifier n) true good refl))
+    (list_all-append is_well_named path (Prim n ∷ []) ∙ and_from _ _ h.well_formed.named (and_from (is_identifier n) true good refl))
     (omega (arith, depth_joined path (Prim n ∷ []), depth_cons (Prim n) [])) (omega (arith, short, length_more path n))
 
 pub append_named : (path : List Element) (n : List ℕ) → IsPath (path ++ Prim n ∷ []) → is_identifier n ≡ true
@@ -215,7 +213,7 @@ ordered_joined [] ys true h prim some rest = rest
 ordered_joined [] ys false h prim some rest = absurd cc
 ordered_joined (Prim n ∷ xs) ys named h prim some rest = ordered_joined xs ys true h prim refl rest
 ordered_joined (Selection s v ∷ xs) ys named h prim some rest =
-    let both = and_parts named (is_ordered true xs) h in both_hold _ _ both.0 (ordered_joined xs ys true both.1 prim refl rest)
+    let both = and_parts named (is_ordered true xs) h in and_from _ _ both.0 (ordered_joined xs ys true both.1 prim refl rest)
 ordered_joined (Property n ∷ xs) ys named h prim some rest = absurd cc
 
 joined_ordered : (by rest : List Element) → is_ordered false by ≡ true → is_ordered true rest ≡ true → MayFollow by rest → is_ordered false (by ++ rest) ≡ true
@@ -232,7 +230,7 @@ joined_path front by path rest good whole is may few short =
     let split = prefix_is front path rest is in
     let ordered = ordered_back front rest false (ap (is_ordered false) (sym split) ∙ whole.well_formed.ordered) in
     let named = named_back front rest (ap (list_all is_well_named) (sym split) ∙ whole.well_formed.named) in
-    path_of (by ++ rest) (joined_ordered by rest good.well_formed.ordered ordered may) (list_all-append is_well_named by rest ∙ both_hold _ _ good.well_formed.named named)
+    path_of (by ++ rest) (joined_ordered by rest good.well_formed.ordered ordered may) (list_all-append is_well_named by rest ∙ and_from _ _ good.well_formed.named named)
     (omega (arith, few, depth_joined by rest)) short
 
 pub rest_length : (front path rest : List Element) → IsPath path → Some rest ≡ rest_after front path → length (written_all false rest) ≤ 4096 + 1
@@ -254,7 +252,7 @@ may_follow (x ∷ by) (e ∷ rest) some prim = prim
 same_itself : (e : Element) → same_element e e ≡ true
 same_itself (Prim a) = (bytes_eq-Decides a a).1 refl
 same_itself (Property a) = (bytes_eq-Decides a a).1 refl
-same_itself (Selection s v) = both_hold (bytes_eq s s) (bytes_eq v v) ((bytes_eq-Decides s s).1 refl) ((bytes_eq-Decides v v).1 refl)
+same_itself (Selection s v) = and_from (bytes_eq s s) (bytes_eq v v) ((bytes_eq-Decides s s).1 refl) ((bytes_eq-Decides v v).1 refl)
 
 rest_is : (front rest : List Element) → rest_after front (front ++ rest) ≡ Some rest
 rest_is [] rest = refl

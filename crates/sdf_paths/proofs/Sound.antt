@@ -4,7 +4,7 @@ use Rattle.std.specs.Prelude.{encode_utf8, nat_lt, if◌then◌else◌}
 use Rattle.std.specs.List.{list_all}
 use Rattle.std.specs.Str.{encode_utf8_all, chars, is_utf8}
 use lib.Utf8.{scalar, scalars}
-use Rattle.std.proofs.lemmas.Bool.{and_parts, cases_Bool, eqb-true}
+use Rattle.std.proofs.lemmas.Bool.{and_from, and_parts, cases_Bool, eqb-true}
 use Rattle.std.proofs.lemmas.List.Folds.{list_all-append, list_any-append}
 use Rattle.std.proofs.lemmas.List.Sums.{sum_by_push}
 use Rattle.std.proofs.lemmas.Str.{encodes-append, encode_ascii, chars-encodes, is_utf8-from_IsUtf8}
@@ -31,12 +31,9 @@ pub record IsPart (whole left : List ℕ → Bool) (name : List ℕ) : Type 0 wh
 part_empty : (whole : List ℕ → Bool) → IsPart whole whole []
 part_empty whole = record { cs = []; valid = refl; bytes = refl; rest = λ ds. refl }
 
-both_hold : (a b : Bool) → a ≡ true → b ≡ true → (a && b) ≡ true
-both_hold a b p q = rw (p, q) refl
-
 scalars_push : (cs : List ℕ) (c : ℕ) → scalars cs ≡ true → scalar c ≡ true → scalars (cs ++ c ∷ []) ≡ true
-scalars_push [] c h one = both_hold (scalar c) true one refl
-scalars_push (d ∷ cs) c h one = let both = and_parts (scalar d) (scalars cs) h in both_hold (scalar d) (scalars (cs ++ c ∷ [])) both.0 (scalars_push cs c both.1 one)
+scalars_push [] c h one = and_from (scalar c) true one refl
+scalars_push (d ∷ cs) c h one = let both = and_parts (scalar d) (scalars cs) h in and_from (scalar d) (scalars (cs ++ c ∷ [])) both.0 (scalars_push cs c both.1 one)
 
 part_push : (whole left left' : List ℕ → Bool) (name : List ℕ) (c : ℕ) → IsPart whole left name → scalar c ≡ true → ((ds : List ℕ) → left (c ∷ ds) ≡ left' ds) → IsPart whole left' (name ++ encode_utf8 c)
 part_push whole left left' name c part valid goes =
@@ -50,7 +47,7 @@ part_push whole left left' name c part valid goes =
 part_done : (whole left : List ℕ → Bool) (name : List ℕ) → IsPart whole left name → left [] ≡ true → (is_utf8 name && whole (chars name)) ≡ true
 part_done whole left name part ends =
     let spelled : chars name ≡ part.cs = ap chars (sym part.bytes) ∙ chars-encodes part.cs part.valid in
-    both_hold (is_utf8 name) (whole (chars name)) (is_utf8-from_IsUtf8 name (part.cs, (part.valid, part.bytes)))
+    and_from (is_utf8 name) (whole (chars name)) (is_utf8-from_IsUtf8 name (part.cs, (part.valid, part.bytes)))
     (ap whole spelled ∙ ap whole (sym (append-nil part.cs)) ∙ part.rest [] ∙ ends)
 
 -- ---- whole elements
@@ -78,14 +75,14 @@ spells_push (x ∷ elements) a text e is_bare (b, (more, (text_is, spelled))) = 
 )
 
 all_push : (elements : List Element) (e : Element) → list_all is_well_named elements ≡ true → is_well_named e ≡ true → list_all is_well_named (elements ++ e ∷ []) ≡ true
-all_push elements e h one = list_all-append is_well_named elements (e ∷ []) ∙ both_hold _ _ h (both_hold (is_well_named e) true one refl)
+all_push elements e h one = list_all-append is_well_named elements (e ∷ []) ∙ and_from _ _ h (and_from (is_well_named e) true one refl)
 
 -- a prim's name may follow all but a property
 ordered_prim : (elements : List Element) (named : Bool) (n : List ℕ) → is_ordered named elements ≡ true → is_property elements ≡ false → is_ordered named (elements ++ Prim n ∷ []) ≡ true
 ordered_prim [] named n h prim = refl
 ordered_prim (Prim x ∷ elements) named n h prim = ordered_prim elements true n h prim
 ordered_prim (Selection s v ∷ elements) named n h prim =
-    let both = and_parts named (is_ordered true elements) h in both_hold _ _ both.0 (ordered_prim elements true n both.1 prim)
+    let both = and_parts named (is_ordered true elements) h in and_from _ _ both.0 (ordered_prim elements true n both.1 prim)
 ordered_prim (Property x ∷ elements) named n h prim = absurd cc
 
 -- any element may follow a name
@@ -97,7 +94,7 @@ ordered_more [] true (Selection s v) h prim some = refl
 ordered_more [] false e h prim some = absurd cc
 ordered_more (Prim x ∷ elements) named e h prim some = ordered_more elements true e h prim refl
 ordered_more (Selection s v ∷ elements) named e h prim some =
-    let both = and_parts named (is_ordered true elements) h in both_hold _ _ both.0 (ordered_more elements true e both.1 prim refl)
+    let both = and_parts named (is_ordered true elements) h in and_from _ _ both.0 (ordered_more elements true e both.1 prim refl)
 ordered_more (Property x ∷ elements) named e h prim some = absurd cc
 
 pub some_push : (elements : List Element) (e : Element) → is_empty (elements ++ e ∷ []) ≡ false
@@ -289,7 +286,7 @@ property_done : (name : List ℕ) → IsPart (spells_joined false) (spells_joine
 unfolding is_property_name
 property_done name part other =
     let joined = and_parts (is_utf8 name) (spells_joined false (chars name)) (part_done (spells_joined false) (spells_joined true) name part refl) in
-    both_hold (is_utf8 name) (is_name name) joined.0 (both_hold (spells_joined false (chars name)) (not (is_number_word name)) joined.1 (ap not other))
+    and_from (is_utf8 name) (is_name name) joined.0 (and_from (spells_joined false (chars name)) (not (is_number_word name)) joined.1 (ap not other))
 
 marked : (elements : List Element) (names : ℕ) (mark mark' text : List ℕ) → mark ≡ mark' → InElement elements names mark text → InElement elements names mark' text
 marked elements names mark mark' text e h = subst (λ (m : List ℕ). InElement elements names m text) e h
@@ -369,7 +366,7 @@ variant_holds elements names set variant begun c text r h good part valid e =
     closed true part e whole = is_the _ r _ e (record {
       holds = (
         record {
-          whole = closes elements names (text ++ encode_utf8 c) (Selection set variant) whole (both_hold (is_identifier set) (is_variant variant) good (variant_done variant part)) refl;
+          whole = closes elements names (text ++ encode_utf8 c) (Selection set variant) whole (and_from (is_identifier set) (is_variant variant) good (variant_done variant part)) refl;
           prim = prim_push elements (Selection set variant) h.prim refl;
           some = some_push elements (Selection set variant);
         },

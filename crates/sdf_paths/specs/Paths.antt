@@ -1,5 +1,5 @@
 -- Paths as lists of elements from the root down: their shape, their one printed text, and the texts that are read as them.
-use Rattle.std.specs.Prelude.{◌≡◌, ℕ, ◌≤◌, Bool, true, false, not, cond, ◌&&◌, List, [], ◌∷◌, ◌++◌, length, filter, count_by, Option, Some, None, take, ◌-◌, slice_get, is_some, IsTrue}
+use Rattle.std.specs.Prelude.{◌≡◌, ℕ, ◌≤◌, Bool, true, false, not, cond, ◌&&◌, List, [], ◌∷◌, ◌++◌, codes, length, filter, count_by, Option, Some, None, take, ◌-◌, slice_get, is_some, IsTrue}
 use Rattle.std.specs.Option.{option_map}
 use Rattle.std.specs.Str.{bytes_eq}
 use Rattle.std.specs.List.{list_all, list_any}
@@ -65,6 +65,10 @@ written_all after (e ∷ rest) = written after e ++ written_all (is_selection e)
 abbrev pub printed : List Element → List ℕ
 printed [] = 47 ∷ []
 printed (e ∷ rest) = written_all false (e ∷ rest)
+
+-- a path between `<` and `>`
+abbrev pub path_text : List Element → List ℕ
+path_text path = codes "<" ++ printed path ++ codes ">"
 
 -- a path: well formed, and of at most 4,096 bytes in print
 pub record IsPath (path : List Element) : Type 0 where

@@ -1,5 +1,5 @@
 -- A reader of paths as a machine over characters: what each character adds to what has been read.
-use Rattle.std.specs.Prelude.{◌≡◌, ℕ, ◌+◌, nat_lt, Bool, true, false, ◌==◌, List, [], ◌∷◌, ◌++◌, Option, Some, None, if◌then◌else◌, encode_utf8, length, ◌≤◌, ◌<◌, ◌⊎◌}
+use Rattle.std.specs.Prelude.{◌≡◌, ℕ, ◌+◌, nat_lt, nat_le, Bool, true, false, ◌==◌, List, [], ◌∷◌, ◌++◌, Option, Some, None, if◌then◌else◌, encode_utf8, length, ◌≤◌, ◌<◌, ◌⊎◌}
 use Rattle.std.specs.Str.{chars, encode_utf8_all}
 use Rattle.usd_names.specs.Names.{is_start, is_variant_character, goes_on, is_number_word}
 use Rattle.sdf_paths.specs.declared.element.Element.{Element}
@@ -119,6 +119,15 @@ after_all (c ∷ cs) (Some r) = after_all cs (step r c)
 -- what has been read after the first characters of a text
 abbrev pub after : List ℕ → Option Reader
 after cs = after_all cs (Some start)
+
+-- the path that has been read, where the text may end there
+abbrev pub finished : Option Reader → Option (List Element)
+finished None = None
+finished (Some r) = finish r
+
+-- the path of a text from the root down, if it is one and passes no limit
+unfoldable pub path_of : List ℕ → Option (List Element)
+path_of text = if nat_le (length text) 4096 then finished (after (chars text)) else None
 
 -- the whole text is read, and gives the path
 pub record RunsTo (text : List ℕ) (path : List Element) : Type 0 where

@@ -10,9 +10,13 @@ mod fault;
 mod looks;
 mod path;
 mod reader;
+mod texts;
 mod variants;
 
 pub use element::Element;
 pub use fault::PathFault;
+pub use looks::is_selection;
 pub use path::Path;
 pub use reader::{MAX_BYTES, MAX_NAMES};
+pub use texts::{path_of, push_path, push_path_text};
+pub use variants::is_variant;

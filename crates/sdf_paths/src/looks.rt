@@ -31,6 +31,7 @@ fn write_element(out: &mut String, after: bool, element: &Element) -> Result<(),
     }
 }
 
+/// Whether an element selects a variant.
 pub fn is_selection(element: &Element) -> bool
     ensures { result ≡ is_selection element.now }
 {
@@ -56,12 +57,14 @@ pub fn print(alloc: Global, elements: &[Element]) -> Result<String, AllocError>
     Ok(out)
 }
 
+/// Whether some element is the name of a property. In a path it is the last.
 pub fn is_property(elements: &[Element]) -> bool
     ensures { result ≡ is_property elements.now }
 {
     elements.iter().any(is_property_part)
 }
 
+/// Whether an element is the name of a property.
 pub fn is_property_part(element: &Element) -> bool
     ensures { result ≡ is_property_part element.now }
 {
@@ -71,18 +74,21 @@ pub fn is_property_part(element: &Element) -> bool
     }
 }
 
+/// Whether no element selects a variant.
 pub fn is_plain(elements: &[Element]) -> bool
     ensures { result ≡ is_plain elements.now }
 {
     elements.iter().all(|element| !is_selection(element))
 }
 
+/// How many elements are names of prims.
 pub fn depth(elements: &[Element]) -> usize
     ensures { result ≡ depth elements.now }
 {
     elements.iter().filter(|element| is_prim(element)).count()
 }
 
+/// Whether an element is the name of a prim.
 pub fn is_prim(element: &Element) -> bool
     ensures { result ≡ is_prim_name element.now }
 {

@@ -15,7 +15,7 @@ pub const MAX_NAMES: usize = 64;
 pub const MAX_BYTES: usize = 4096;
 
 /// The part of a path that is being read.
-#[derive(Debug, Drop)]
+#[derive(Drop)]
 pub enum Open {
     /// No character has been read.
     Nothing,
@@ -50,14 +50,18 @@ pub enum Open {
 
 /// What has been read of a path: whole elements, the part that is open, and how many names of prims
 /// there are in all.
-#[derive(Debug, Drop)]
+#[derive(Drop)]
 pub struct Reader {
+    /// The elements that are whole.
     pub elements: Items<Element>,
+    /// How many names of prims there are, with one that is open.
     pub names: usize,
+    /// The part that is open.
     pub open_part: Open,
 }
 
 impl Reader {
+    /// No character was read.
     pub fn new(alloc: Global) -> Reader
         ensures { result ≡ start }
     {

@@ -1,6 +1,6 @@
 -- The order of paths, and paths that begin with another.
 use Rattle.std.proofs.Common.{◌≡◌, ◌&&◌, ◌∙◌, sym, ap, refl, subst, ℕ, Bool, true, false, List, [], ◌∷◌, Option, None}
-use Rattle.std.specs.Cmp.{IsTotalOrder, then_total, on_total}
+use Rattle.std.specs.Cmp.{IsTotalOrder, then_total, on_total, Equal-is}
 use Rattle.std.specs.Cmp.Lexicographic.{nat_list_cmp_total, bytes_decides}
 use Rattle.std.specs.Ordering.{ordering_then, ordering_reverse, is_le, is_eq}
 use Rattle.std.specs.Option.{is_some}
@@ -13,10 +13,7 @@ use Rattle.sdf_paths.specs.DerivedOrder.{element_cmp_same, path_cmp_same}
 use Rattle.sdf_paths.specs.Paths.{same_element, rest_after, has_prefix}
 use Rattle.sdf_paths.specs.declared.element.Element.{Element}
 use Rattle.sdf_paths.specs.declared.element.Element.TheVariants.{Prim, Property, Selection}
-
-pub by_test : (F : Bool → Type 0) → (b : Bool) → (b ≡ true → F true) → (b ≡ false → F false) → F b
-by_test F true on off = on refl
-by_test F false on off = off refl
+use Rattle.spec_properties.proofs.NamedLists.{by_test}
 
 pub not_both : {b : Bool} {A : Type 0} → b ≡ true → b ≡ false → A
 not_both {b} {A} is isnt = absurd cc
@@ -47,13 +44,8 @@ pub path_cmp_itself : (path : List Element) → path_cmp path path ≡ Equal
 path_cmp_itself [] = refl
 path_cmp_itself (e ∷ es) = ap (λ (o : Ordering). ordering_then o (path_cmp es es)) (element_cmp_itself e) ∙ path_cmp_itself es
 
-is_equal : (o : Ordering) → is_eq o ≡ true → o ≡ Equal
-is_equal Less h = absurd cc
-is_equal Equal h = refl
-is_equal Greater h = absurd cc
-
 pub same_path : (p q : List Element) → is_eq (path_cmp p q) ≡ true → p ≡ q
-same_path p q h = path_cmp_same p q (is_equal (path_cmp p q) h)
+same_path p q h = path_cmp_same p q ((Equal-is (path_cmp p q)).0 h)
 
 pub finds_itself : (p : List Element) → is_eq (path_cmp p p) ≡ true
 finds_itself p = ap is_eq (path_cmp_itself p)

@@ -9,12 +9,13 @@ use Rattle.sdf_paths.specs.Order.{path_cmp}
 use Rattle.sdf_paths.specs.Paths.{has_prefix}
 use Rattle.sdf_paths.specs.declared.element.Element.{Element}
 use Rattle.spec_tables.specs.Tables.{IsTable, entries_from, without_key}
+use Rattle.spec_properties.proofs.NamedLists.{by_test}
 use Rattle.sdf_specs.specs.Layers.{PathEntries, tree, without_tree, has_tree, without_paths, spec_at, is_owner}
 use Rattle.std.specs.Option.{is_some}
 use Rattle.std.proofs.lemmas.List.{drop_more}
 use Rattle.sdf_paths.specs.contracts.path.PathOrd.TheImpl.{ghosts as path_order}
 use Rattle.sdf_specs.proofs.Ordered.{without_is, from_is, in_order}
-use Rattle.sdf_specs.proofs.PathLemmas.{by_test, not_both, prefix_le, past_prefix, same_path, finds_itself}
+use Rattle.sdf_specs.proofs.PathLemmas.{not_both, prefix_le, past_prefix, same_path, finds_itself}
 
 module _ {V : Type 0} (front : List Element) where
   -- the entries at the beginning whose paths begin with `front`

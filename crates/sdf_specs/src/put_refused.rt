@@ -8,7 +8,7 @@ pub enum PutRefused {
     #[error("the layer has no spec for the owner of this path")]
     NoParent,
     /// Memory ran out.
-    #[error("memory ran out")]
+    #[error("out of memory")]
     NoMemory,
 }
 

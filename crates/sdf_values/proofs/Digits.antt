@@ -9,13 +9,13 @@ use Rattle.sdf_values.proofs.Powers.{ten_some, ten_le, ten_next}
 last_digit : (n c : ℕ) → c < 10 → (n * 10 + c) % 10 ≡ c
 last_digit n c h = mod-mul-add n 10 c h
 
-at_least : (m t : ℕ) → 0 < t → m ≤ m * t
+pub at_least : (m t : ℕ) → 0 < t → m ≤ m * t
 at_least m t h = grind arith
 
 next_zeros : (n m z : ℕ) → n ≡ m * 10 ^ z → n * 10 ≡ m * 10 ^ (z + 1)
 next_zeros n m z e = ap (λ k. k * 10) e ∙ mul_assoc m (10 ^ z) 10 ∙ ap (λ t. m * t) (sym (ten_next z))
 
-at_most : (m t : ℕ) → 0 < m → t ≤ m * t
+pub at_most : (m t : ℕ) → 0 < m → t ≤ m * t
 at_most m t h = grind arith
 
 pub long_digits : (n c : ℕ) → 0 < c → c < 10 → 10 ^ 34 ≤ n * 10 + c → IsLong (n * 10 + c)

@@ -1,6 +1,7 @@
 -- The table of the types' names has each type.
 use Rattle.std.proofs.Common.{ℕ, ◌≡◌, ◌≢◌, ◌<◌, ◌∙◌, sym, ap, refl, arith, Bool, true, false, List, [], ◌∷◌, get_or, subst}
 use Rattle.std.specs.Prelude.{◌==◌, All, Option, Some, None}
+use Rattle.sdf_values.proofs.Texts.{clash}
 use Rattle.sdf_values.specs.TypeNames.{element_name}
 use Rattle.std.specs.Cmp.Lexicographic.{pointwise, bytes_decides}
 use Rattle.sdf_values.specs.declared.type_name.Precision.TheVariants as precision
@@ -9,9 +10,6 @@ use Rattle.sdf_values.specs.declared.type_name.Role.TheVariants as role
 use Rattle.sdf_values.specs.declared.type_name.Matrix.TheVariants as matrix
 use Rattle.sdf_values.specs.declared.type_name.ElementType.{ElementType}
 use Rattle.sdf_values.specs.declared.type_name.ElementType.TheVariants as element
-
-clash : (b : Bool) → b ≡ true → b ≡ false → ⊥
-clash b p q = absurd cc
 
 -- texts that do not compare equal are not one
 pub unequal : (a b x : List ℕ) → a ≡ x → pointwise ◌==◌ a b ≡ false → x ≢ b

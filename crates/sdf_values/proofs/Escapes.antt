@@ -1,8 +1,8 @@
 -- Strings with escapes, one byte at a time.
-use Rattle.std.proofs.Common.{ℕ, zero, suc, add-one, drop-cons, ◌≡◌, ◌∙◌, ◌+◌, ◌-◌, ◌<◌, ◌≤◌, sym, ap, refl, arith, Bool, true, false, List, [], ◌∷◌, ◌++◌, length, take, drop, get_or, append_assoc, append-nil}
+use Rattle.std.proofs.Common.{ℕ, ◌≡◌, ◌∙◌, ◌+◌, ◌-◌, ◌<◌, ◌≤◌, sym, ap, refl, arith, Bool, true, false, List, [], ◌∷◌, ◌++◌, length, take, drop, get_or, append_assoc, append-nil}
 use Rattle.std.specs.Prelude.{if◌then◌else◌}
-use Rattle.std.proofs.lemmas.List.{take_more, length-drop, get_or-drop}
 use Rattle.std.proofs.lemmas.Bool.Decides.{nat_tests}
+use Rattle.plain_data.proofs.Pieces.{rest_of, no_bytes, one_more}
 use Rattle.sdf_values.specs.Print.{escaped, escape, is_escaped}
 
 byte_text : ℕ → List ℕ → Bool → List ℕ
@@ -20,16 +20,8 @@ byte_plain : (c : ℕ) (rest : List ℕ) → byte_text c rest false ≡ (c ∷ [
 unfolding byte_text
 byte_plain c rest = refl
 
--- a text from a byte on
-rest_of : (t : List ℕ) (i b : ℕ) → i < length t → b ≡ get_or t i 0 → drop i t ≡ b ∷ drop (i + 1) t
-rest_of t i b h is = rw (add-one) (drop-cons t i 0 h ∙ ap (λ c. c ∷ drop (suc i) t) (sym is))
-
 from_byte : (t : List ℕ) (i b : ℕ) → i < length t → b ≡ get_or t i 0 → escaped (drop i t) ≡ byte_text b (drop (i + 1) t) (is_escaped b)
 from_byte t i b h is = ap escaped (rest_of t i b h is) ∙ first_byte b (drop (i + 1) t)
-
-no_bytes : (n : ℕ) (l : List ℕ) → n ≡ 0 → take n l ≡ []
-no_bytes zero l h = refl
-no_bytes (suc n) l h = absurd (omega (arith, h))
 
 pub escape_step : (t old out new : List ℕ) (start i b : ℕ) → i < length t → b ≡ get_or t i 0 → is_escaped b ≡ true
     → new ≡ (out ++ take (i - start) (drop start t)) ++ escape b → (out ++ take (i - start) (drop start t)) ++ escaped (drop i t) ≡ old ++ escaped t
@@ -40,12 +32,6 @@ escape_step t old out new start i b h is esc made before =
     ap (λ l. (new ++ l) ++ escaped rest) (no_bytes (i + 1 - (i + 1)) rest (omega arith)) ∙ ap (λ l. l ++ escaped rest) (append-nil new ∙ made)
     ∙ append_assoc piece (escape b) (escaped rest)
     ∙ ap (λ l. piece ++ l) (sym (from_byte t i b h is ∙ ap (byte_text b rest) esc ∙ byte_escaped b rest)) ∙ before
-
-one_more : (t : List ℕ) (start i b : ℕ) → i < length t → b ≡ get_or t i 0 → start ≤ i → take (i + 1 - start) (drop start t) ≡ take (i - start) (drop start t) ++ b ∷ []
-one_more t start i b h is within =
-    ap (λ n. take n (drop start t)) (let e : i + 1 - start ≡ i - start + 1 = omega (arith, within) in e)
-    ∙ take_more (drop start t) (i - start) 0 (omega (arith, length-drop start t, within, h))
-    ∙ ap (λ c. take (i - start) (drop start t) ++ c ∷ []) (get_or-drop start t (i - start) 0 ∙ ap (λ k. get_or t k 0) (let e : start + (i - start) ≡ i = omega (arith, within) in e) ∙ sym is)
 
 pub plain_step : (t old out : List ℕ) (start i b : ℕ) → i < length t → b ≡ get_or t i 0 → is_escaped b ≡ false → start ≤ i
     → (out ++ take (i - start) (drop start t)) ++ escaped (drop i t) ≡ old ++ escaped t

@@ -8,3 +8,4 @@ pub mod Elements
 pub mod Offsets
 pub mod Fractions
 pub mod Printed
+pub mod Values

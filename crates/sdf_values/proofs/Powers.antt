@@ -102,7 +102,7 @@ pub record IsForm (n m z : ℕ) : Type 0 where
   pub whole : n ≡ m * 10 ^ z
   pub last : m % 10 ≢ 0
 
-some_digits : (m : ℕ) → m % 10 ≢ 0 → 0 < m
+pub some_digits : (m : ℕ) → m % 10 ≢ 0 → 0 < m
 some_digits zero h = absurd (h refl)
 some_digits (suc m) h = omega arith
 

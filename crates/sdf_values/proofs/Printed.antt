@@ -8,7 +8,7 @@ use Rattle.std.proofs.lemmas.Str.Parse.{IsNumeralModel, IsDigitsTest, FoldsDigit
 use Rattle.std.specs.Int.{IsInRange}
 use Rattle.std.proofs.lemmas.Int.{ints}
 use Rattle.std.proofs.lemmas.Nat.{div-add-mod'}
-use Rattle.std.proofs.lemmas.Bool.{cases_lt}
+use Rattle.std.proofs.lemmas.Bool.{and_parts, cases_lt}
 use Rattle.std.proofs.lemmas.Grind.{fold-append}
 use Rattle.sdf_values.specs.Numbers.{DecimalNumber, IsDecimal, SameNumber}
 use Rattle.sdf_values.specs.NumberTexts.{is_digit, is_sign, is_mark, is_digits, is_some_digits, ends_whole, ends_fraction, starts_fraction, is_unsigned, is_exponent, is_number, add_digit, digits_number, before_mark, after_mark, after_point, is_negative, signed, written_digits, written_exponent, Writes}
@@ -31,10 +31,6 @@ digit_no_point c h = grind (arith, nat_tests)
 digit_no_minus : (c : ℕ) → is_digit c ≡ true → (c == 45) ≡ false
 digit_no_minus c h = grind (arith, nat_tests)
 
-both : (a b : Bool) → (a && b) ≡ true → (a ≡ true) × (b ≡ true)
-both true b h = (refl, h)
-both false b h = absurd cc
-
 in_range : (c : ℕ) → is_digit c ≡ true → IsInRange 48 57 c
 in_range c h = grind (arith, nat_tests)
 
@@ -44,7 +40,7 @@ from_range c h = grind (arith, nat_tests, h.0, h.1)
 digits_test : IsDigitsTest (λ ds. is_digits ds ≡ true)
 digits_test = record {
   empty = refl;
-  parts = λ c cs h. (in_range c (both _ _ h).0, (both _ _ h).1);
+  parts = λ c cs h. (in_range c (and_parts _ _ h).0, (and_parts _ _ h).1);
   more = λ c cs h k. ap (λ b. b && is_digits cs) (from_range c h) ∙ k;
 }
 
@@ -72,26 +68,26 @@ decimal_spells n h =
 past_whole : (ds rest : List ℕ) → is_digits ds ≡ true → ends_whole (ds ++ rest) ≡ ends_whole rest
 past_whole [] rest h = refl
 past_whole (c ∷ ds) rest h =
-    let parts = both (is_digit c) (is_digits ds) h in
+    let parts = and_parts (is_digit c) (is_digits ds) h in
     subst (λ (b : Bool). elim b as (λ _. Bool) [ true ↦ ends_whole (ds ++ rest) | false ↦ elim (c == 46) as (λ _. Bool) [ true ↦ ends_fraction (ds ++ rest) | false ↦ is_mark c && is_exponent (ds ++ rest) ] ] ≡ ends_whole rest) (sym parts.0) (past_whole ds rest parts.1)
 
 past_fraction : (ds : List ℕ) → is_digits ds ≡ true → ends_fraction ds ≡ true
 past_fraction [] h = refl
 past_fraction (c ∷ ds) h =
-    let parts = both (is_digit c) (is_digits ds) h in
+    let parts = and_parts (is_digit c) (is_digits ds) h in
     subst (λ (b : Bool). elim b as (λ _. Bool) [ true ↦ ends_fraction ds | false ↦ is_mark c && is_exponent ds ] ≡ true) (sym parts.0) (past_fraction ds parts.1)
 
 -- digits as the whole part of a number
 unsigned_past : (ds rest : List ℕ) → 0 < length ds → is_digits ds ≡ true → is_unsigned (ds ++ rest) ≡ ends_whole rest
 unsigned_past [] rest h k = absurd (omega (arith, h))
 unsigned_past (c ∷ ds) rest h k =
-    let parts = both (is_digit c) (is_digits ds) k in
+    let parts = and_parts (is_digit c) (is_digits ds) k in
     subst (λ (b : Bool). elim b as (λ _. Bool) [ true ↦ ends_whole (ds ++ rest) | false ↦ (c == 46) && starts_fraction (ds ++ rest) ] ≡ ends_whole rest) (sym parts.0) (past_whole ds rest parts.1)
 
 no_sign : (ds rest : List ℕ) → 0 < length ds → is_digits ds ≡ true → is_number (ds ++ rest) ≡ is_unsigned (ds ++ rest)
 no_sign [] rest h k = absurd (omega (arith, h))
 no_sign (c ∷ ds) rest h k =
-    let parts = both (is_digit c) (is_digits ds) k in
+    let parts = and_parts (is_digit c) (is_digits ds) k in
     subst (λ (b : Bool). elim b as (λ _. Bool) [ true ↦ is_unsigned (ds ++ rest) | false ↦ is_unsigned (c ∷ ds ++ rest) ] ≡ is_unsigned (c ∷ ds ++ rest)) (sym (digit_no_sign c parts.0)) refl
 
 -- a sign or none, digits, and the rest
@@ -102,7 +98,7 @@ number_past (negsuc n) ds rest h k = unsigned_past ds rest h k
 exponent_past : (ds : List ℕ) → 0 < length ds → is_digits ds ≡ true → is_exponent ds ≡ true
 exponent_past [] h k = absurd (omega (arith, h))
 exponent_past (c ∷ ds) h k =
-    let parts = both (is_digit c) (is_digits ds) k in
+    let parts = and_parts (is_digit c) (is_digits ds) k in
     subst (λ (b : Bool). elim b as (λ _. Bool) [ true ↦ is_some_digits ds | false ↦ is_digit c && is_digits ds ] ≡ true) (sym (digit_no_sign c parts.0)) k
 
 some_digits : (ds : List ℕ) → 0 < length ds → is_digits ds ≡ true → is_some_digits ds ≡ true
@@ -112,19 +108,19 @@ some_digits (c ∷ ds) h k = k
 before_digits : (ds rest : List ℕ) → is_digits ds ≡ true → before_mark (ds ++ rest) ≡ ds ++ before_mark rest
 before_digits [] rest h = refl
 before_digits (c ∷ ds) rest h =
-    let parts = both (is_digit c) (is_digits ds) h in
+    let parts = and_parts (is_digit c) (is_digits ds) h in
     subst (λ (b : Bool). elim b as (λ _. List ℕ) [ true ↦ [] | false ↦ c ∷ before_mark (ds ++ rest) ] ≡ c ∷ ds ++ before_mark rest) (sym (digit_no_mark c parts.0)) (ap (λ l. c ∷ l) (before_digits ds rest parts.1))
 
 after_digits : (ds rest : List ℕ) → is_digits ds ≡ true → after_mark (ds ++ rest) ≡ after_mark rest
 after_digits [] rest h = refl
 after_digits (c ∷ ds) rest h =
-    let parts = both (is_digit c) (is_digits ds) h in
+    let parts = and_parts (is_digit c) (is_digits ds) h in
     subst (λ (b : Bool). elim b as (λ _. List ℕ) [ true ↦ ds ++ rest | false ↦ after_mark (ds ++ rest) ] ≡ after_mark rest) (sym (digit_no_mark c parts.0)) (after_digits ds rest parts.1)
 
 point_digits : (ds rest : List ℕ) → is_digits ds ≡ true → after_point (ds ++ rest) ≡ after_point rest
 point_digits [] rest h = refl
 point_digits (c ∷ ds) rest h =
-    let parts = both (is_digit c) (is_digits ds) h in
+    let parts = and_parts (is_digit c) (is_digits ds) h in
     subst (λ (b : Bool). elim b as (λ _. List ℕ) [ true ↦ ds ++ rest | false ↦ after_point (ds ++ rest) ] ≡ after_point rest) (sym (digit_no_point c parts.0)) (point_digits ds rest parts.1)
 
 -- the sign of a printed text
@@ -134,7 +130,7 @@ is_minus (negsuc n) = true
 
 plus_digits : (ds rest : List ℕ) → 0 < length ds → is_digits ds ≡ true → is_negative (ds ++ rest) ≡ false
 plus_digits [] rest h k = absurd (omega (arith, h))
-plus_digits (c ∷ ds) rest h k = digit_no_minus c (both (is_digit c) (is_digits ds) k).0
+plus_digits (c ∷ ds) rest h k = digit_no_minus c (and_parts (is_digit c) (is_digits ds) k).0
 
 minus_past : (z : ℤ) (ds rest : List ℕ) → 0 < length ds → is_digits ds ≡ true → is_negative (sign_text z ++ ds ++ rest) ≡ is_minus z
 unfolding is_minus
@@ -213,19 +209,19 @@ zeros_number (suc e) n =
 no_mark_in : (ds : List ℕ) → is_digits ds ≡ true → before_mark ds ≡ ds
 no_mark_in [] h = refl
 no_mark_in (c ∷ ds) h =
-    let parts = both (is_digit c) (is_digits ds) h in
+    let parts = and_parts (is_digit c) (is_digits ds) h in
     subst (λ (b : Bool). elim b as (λ _. List ℕ) [ true ↦ [] | false ↦ c ∷ before_mark ds ] ≡ c ∷ ds) (sym (digit_no_mark c parts.0)) (ap (λ l. c ∷ l) (no_mark_in ds parts.1))
 
 no_mark_after : (ds : List ℕ) → is_digits ds ≡ true → after_mark ds ≡ []
 no_mark_after [] h = refl
 no_mark_after (c ∷ ds) h =
-    let parts = both (is_digit c) (is_digits ds) h in
+    let parts = and_parts (is_digit c) (is_digits ds) h in
     subst (λ (b : Bool). elim b as (λ _. List ℕ) [ true ↦ ds | false ↦ after_mark ds ] ≡ []) (sym (digit_no_mark c parts.0)) (no_mark_after ds parts.1)
 
 no_point_after : (ds : List ℕ) → is_digits ds ≡ true → after_point ds ≡ []
 no_point_after [] h = refl
 no_point_after (c ∷ ds) h =
-    let parts = both (is_digit c) (is_digits ds) h in
+    let parts = and_parts (is_digit c) (is_digits ds) h in
     subst (λ (b : Bool). elim b as (λ _. List ℕ) [ true ↦ ds | false ↦ after_point ds ] ≡ []) (sym (digit_no_point c parts.0)) (no_point_after ds parts.1)
 
 all_whole : (ds : List ℕ) → is_digits ds ≡ true → ends_whole ds ≡ true

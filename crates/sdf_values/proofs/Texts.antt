@@ -28,7 +28,8 @@ accepts_completion place.Exponent = refl
 more : (t rest : List ℕ) (at b : ℕ) → at < length t → b ≡ get_or t at 0 → take (at + 1) t ++ rest ≡ take at t ++ b ∷ rest
 more t rest at b h is = ap (λ l. l ++ rest) (take_more t at 0 h) ∙ ap (λ c. (take at t ++ c ∷ []) ++ rest) (sym is) ∙ append_assoc (take at t) (b ∷ []) rest
 
-clash : (b : Bool) → b ≡ true → b ≡ false → ⊥
+-- a test does not both hold and fail
+pub clash : (b : Bool) → b ≡ true → b ≡ false → ⊥
 clash b p q = absurd cc
 
 whole : (t : List ℕ) (at b : ℕ) → at < length t → b ≡ get_or t at 0 → t ≡ take at t ++ b ∷ drop (at + 1) t

@@ -5,6 +5,7 @@ use Rattle.std.proofs.lemmas.Int.{ints}
 use Rattle.std.proofs.Math.Nat.{div-lt_iff_lt-mul, mul-mod_left, mul_assoc, mul-le-mul_right, div-mul-le_self}
 use Rattle.sdf_values.specs.Numbers.{DecimalNumber, IsDecimal, excess}
 use Rattle.sdf_values.specs.Scales.{IsTime, IsTimeOf}
+use Rattle.sdf_values.proofs.Digits.{at_most}
 use Rattle.sdf_values.proofs.Powers.{cut_ℤ, excess_above, excess_below, abs_times, ten_le, ten_suc, ten_some}
 
 times_unit : (z : ℤ) → z ≡ z *ℤ pos 1
@@ -39,9 +40,6 @@ pub some_size : (z : ℤ) → z ≢ pos 0 → 0 < unsigned_abs z
 some_size (pos zero) h = absurd (h refl)
 some_size (pos (suc n)) h = omega arith
 some_size (negsuc n) h = omega arith
-
-at_most : (m t : ℕ) → 0 < m → t ≤ m * t
-at_most m t h = grind arith
 
 -- an exponent above 12 is past all times
 pub past_time : (d : DecimalNumber) (k : ℕ) (t : ℤ) → d.digits ≢ pos 0 → d.exp ≡ negsuc 17 +ℤ pos k → 30 < k → IsTimeOf d t → IsTime t → ⊥

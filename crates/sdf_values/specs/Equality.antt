@@ -3,6 +3,7 @@ use Rattle.std.specs.Prelude.{ℕ, ◌≡◌, ◌==◌, Bool, true, false, ◌&&
 use Rattle.std.proofs.Common.{refl, sym, ap, ◌∙◌, eq-eqb, arith}
 use Rattle.std.proofs.lemmas.Bool.Decides.{nat_tests}
 use Rattle.std.specs.Cmp.{IsEquivalence}
+use Rattle.std.proofs.lemmas.Bool.{and_parts}
 use base.Stored.{Gv, gnil, gnum, gcons, Coded}
 
 -- whether two codes are one
@@ -11,10 +12,6 @@ same_code gnil gnil = true
 same_code (gnum m) (gnum n) = m == n
 same_code (gcons a b) (gcons c d) = same_code a c && same_code b d
 same_code _ _ = false
-
-both : (a b : Bool) → (a && b) ≡ true → (a ≡ true) × (b ≡ true)
-both true b h = (refl, h)
-both false b h = absurd cc
 
 same_number : (m n : ℕ) → (m == n) ≡ true → m ≡ n
 same_number m n h = grind (arith, nat_tests)
@@ -30,7 +27,7 @@ code_same (gnum m) (gcons c d) h = absurd cc
 code_same (gcons a b) gnil h = absurd cc
 code_same (gcons a b) (gnum n) h = absurd cc
 code_same (gcons a b) (gcons c d) h =
-    let parts = both (same_code a c) (same_code b d) h in
+    let parts = and_parts (same_code a c) (same_code b d) h in
     let head = code_same a c parts.0 in
     let tail = code_same b d parts.1 in
     cc

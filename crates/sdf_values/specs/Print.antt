@@ -1,8 +1,9 @@
 -- The canonical text of values.
 use Rattle.std.specs.Prelude.{ℕ, zero, suc, Bool, true, false, if◌then◌else◌, ◌+◌, ◌-◌, ◌*◌, ◌/◌, ◌%◌, ◌^◌, ◌==◌, ◌||◌, nat_le, nat_lt, min, List, [], ◌∷◌, ◌++◌, replicate, codes, ℤ, pos, negsuc, unsigned_abs}
 use Rattle.std.specs.List.{list_any}
-use Rattle.std.specs.Fmt.{decimal}
+use Rattle.std.specs.Fmt.{decimal, signed_decimal}
 use Rattle.sdf_values.specs.Numbers.{DecimalNumber}
+use Rattle.sdf_values.specs.Scales.{Offset, is_identity}
 use Rattle.usd_names.specs.Names.{is_name}
 use Rattle.sdf_values.specs.TypeNames.{type_text}
 use Rattle.sdf_values.specs.declared.decimal.Num.{Num}
@@ -49,6 +50,15 @@ num_text num.Nan = codes "nan"
 -- a time in units of 10^-18
 abbrev pub time_text : ℤ → List ℕ
 time_text t = sign_text t ++ point_text 18 (unsigned_abs t)
+
+-- both the offset and the scale stand between the brackets, unless together they change no time
+abbrev pub unless_identity : Bool → Offset → List ℕ
+unless_identity true o = []
+unless_identity false o = codes " (offset = " ++ signed_decimal o.offset ++ codes "; scale = " ++ signed_decimal o.scale ++ codes ")"
+
+-- an offset behind an item; the one that changes no time is not written
+abbrev pub offset_text : Offset → List ℕ
+offset_text o = unless_identity (is_identity o) o
 
 -- A whole number prints as the decimal that it is, so with an exponent where more than 34 zeros end it. The list has the
 -- counts of zeros to be tried, the greatest first.

@@ -35,7 +35,7 @@ fn holds(ty: TypeName, value: &Value) -> bool
     ensures { result ≡ holds value.now ty }
 {
     match value {
-        Value::Array(items) => ty.array && all_hold(one(ty.element), items.as_slice()),
+        Value::Array(items) => ty.array && all_hold(TypeName::one(ty.element), items.as_slice()),
         Value::Tuple(items) => !ty.array && are_members(ty.element, items.as_slice()),
         Value::Bool(_) => !ty.array && matches!(ty.element, ElementType::Bool),
         Value::Whole(n) => !ty.array && is_between(ty.element, *n),
@@ -55,7 +55,7 @@ fn are_members(element: ElementType, values: &[Value]) -> bool
 {
     match members_of(element) {
         None => false,
-        Some((member, count)) => values.len() == count && all_hold(one(member), values),
+        Some((member, count)) => values.len() == count && all_hold(TypeName::one(member), values),
     }
 }
 
@@ -69,15 +69,6 @@ fn all_hold(ty: TypeName, values: &[Value]) -> bool
         }
     }
     true
-}
-
-fn one(element: ElementType) -> TypeName
-    ensures { result ≡ one element }
-{
-    TypeName {
-        element,
-        array: false,
-    }
 }
 
 fn is_between(element: ElementType, n: i128) -> bool
@@ -102,7 +93,8 @@ fn whole_bounds(element: ElementType) -> Option<(i128, i128)>
     }
 }
 
-fn members_of(element: ElementType) -> Option<(ElementType, usize)>
+/// What the members of a tuple type are, and how many; nothing where the type is none of tuples. A matrix is a tuple of its rows.
+pub fn members_of(element: ElementType) -> Option<(ElementType, usize)>
     ensures { result ≡ members_of element }
 {
     match element {

@@ -18,7 +18,9 @@ use thiserror::Error;
 /// `<` compares digits and then exponents, as maps want it, and not the numbers.
 #[derive(Clone, Copy, Debug, PartialEq, Eq, PartialOrd, Ord)]
 pub struct Decimal {
+    /// The significant digits as a whole number, with the sign.
     pub digits: i128,
+    /// The power of ten by which they are multiplied.
     pub exp: i16,
 }
 
@@ -37,9 +39,13 @@ impl Model for Decimal {
 /// A number of a layer: a decimal, or one of the three that no digits write.
 #[derive(Clone, Copy, Debug, PartialEq, Eq, PartialOrd, Ord)]
 pub enum Num {
+    /// A number that digits write, exactly.
     Finite(Decimal),
+    /// `inf`.
     Inf,
+    /// `-inf`.
     NegInf,
+    /// `nan`.
     Nan,
 }
 
@@ -99,7 +105,8 @@ fn lowered(exponent: i128, decimals: usize) -> i128
     exponent - decimals as i128
 }
 
-fn with_sign(negative: bool, n: u128) -> i128
+/// A number below 2^127 with a sign: below zero where the flag says so.
+pub fn with_sign(negative: bool, n: u128) -> i128
     requires { n < 2 ^ 127 }
     ensures { result ≡ signed negative n }
 {

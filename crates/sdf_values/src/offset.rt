@@ -1,8 +1,8 @@
 ghost use Rattle.std.specs.Prelude.{◌≡◌, pos, ◌<◌, ◌≤◌, ◌^◌, ◌≤ℤ◌, ◌+ℤ◌, unsigned_abs, IfOk, IsErr};
-ghost use Rattle.sdf_values.specs.Scales.{IsOffset, IsTime, composed, mapped};
+ghost use Rattle.sdf_values.specs.Scales.{IsOffset, IsTime, composed, identity, mapped};
 
 use crate::tens::times;
-use crate::time::{MOST_UNITS, TimeCode, TimeRange};
+use crate::time::{MAX_UNITS, TimeCode, TimeRange};
 use std::marker::Model;
 use thiserror::Error;
 
@@ -11,7 +11,9 @@ use thiserror::Error;
 /// The scale is from 1 to 1,000,000, the offset within 1,000,000,000 of 0.
 #[derive(Clone, Copy, Debug, PartialEq, Eq, PartialOrd, Ord)]
 pub struct LayerOffset {
+    /// What is added to a time that was multiplied, in whole units of time.
     pub offset: i64,
+    /// By what a time is multiplied.
     pub scale: i64,
 }
 
@@ -33,6 +35,16 @@ impl Model for LayerOffset {
 pub struct OffsetRange;
 
 impl LayerOffset {
+    /// The offset that changes no time.
+    pub fn identity() -> LayerOffset
+        ensures { result ≡ identity }
+    {
+        LayerOffset {
+            offset: 0,
+            scale: 1,
+        }
+    }
+
     /// The offset that stands for this one and then the outer one.
     pub fn then(self, outer: LayerOffset) -> Result<LayerOffset, OffsetRange>
         ensures composed { IfOk result (λ o. IsOffset o × (o ≡ composed self outer)) }
@@ -81,7 +93,7 @@ fn map_time(offset: i64, scale: i64, units: i128) -> Result<TimeCode, TimeRange>
     ensures refused { IsErr result → IsTime (mapped (record { offset = offset; scale = scale }) units) → ⊥ }
 {
     let mapped = sum(times(units, unit_of(scale)), times(offset as i128, UNITS));
-    if mapped.unsigned_abs() > MOST_UNITS {
+    if mapped.unsigned_abs() > MAX_UNITS {
         return Err(TimeRange);
     }
     Ok(TimeCode { units: mapped })

@@ -8,22 +8,30 @@ use crate::tens::ten_to;
 /// A place in a number's text.
 #[derive(Clone, Copy)]
 pub enum Place {
+    /// Before the first byte.
     Start,
+    /// Behind the sign.
     Signed,
+    /// Behind a digit, and no point yet.
     Whole,
     /// Behind a point with no digit before it.
     Point,
+    /// Behind the point, with a digit before it or behind it.
     Fraction,
     /// Behind the exponent's mark.
     Mark,
+    /// Behind the exponent's sign.
     MarkSigned,
+    /// Behind a digit of the exponent.
     Exponent,
 }
 
 /// The digits of a number without the zeros that end them, and how many zeros these are.
-#[derive(Clone, Copy, Debug)]
+#[derive(Clone, Copy)]
 pub struct Significant {
+    /// These digits as a number.
     pub digits: u128,
+    /// How many zeros stand behind them.
     pub zeros: usize,
     /// There are more than 34 digits, and the fields above say nothing.
     pub is_long: bool,
@@ -134,19 +142,22 @@ fn may_end(place: Place) -> bool
     }
 }
 
-fn is_digit(byte: u8) -> bool
+/// Whether the byte is a digit.
+pub fn is_digit(byte: u8) -> bool
     ensures { result ≡ is_digit byte }
 {
     b'0' <= byte && byte <= b'9'
 }
 
-fn is_sign(byte: u8) -> bool
+/// Whether the byte is `+` or `-`.
+pub fn is_sign(byte: u8) -> bool
     ensures { result ≡ is_sign byte }
 {
     byte == b'+' || byte == b'-'
 }
 
-fn is_mark(byte: u8) -> bool
+/// Whether the byte begins an exponent: `e` or `E`.
+pub fn is_mark(byte: u8) -> bool
     ensures { result ≡ is_mark byte }
 {
     byte == b'e' || byte == b'E'

@@ -100,7 +100,8 @@ fn push_item(out: &mut String, item: &DictItem, indent: usize) -> Result<(), All
     push_value(out, &item.value, indent)
 }
 
-fn push_blanks(out: &mut String, indent: usize) -> Result<(), AllocError>
+/// Appends four blanks a level.
+pub fn push_blanks(out: &mut String, indent: usize) -> Result<(), AllocError>
     ensures { OnOk result (string_bytes out.new ≡ string_bytes out.old ++ blanks indent) }
 {
     for _level in 0..indent {
@@ -126,7 +127,8 @@ fn push_dict_type(out: &mut String, ty: DictType) -> Result<(), AllocError>
     }
 }
 
-fn push_type(out: &mut String, ty: TypeName) -> Result<(), AllocError>
+/// Appends a type as a layer writes it.
+pub fn push_type(out: &mut String, ty: TypeName) -> Result<(), AllocError>
     ensures { OnOk result (string_bytes out.new ≡ string_bytes out.old ++ type_text ty) }
 {
     out.push_str(ty.element.name())?;

@@ -1,5 +1,5 @@
 /// Why a layer's text is refused.
-#[derive(Clone, Copy, Debug, PartialEq, Eq, PartialOrd, Ord)]
+#[derive(Clone, Copy, Debug, PartialEq, Eq)]
 pub enum RefusalKind {
     /// A layer of more than 67,108,864 bytes, or an owner's path of more than 4,096.
     TooLong,

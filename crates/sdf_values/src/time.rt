@@ -8,8 +8,9 @@ use std::marker::Model;
 use thiserror::Error;
 
 /// A time, in units of 10^-18, within 10^12 whole units of time of 0.
-#[derive(Clone, Copy, Debug, PartialEq, Eq, PartialOrd, Ord, Hash)]
+#[derive(Clone, Copy, Debug, PartialEq, Eq, PartialOrd, Ord)]
 pub struct TimeCode {
+    /// How many units of 10^-18 it is; from -10^30 to 10^30.
     pub units: i128,
 }
 
@@ -58,7 +59,7 @@ fn time_of(digits: i128, exp: i16) -> Result<TimeCode, TimeRange>
         return Err(TimeRange);
     }
     let unit = ten_to(places(exp));
-    if digits.unsigned_abs() > MOST_UNITS / unit {
+    if digits.unsigned_abs() > MAX_UNITS / unit {
         return Err(TimeRange);
     }
     let units = times(digits, unit);
@@ -75,5 +76,5 @@ fn places(exp: i16) -> u32
     (exp + 18) as u32
 }
 
-/// 10^12 whole units of time.
-pub const MOST_UNITS: u128 = 1_000_000_000_000_000_000_000_000_000_000;
+/// How far from 0 a time may be, in units of 10^-18: 10^12 whole units of time.
+pub const MAX_UNITS: u128 = 1_000_000_000_000_000_000_000_000_000_000;

@@ -1,60 +1,89 @@
 ghost use Rattle.std.specs.Prelude.{◌≡◌, ◌≢◌, All, IfSome, IsNone, Some};
+ghost use Rattle.sdf_values.specs.Conforms.{one};
 ghost use Rattle.sdf_values.specs.TypeNames.{element_name};
 ghost use Rattle.sdf_values.specs.declared.type_name.ElementType.{ElementType};
 ghost use Rattle.sdf_values.specs.declared.type_name.TypeName.{TypeName};
 
 /// How finely a floating-point number is meant to be kept. Numbers are kept exactly whichever it is.
-#[derive(Clone, Copy, Debug, PartialEq, Eq, PartialOrd, Ord)]
+#[derive(Clone, Copy, Debug, PartialEq, Eq)]
 pub enum Precision {
+    /// `half`: 16 bits.
     Half,
+    /// `float`: 32 bits.
     Float,
+    /// `double`: 64 bits.
     Double,
 }
 
 /// How many numbers a tuple has.
-#[derive(Clone, Copy, Debug, PartialEq, Eq, PartialOrd, Ord)]
+#[derive(Clone, Copy, Debug, PartialEq, Eq)]
 pub enum Width {
+    /// Two.
     Two,
+    /// Three.
     Three,
+    /// Four.
     Four,
 }
 
 /// What a tuple of numbers means.
-#[derive(Clone, Copy, Debug, PartialEq, Eq, PartialOrd, Ord)]
+#[derive(Clone, Copy, Debug, PartialEq, Eq)]
 pub enum Role {
+    /// `point3`: a point in space.
     Point3,
+    /// `vector3`: a direction with a length.
     Vector3,
+    /// `normal3`: what stands upright on a surface.
     Normal3,
+    /// `color3`: red, green and blue.
     Color3,
+    /// `color4`: red, green, blue and opacity.
     Color4,
+    /// `texCoord2`: a place in a texture of two dimensions.
     TexCoord2,
+    /// `texCoord3`: a place in a texture of three dimensions.
     TexCoord3,
+    /// `quat`: a quaternion, of four numbers.
     Quat,
 }
 
 /// A square of numbers, as a tuple of rows.
-#[derive(Clone, Copy, Debug, PartialEq, Eq, PartialOrd, Ord)]
+#[derive(Clone, Copy, Debug, PartialEq, Eq)]
 pub enum Matrix {
+    /// `matrix2d`: two rows of two.
     Matrix2,
+    /// `matrix3d`: three rows of three.
     Matrix3,
+    /// `matrix4d`: four rows of four.
     Matrix4,
+    /// `frame4d`: four rows of four, which say a coordinate frame.
     Frame4,
 }
 
 /// The type of one value that is no array.
-#[derive(Clone, Copy, Debug, PartialEq, Eq, PartialOrd, Ord)]
+#[derive(Clone, Copy, Debug, PartialEq, Eq)]
 pub enum ElementType {
+    /// `bool`: true or false.
     Bool,
+    /// `uchar`: a whole number of 8 bits, from 0.
     Uchar,
+    /// `int`: a whole number of 32 bits with a sign.
     Int,
+    /// `uint`: a whole number of 32 bits, from 0.
     Uint,
+    /// `int64`: a whole number of 64 bits with a sign.
     Int64,
+    /// `uint64`: a whole number of 64 bits, from 0.
     Uint64,
     /// `half`, `float` or `double`.
     Real(Precision),
+    /// `timecode`: a time, which the offsets of layers move.
     Timecode,
+    /// `string`: a text.
     String,
+    /// `token`: a text that is a name or a word.
     Token,
+    /// `asset`: the name of a layer or of another file, as it is written.
     Asset,
     /// Two to four whole numbers, as `int3`.
     Ints(Width),
@@ -67,9 +96,11 @@ pub enum ElementType {
 }
 
 /// The type of a value: that of one element, or of an array of them.
-#[derive(Clone, Copy, Debug, PartialEq, Eq, PartialOrd, Ord)]
+#[derive(Clone, Copy, Debug, PartialEq, Eq)]
 pub struct TypeName {
+    /// The type of one element.
     pub element: ElementType,
+    /// Whether a value is an array of such elements.
     pub array: bool,
 }
 
@@ -177,6 +208,16 @@ fn double_role_name(role: Role) -> &'static str
 }
 
 impl TypeName {
+    /// The type of one element, which is no array.
+    pub fn one(element: ElementType) -> TypeName
+        ensures { result ≡ one element }
+    {
+        TypeName {
+            element,
+            array: false,
+        }
+    }
+
     /// The type of that name, or of arrays of it; `None` exactly where there is no type of that name. No two types have
     /// one name, so a type is found by its own.
     pub fn find(name: &str, array: bool) -> Option<TypeName>

@@ -9,16 +9,27 @@ use plain_data::{Items, Text};
 #[cycle(value)]
 #[derive(Drop, Debug)]
 pub enum Value {
+    /// A value of `bool`.
     Bool(bool),
+    /// A whole number: a value of a type of whole numbers, or a number without a type that is written as one.
     Whole(i128),
+    /// A value of `half`, `float` or `double`, or another number without a type.
     Number(Num),
+    /// A value of `timecode`.
     Time(TimeCode),
+    /// A string, its escapes replaced by what they stand for: a value of `string` or `token`, or where there is no type.
     Text(Text),
+    /// An asset without the `@` round it: a value of `asset`, or where there is no type.
     Asset(Text),
+    /// A path without `<` and `>`: as it is written, or from the root down once an owner has it; only where there is no type.
     PathText(Text),
+    /// A name that stands for itself; only where there is no type.
     Word(Text),
+    /// Values between `(` and `)`. A matrix is a tuple of its rows.
     Tuple(Items<Value>),
+    /// Values between `[` and `]`.
     Array(Items<Value>),
+    /// A dictionary: its entries.
     Dict(Items<DictItem>),
     /// `None`: what is said is that there is no value, over all weaker values.
     Block,
@@ -28,15 +39,20 @@ pub enum Value {
 #[cycle(value)]
 #[derive(Drop, Debug)]
 pub struct DictItem {
+    /// The key.
     pub key: Text,
+    /// The type of its value.
     pub ty: DictType,
+    /// What the key has: a value of that type, or again a dictionary.
     pub value: Value,
 }
 
 /// The type of a dictionary's entry.
-#[derive(Clone, Copy, Debug, PartialEq, Eq, PartialOrd, Ord)]
+#[derive(Clone, Copy, Debug, PartialEq, Eq)]
 pub enum DictType {
+    /// A type of values.
     Plain(TypeName),
+    /// `dictionary`: the value is again a dictionary.
     Dictionary,
 }
 

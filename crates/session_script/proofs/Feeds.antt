@@ -5,7 +5,7 @@ use Rattle.std.specs.Io.KnownBytes.{Consumes, IsAtEnd, Keeps}
 use Rattle.std.proofs.lemmas.List.{take_all, length-drop, drop-drop, length-take, take-append-drop, length-append, take-append-le, drop-append-le}
 use Rattle.std.proofs.Math.ListN.{drop_of_length-le}
 use Rattle.std.proofs.Math.Seq.{take-add}
-use Rattle.std.proofs.lemmas.Bool.{eqb-true, eqb-false, ltb-true, ltb-false}
+use Rattle.std.proofs.lemmas.Bool.{eqb-false, eqb-true, false_from_ne_true, ltb-false, ltb-true, or_parts}
 use Rattle.std.specs.Prelude.{nat_lt}
 use Rattle.std.proofs.KnownBytes.{Consumes-trans}
 use Rattle.session_script.specs.Pieces.{onto, lines_of, IsFed}
@@ -16,20 +16,12 @@ use Rattle.session_script.specs.declared.front.Front.TheVariants.{Line, TooLong,
 use Rattle.session_script.proofs.Going.{told_then}
 use Rattle.session_script.proofs.Pieces.{glue, glue-first, take_next}
 
-false_of : (b : Bool) → (b ≡ true → ⊥) → b ≡ false
-false_of true h = absurd (h refl)
-false_of false h = refl
-
 ne_test : (x y : ℕ) → (x ≡ y → ⊥) → (x == y) ≡ false
-ne_test x y ne = false_of (x == y) (λ e. ne (eqb-true x y e))
-
-nor : (a b : Bool) → (a || b) ≡ false → (a ≡ false) × (b ≡ false)
-nor true b e = absurd cc
-nor false b e = (refl, e)
+ne_test x y ne = false_from_ne_true (x == y) (λ e. ne (eqb-true x y e))
 
 pub has_feed-append : (xs ys : List ℕ) → has_feed xs ≡ false → has_feed ys ≡ false → has_feed (xs ++ ys) ≡ false
 has_feed-append [] ys a b = b
-has_feed-append (x ∷ xs) ys a b = let two = nor (x == 10) (has_feed xs) a in rw two.0 (has_feed-append xs ys two.1 b)
+has_feed-append (x ∷ xs) ys a b = let two = or_parts (x == 10) (has_feed xs) a in rw two.0 (has_feed-append xs ys two.1 b)
 
 pub no_feed_more : (bytes : List ℕ) (from i : ℕ) → from ≤ i → i < length bytes → has_feed (take (i - from) (drop from bytes)) ≡ false → (get_or bytes i 0 ≡ 10 → ⊥) → has_feed (take (i + 1 - from) (drop from bytes)) ≡ false
 no_feed_more bytes from i before within none ne =
@@ -50,7 +42,7 @@ lines-nil = refl
 -- bytes without a line feed go before the first line
 pub lines-glue : (xs ys : List ℕ) → has_feed xs ≡ false → lines_of (xs ++ ys) ≡ glue xs (lines_of ys)
 lines-glue [] ys e = refl
-lines-glue (x ∷ xs) ys e = let two = nor (x == 10) (has_feed xs) e in lines-more x (xs ++ ys) two.0 ∙ ap (onto x) (lines-glue xs ys two.1)
+lines-glue (x ∷ xs) ys e = let two = or_parts (x == 10) (has_feed xs) e in lines-more x (xs ++ ys) two.0 ∙ ap (onto x) (lines-glue xs ys two.1)
 
 -- a line up to its line feed
 pub lines-cut : (xs ys : List ℕ) → has_feed xs ≡ false → lines_of (xs ++ 10 ∷ ys) ≡ (xs ++ 10 ∷ []) ∷ lines_of ys

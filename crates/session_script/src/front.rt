@@ -11,13 +11,13 @@ use crate::faults::ScriptFault;
 use io_edges::{Got, Source};
 
 /// The most bytes of a script.
-pub const MOST_BYTES: usize = 16_777_216;
+pub const MAX_BYTES: usize = 16_777_216;
 
 // How many bytes are asked of the source at once.
 const PIECE: usize = 4096;
 
 /// What stands in front of a script.
-#[derive(Clone, Copy, Debug, PartialEq, Eq)]
+#[derive(Clone, Copy, PartialEq, Eq)]
 pub enum Front {
     /// A line of so many bytes.
     Line(usize),
@@ -64,7 +64,7 @@ fn line_to(start: usize, end: usize) -> Front
     requires { start ≤ end }
     ensures { result ≡ (if nat_lt 16777216 end then Front.TooLong else Front.Line (end - start)) }
 {
-    if end > MOST_BYTES {
+    if end > MAX_BYTES {
         Front::TooLong
     } else {
         Front::Line(end - start)
@@ -111,7 +111,7 @@ pub fn read_front<S: Source>(
             return Ok(line_to(start, at + 1));
         }
         *scanned = bytes.len();
-        if bytes.len() > MOST_BYTES {
+        if bytes.len() > MAX_BYTES {
             return Ok(Front::TooLong);
         }
         if *ended {

@@ -12,10 +12,10 @@ use script_lines::Line;
 use std::alloc::{AllocError, Global};
 
 // A batch has fewer operations.
-const MOST_OPS: usize = 4_294_967_296;
+const MAX_OPS: usize = 4_294_967_296;
 
 /// What comes of a line.
-#[derive(Debug, Drop)]
+#[derive(Drop)]
 pub enum Moved {
     /// The script goes on.
     GoesOn,
@@ -33,7 +33,7 @@ fn commit(batch: &mut Option<Items<Op>>) -> Result<Moved, AllocError>
     let Some(ops) = batch else {
         return Ok(Moved::Refuses);
     };
-    if ops.len() >= MOST_OPS {
+    if ops.len() >= MAX_OPS {
         return Err(AllocError);
     }
     let Some(ops) = batch.take() else {

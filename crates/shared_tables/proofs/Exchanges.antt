@@ -40,15 +40,6 @@ pub any_err : {A E X : Type 0} (r : Result A E) → X → OnErr r X
 any_err (Ok a) x = tt
 any_err (Err e) x = x
 
--- what holds of the answer, in other words
-pub ok_so : {A E X Y : Type 0} (r : Result A E) → (X → Y) → OnOk r X → OnOk r Y
-ok_so (Ok a) f x = f x
-ok_so (Err e) f x = tt
-
-pub err_so : {A E X Y : Type 0} (r : Result A E) → (X → Y) → OnErr r X → OnErr r Y
-err_so (Ok a) f x = tt
-err_so (Err e) f x = f x
-
 -- what a refusal and an answer say of a call's result
 pub failed : {A E X : Type 0} (r : Result A E) (e : E) → r ≡ Err e → OnErr r X → X
 failed {A} {E} {X} r e is h = subst (λ (s : Result A E). OnErr s X) is h

@@ -26,7 +26,7 @@ pub struct SharedTable<K: Ord, V> {
 }
 
 /// The most entries of a table.
-const MOST: usize = 0x7fff_ffff_ffff_ffff;
+const MAX_ENTRIES: usize = 0x7fff_ffff_ffff_ffff;
 
 impl<K: Ord, V> Model for SharedTable<K, V> {
     ghost use Rattle.std.specs.Prelude.{◌≡◌, ◌<◌, ◌^◌, List, length};
@@ -125,7 +125,7 @@ impl<K: Ord, V> SharedTable<K, V> {
     {
         if self.has(key) {
             Ok(self.len)
-        } else if self.len < MOST {
+        } else if self.len < MAX_ENTRIES {
             Ok(self.len + 1)
         } else {
             Err(AllocError)

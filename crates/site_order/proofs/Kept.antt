@@ -1,57 +1,38 @@
 -- The places that a table by site keeps are those that composition keeps.
-use Rattle.std.proofs.Common.{◌≡◌, ◌∙◌, sym, ap, refl, subst, arith, ℕ, ◌+◌, ◌<◌, Bool, true, false, ◌&&◌, ◌||◌, cond, List, [], ◌∷◌, ◌++◌, append_assoc, length, length-append, map, Option, Some, None}
+use Rattle.std.proofs.Common.{◌≡◌, ◌∙◌, sym, ap, refl, subst, arith, ℕ, ◌+◌, ◌<◌, Bool, true, false, ◌||◌, cond, List, [], ◌∷◌, ◌++◌, append_assoc, length, length-append, map, Option, Some, None}
 use Rattle.std.specs.Prelude.{◌==◌, nat_le, nat_lt, not, filter}
 use Rattle.std.specs.List.{list_any}
 use Rattle.std.specs.Option.{is_some, is_none}
-use Rattle.std.proofs.lemmas.Bool.{eq-eqb, eqb-true}
+use Rattle.std.proofs.lemmas.Bool.{and_from, eq-eqb, eqb-true}
 use Rattle.std.proofs.lemmas.Bool.Decides.{nat_tests}
 use Rattle.std.proofs.lemmas.List.{map-append}
 use Rattle.composition.specs.Texts.{both}
-use Rattle.composition.specs.Paths.{Path, limits, same_path}
+use Rattle.composition.specs.Paths.{limits, same_path}
 use Rattle.composition.specs.World.{StackName, Root, Asset, same_stack}
 use Rattle.composition.specs.Trees.{Tree, node_of}
 use Rattle.composition.specs.Strength.{Ranked, strong_of, weak_of, sites, best_places, not_among}
-use Rattle.class_arcs.proofs.Sameness.{path_same, path_itself, one_test}
-use Rattle.class_arcs.proofs.Fitting.{both_hold, both_parts}
+use Rattle.class_arcs.proofs.Sameness.{one_test}
 use Rattle.site_order.specs.Best.{site_in, is_there, is_as_good, stands_at, better, next_best, best_from, kept_by, is_alone}
 use Rattle.site_order.specs.Places.{beats, beats_later, kept_after}
 use Rattle.site_order.specs.SiteKeys.{key_equal}
-use Rattle.std.specs.Cmp.Lexicographic.{pointwise, bytes_decides}
-use Rattle.sdf_paths.specs.declared.element.Element.{Element}
-use Rattle.sdf_paths.specs.declared.element.Element.TheVariants.{Prim, Property, Selection}
-use Rattle.sdf_paths.specs.contracts.element.ElementPartialEq.TheImpl.{ghosts as element_eq}
+use Rattle.std.specs.Cmp.Lexicographic.{bytes_decides}
+use Rattle.sdf_paths.specs.contracts.path.PathPartialEq.TheImpl.{ghosts as path_eq}
 use Rattle.prim_view.specs.contracts.stack_name.StackNamePartialEq.TheImpl.{ghosts as stack_eq}
 use Rattle.site_order.specs.contracts.best.SiteKeyPartialEq.TheImpl.{ghosts as key_eq}
 use Rattle.site_order.specs.declared.best.SiteKey.{SiteKey}
 use Rattle.site_order.specs.declared.best.Place.{Place}
-use Rattle.site_order.proofs.Naming.{stack_same, stack_itself}
 use Rattle.site_order.proofs.Placing.{kept_is}
-
-by_test : {A : Type 0} → (b : Bool) → (b ≡ true → A) → (b ≡ false → A) → A
-by_test true on off = on refl
-by_test false on off = off refl
+use Rattle.composition.proofs.Tests.{by_test, both_hold, both_parts}
+use Rattle.composition.proofs.Same.{path_same, path_itself, path_test, stack_same, stack_itself}
 
 -- ---- sites
-
-both_true : (a b : Bool) → a ≡ true → b ≡ true → (a && b) ≡ true
-both_true true b p q = q
-both_true false b p q = absurd cc
-
-element_itself : (x : Element) → element_eq.eq x x ≡ true
-element_itself (Prim a) = (bytes_decides a a).1 refl
-element_itself (Property a) = (bytes_decides a a).1 refl
-element_itself (Selection s v) = both_true (pointwise ◌==◌ s s) (pointwise ◌==◌ v v) ((bytes_decides s s).1 refl) ((bytes_decides v v).1 refl)
-
-elements_itself : (p : Path) → pointwise element_eq.eq p p ≡ true
-elements_itself [] = refl
-elements_itself (x ∷ p) = both_true (element_eq.eq x x) (pointwise element_eq.eq p p) (element_itself x) (elements_itself p)
 
 name_itself : (a : StackName) → stack_eq.eq a a ≡ true
 name_itself Root = refl
 name_itself (Asset a) = (bytes_decides a a).1 refl
 
 pub key_itself : (k : SiteKey) → key_eq.eq k k ≡ true
-key_itself k = both_true (stack_eq.eq k.stack k.stack) (pointwise element_eq.eq k.path k.path) (name_itself k.stack) (elements_itself k.path)
+key_itself k = and_from (stack_eq.eq k.stack k.stack) (path_eq.eq k.path k.path) (name_itself k.stack) (path_test k.path k.path ∙ path_itself k.path)
 
 there_itself : (x : Ranked) → is_there (site_in x.0) x ≡ true
 there_itself x =

@@ -1,7 +1,6 @@
 pub mod Choosing
 pub mod Counting
 pub mod Kept
-pub mod Naming
 pub mod Parts
 pub mod Placing
 pub mod Ranking

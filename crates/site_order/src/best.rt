@@ -15,9 +15,11 @@ use std::alloc::{AllocError, Global};
 use std::collections::BTreeMap;
 
 /// A path of a layer stack, with an order.
-#[derive(Debug, Drop, PartialEq, Eq, PartialOrd, Ord)]
+#[derive(Drop, PartialEq, Eq, PartialOrd, Ord)]
 pub struct SiteKey {
+    /// The layer stack.
     pub stack: StackName,
+    /// The path in that stack.
     pub path: Path,
 }
 
@@ -34,8 +36,9 @@ impl ExactOrd for SiteKey {
 }
 
 /// A place in a part.
-#[derive(Clone, Copy, Debug, Drop)]
+#[derive(Clone, Copy, Drop)]
 pub struct Place {
+    /// The rank of the node that stands there.
     pub rank: usize,
     /// How many places stand before it.
     pub at: usize,

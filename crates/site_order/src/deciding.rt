@@ -13,7 +13,7 @@ ghost use Rattle.site_order.specs.Said.{sets_of, selected_at};
 use crate::keeping::places;
 use crate::order::listing;
 use crate::sizes::is_overgrown;
-use list_ops::ListOp;
+use list_ops::{ListOp, push_all};
 use plain_data::{Items, Text, copy, same};
 use prim_trees::Tree;
 use prim_view::Choices;
@@ -67,16 +67,7 @@ fn all_sets(alloc: Global, nodes: &[&Tree]) -> Result<Items<Text>, AllocError>
 fn push_sets(out: &mut Items<Text>, node: &Tree) -> Result<(), AllocError>
     ensures { OnOk result (out.new ≡ out.old ++ sets_of (meant node.now)) }
 {
-    push_texts(out, node.here.sets.as_slice())?;
-    Ok(())
-}
-
-fn push_texts(out: &mut Items<Text>, texts: &[Text]) -> Result<(), AllocError>
-    ensures { OnOk result (out.new ≡ out.old ++ texts.now) }
-{
-    for text in texts {
-        out.push(copy(text)?)?;
-    }
+    push_all(out, node.here.sets.as_slice())?;
     Ok(())
 }
 
@@ -183,7 +174,8 @@ fn opinion_at<'t>(site: &'t Tree, set: &Text) -> Option<&'t Text>
     find_choice(site.here.selections.as_slice(), set)
 }
 
-fn find_choice<'t>(selections: &'t [(Text, Text)], set: &Text) -> Option<&'t Text>
+/// What is chosen or selected for a set.
+pub fn find_choice<'t>(selections: &'t [(Text, Text)], set: &Text) -> Option<&'t Text>
     ensures { option_copied result ≡ find_at same_text set.now selections.now }
 {
     for selection in selections {

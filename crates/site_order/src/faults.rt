@@ -20,7 +20,7 @@ use prim_view::{ArcFault, ArcReason, PrimFault, SublayerFault};
 use std::alloc::{AllocError, Global};
 
 /// Which of the faults of a kind of arcs.
-#[derive(Clone, Copy, Debug)]
+#[derive(Clone, Copy)]
 pub enum Group {
     /// Items of the prim itself that give no arc.
     NoArc,

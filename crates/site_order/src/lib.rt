@@ -10,9 +10,8 @@ mod order;
 mod ranks;
 mod sizes;
 
-pub use deciding::decided;
+pub use deciding::{decided, find_choice};
 pub use faults::arc_faults;
-pub use keeping::{places, sites};
-pub use order::{listing, strong_of, weak_of};
-pub use ranks::Ranked;
-pub use sizes::{has_spec_in, is_overgrown, is_overgrown_on_the_way, size};
+pub use keeping::sites;
+pub use ranks::same_stack;
+pub use sizes::{is_overgrown_on_the_way, size};

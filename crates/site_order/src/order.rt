@@ -15,7 +15,7 @@ use prim_trees::{Child, Tree};
 use std::alloc::{AllocError, Global};
 
 /// One of the two parts of a listing.
-#[derive(Clone, Copy, Debug)]
+#[derive(Clone, Copy)]
 pub enum Part {
     /// The node, what it inherits, its variants, references and payloads.
     Strong,

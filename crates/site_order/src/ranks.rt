@@ -17,6 +17,7 @@ use std::alloc::AllocError;
 /// A node with what stands below it, and its rank.
 #[derive(Clone, Copy)]
 pub struct Ranked<'t> {
+    /// The node with what stands below it.
     pub tree: &'t Tree,
     /// How many lifted inherits nodes stand above the node, and one more where it is itself one whose class is also a class of a
     /// variant, a reference or a payload beside it.
@@ -31,7 +32,7 @@ pub fn same_site(m: &Node, n: &Node) -> bool
 }
 
 /// Whether the two layer stacks are one.
-fn same_stack(a: &StackName, b: &StackName) -> bool
+pub fn same_stack(a: &StackName, b: &StackName) -> bool
     ensures { result ≡ same_stack a.now b.now }
 {
     same(a, b)

@@ -2,7 +2,7 @@
 ghost use Rattle.std.specs.Prelude.{◌≡◌, ◌↔◌, IsTrue, OnOk};
 
 use crate::spec::{ArcPart, BodyPart, Head, Spec};
-use plain_data::{ExactClone, ExactEq, copy, same};
+use plain_data::{ExactClone, ExactEq, copy, copy_two, same};
 use std::alloc::AllocError;
 
 impl Clone for Head {
@@ -150,14 +150,8 @@ impl Clone for Spec {
     ghost is_clone = { λ x y. y ≡ x };
 
     fn clone(&self) -> Result<Spec, AllocError> {
-        let arcs = copy(&self.arcs)?;
-        match copy(&self.body) {
-            Ok(body) => Ok(Spec { arcs, body }),
-            Err(error) => {
-                drop(arcs);
-                Err(error)
-            }
-        }
+        let (arcs, body) = copy_two(&self.arcs, &self.body)?;
+        Ok(Spec { arcs, body })
     }
 }
 

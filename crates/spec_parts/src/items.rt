@@ -16,15 +16,20 @@ pub enum Specifier {
 /// Why a text is no layer, and where: lines count line feeds from 1, columns bytes from 1.
 #[derive(Clone, Copy, Debug, PartialEq, Eq)]
 pub struct Refusal {
+    /// Why it is none.
     pub kind: RefusalKind,
+    /// The line, from 1.
     pub line: u64,
+    /// The byte of the line, from 1.
     pub column: u64,
 }
 
 /// A sublayer: its asset as written, and how its times become those of the layer.
 #[derive(Debug, Drop)]
 pub struct SubLayer {
+    /// The asset as it is written.
     pub asset: Text,
+    /// How times of the sublayer become those of the layer that lists it.
     pub offset: LayerOffset,
 }
 
@@ -42,6 +47,8 @@ pub struct RefItem {
 /// A variant set with its variants, in their order.
 #[derive(Debug, Drop)]
 pub struct VariantSet {
+    /// The name of the set.
     pub set: Text,
+    /// The names of its variants, in their order.
     pub variants: Items<Text>,
 }

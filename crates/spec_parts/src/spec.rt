@@ -27,26 +27,38 @@ pub struct Head {
 /// What composition follows: the arcs of a spec, its variant sets and the variants that it selects.
 #[derive(Debug, Drop)]
 pub struct ArcPart {
+    /// The classes that the prim inherits.
     pub inherits: ListOp<Path>,
+    /// The classes that it specializes: their opinions are weaker than all others of the prim.
     pub specializes: ListOp<Path>,
+    /// The prims that it refers to.
     pub references: ListOp<RefItem>,
+    /// The prims that it refers to where the prim is loaded.
     pub payloads: ListOp<RefItem>,
+    /// The names of its variant sets.
     pub variant_sets: ListOp<Text>,
+    /// The variants that it selects, by the names of their sets.
     pub selections: Selections,
 }
 
 /// What composition gathers from a spec.
 #[derive(Debug, Drop)]
 pub struct BodyPart {
+    /// Whether it defines the prim, makes it a class, or adds to it.
     pub specifier: Specifier,
+    /// The type, where one is given.
     pub type_name: Option<Text>,
+    /// The other metadata, by key.
     pub meta: Meta,
+    /// The applied schemas.
     pub api_schemas: ListOp<Text>,
+    /// The sets of value clips.
     pub clip_sets: ListOp<Text>,
     /// The names of the prims below, in their order.
     pub children: Items<Text>,
     /// The order that the spec gives to children.
     pub child_order: Items<Text>,
+    /// The properties by name, in their order.
     pub properties: Properties,
     /// The order that the spec gives to properties.
     pub property_order: Items<Text>,
@@ -57,7 +69,9 @@ pub struct BodyPart {
 /// What a layer says of a prim or a variant.
 #[derive(Debug, Drop)]
 pub struct Spec {
+    /// What composition follows.
     pub arcs: ArcPart,
+    /// What composition gathers.
     pub body: BodyPart,
 }
 

@@ -14,20 +14,32 @@ use std::alloc::{AllocError, Global};
 pub enum Property {
     /// An attribute.
     Attr {
+        /// Its name.
         name: Text,
+        /// The type of its values.
         ty: TypeName,
+        /// Whether the spec says `custom`.
         custom: bool,
+        /// Whether the spec says `uniform`: the value is meant to be one for all times.
         uniform: bool,
+        /// The default, where one is given; a block is one.
         default: Option<Value>,
+        /// The samples by time.
         samples: Samples,
+        /// The edits of its connections.
         connections: ListOp<Path>,
+        /// The other metadata, by key.
         meta: Meta,
     },
     /// A relationship.
     Rel {
+        /// Its name.
         name: Text,
+        /// Whether the spec says `custom`.
         custom: bool,
+        /// The edits of its targets.
         targets: ListOp<Path>,
+        /// The other metadata, by key.
         meta: Meta,
     },
 }

@@ -2,4 +2,6 @@
 #![tactic(auto)]
 
 #[cfg(test)]
+mod fault_texts;
+#[cfg(test)]
 mod questions;

@@ -1,7 +1,8 @@
 -- Stages as layers: they compute, but for the text of the default prim.
 use Rattle.std.proofs.Common.{ℕ, List, [], ◌∷◌, Option, refl, ap}
 use Rattle.std.specs.Prelude.{codes, pos}
-use Rattle.flatten.specs.Flattened.{Stage, flat_body, flat_spec, default_key, default_in, beside_default, flat_head, head_of, with_prim, with_prims, flat_layer}
+use Rattle.sdf_specs.specs.Keys.{default_key}
+use Rattle.flatten.specs.Flattened.{Stage, flat_body, flat_spec, default_in, beside_default, flat_head, head_of, with_prim, with_prims, flat_layer}
 use Rattle.sdf_specs.specs.Layers.{LayerTable}
 use Rattle.sdf_values.specs.declared.value.Value.TheVariants as value
 use Rattle.spec_parts.specs.declared.spec.Head.{Head}

@@ -3,7 +3,8 @@ use Rattle.std.proofs.Common.{◌≡◌, ◌∙◌, ℕ, List, [], Some, refl, s
 use Rattle.std.specs.Fmt.{digits}
 use Rattle.std.specs.Prelude.{ℤ, pos, codes, ◌++◌}
 use Rattle.prim_view.specs.Printing.{target_word}
-use Rattle.flatten.specs.Flattened.{flat_body, flat_spec, default_key, default_in, beside_default, flat_head, head_of, with_prim, flat_layer}
+use Rattle.sdf_specs.specs.Keys.{default_key}
+use Rattle.flatten.specs.Flattened.{flat_body, flat_spec, default_in, beside_default, flat_head, head_of, with_prim, flat_layer}
 use Rattle.sdf_values.specs.Print.{fraction_digits, print, print_step, print_item, whole_text}
 use Rattle.sdf_values.specs.declared.value.Value.{Value, fold-roll-Value}
 use Rattle.sdf_values.specs.declared.value.Value.TheOpen.{Value-F}

@@ -7,12 +7,12 @@ use Rattle.prim_view.specs.declared.site.Site.{Site}
 use Rattle.prim_view.specs.declared.stack_name.StackName.{StackName}
 use Rattle.prim_view.specs.declared.stack_name.StackName.TheVariants.{Root, Asset}
 use Rattle.prim_view.specs.declared.view.PrimView.{PrimView}
-use Rattle.sdf_paths.specs.Paths.{printed}
+use Rattle.sdf_paths.specs.Paths.{path_text, printed}
 use Rattle.sdf_paths.specs.declared.element.Element.{Element}
 use Rattle.sdf_values.specs.Print.{asset_text, print, quoted, time_text}
 use Rattle.sdf_values.specs.declared.value.Value.{Value}
 use Rattle.spec_properties.specs.Entries.{SampleEntries}
-use Rattle.usda_writer.specs.Texts.{Text, bracketed, listed, path_text}
+use Rattle.usda_writer.specs.Texts.{Text, bracketed, listed}
 
 -- a value as a layer writes it, at no indentation
 abbrev pub value_text : Value → Text

@@ -3,14 +3,14 @@ ghost use Rattle.std.specs.Prelude.{◌≡◌, ◌++◌, length, IfOk, OnOk, str
 ghost use Rattle.std.specs.List.{flat_map};
 ghost use Rattle.prim_view.specs.Printing.{fault_text};
 ghost use Rattle.sdf_values.specs.Print.{quoted};
-ghost use Rattle.usda_writer.specs.Texts.{listed, path_text};
+ghost use Rattle.sdf_paths.specs.Paths.{path_text};
+ghost use Rattle.usda_writer.specs.Texts.{listed};
 ghost use Rattle.stage_questions.specs.Texts.{sample_text, samples_text, paths_text, names_text, line_start, line_below, first_layer, site_text, faults_text, sites_with_spec, sites_text};
 
-use crate::question::push_path;
 use asset_names::AssetId;
 use plain_data::Text;
 use prim_view::{PrimFault, PrimView, Site, StackName, print_fault};
-use sdf_paths::Path;
+use sdf_paths::{Path, push_path, push_path_text};
 use sdf_values::{TimeCode, Value, push_asset, push_string, push_time, push_value};
 use spec_properties::Samples;
 use std::alloc::{AllocError, Global};
@@ -48,14 +48,6 @@ pub fn print_samples(alloc: Global, samples: &Samples) -> Result<String, AllocEr
     Ok(out)
 }
 
-fn push_target(out: &mut String, path: &Path) -> Result<(), AllocError>
-    ensures { OnOk result (string_bytes out.new ≡ string_bytes out.old ++ path_text path.now) }
-{
-    out.push_str("<")?;
-    push_path(out, path)?;
-    out.push_str(">")
-}
-
 // Appends targets with a comma and a blank between them.
 fn push_targets(out: &mut String, paths: &[Path]) -> Result<(), AllocError>
     ensures { OnOk result (string_bytes out.new ≡ string_bytes out.old ++ listed path_text paths.now) }
@@ -66,7 +58,7 @@ fn push_targets(out: &mut String, paths: &[Path]) -> Result<(), AllocError>
             out.push_str(", ")?;
         }
         is_first = false;
-        push_target(out, path)?;
+        push_path_text(out, path)?;
     }
     Ok(())
 }

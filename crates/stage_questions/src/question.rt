@@ -1,9 +1,8 @@
 // Questions, and how they are written.
 ghost use Rattle.std.specs.Prelude.{◌≡◌, ◌++◌, IfOk, OnOk, string_bytes};
-ghost use Rattle.sdf_paths.specs.Paths.{printed};
 ghost use Rattle.stage_questions.specs.Answers.{asked_of, question_text};
 
-use sdf_paths::Path;
+use sdf_paths::{Path, push_path};
 use sdf_values::{TimeCode, push_time};
 use std::alloc::{AllocError, Global};
 
@@ -28,14 +27,6 @@ pub enum Question {
     Sites { path: Path },
     /// The flattened layer of the stage.
     Flatten,
-}
-
-/// Appends a path.
-pub fn push_path(out: &mut String, path: &Path) -> Result<(), AllocError>
-    ensures { OnOk result (string_bytes out.new ≡ string_bytes out.old ++ printed path.now) }
-{
-    let text = path.print()?;
-    out.push_str(text.as_str())
 }
 
 // Appends a word and a path.

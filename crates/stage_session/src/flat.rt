@@ -4,7 +4,7 @@ ghost use Rattle.prim_compose.specs.Listing.{entry_at, listed_below};
 ghost use Rattle.stage_questions.specs.Answers.{flat_text};
 ghost use Rattle.stage_session.specs.Sessions.{most_paths, stage_after};
 
-use crate::session::MOST_PATHS;
+use crate::session::MAX_PATHS;
 use compose_api::{StageRefused, stage_items_within};
 use flatten::flatten_text;
 use layer_set::World;
@@ -21,7 +21,7 @@ fn stage_of_world(alloc: Global, world: &World) -> Result<Items<(Path, PrimView)
     ensures few { IfOk result (λ items. length items ≤ most_paths) }
     ensures full { result ≡ Err StageRefused.Full → most_paths < length (stage_after world.now []) }
 {
-    let items = stage_items_within(alloc, &UsdComposer::new(alloc), world, MOST_PATHS)?;
+    let items = stage_items_within(alloc, &UsdComposer::new(alloc), world, MAX_PATHS)?;
     Ok(items)
 }
 
@@ -36,7 +36,7 @@ fn edition_text(alloc: Global, edition: &Edition<Path, PrimView>) -> Result<Vec<
 ///
 /// # Errors
 ///
-/// `Full` exactly where the stage has more than `MOST_PATHS` paths. `NoMemory` where memory ran out.
+/// `Full` exactly where the stage has more than `MAX_PATHS` paths. `NoMemory` where memory ran out.
 pub fn flatten_world(alloc: Global, world: &World) -> Result<Vec<u8>, StageRefused>
     ensures text { IfOk result (λ text. text.items ≡ flat_text (stage_after world.now [])) }
     ensures few { IfOk result (λ _. length (stage_after world.now []) ≤ most_paths) }

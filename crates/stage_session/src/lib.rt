@@ -5,4 +5,4 @@ mod flat;
 mod session;
 
 pub use flat::flatten_world;
-pub use session::{MOST_PATHS, Session};
+pub use session::{MAX_PATHS, Session};

@@ -19,7 +19,7 @@ use std::marker::Model;
 use std::mem;
 
 /// As many paths as a stage has at most, `/` among them.
-pub const MOST_PATHS: usize = 262_144;
+pub const MAX_PATHS: usize = 262_144;
 
 /// A session: the world that was opened with the history of its calls, and the stage that was published last.
 ///
@@ -57,7 +57,7 @@ fn publish_core(core: &mut Core<UsdComposer>) -> Result<Items<UsdComposer>, Stag
     ensures full { result ≡ Err StageRefused.Full → most_paths < length (stage_after core.old.opened core.old.history) }
     ensures refused { OnErr result (core.new ≡ core.old) }
 {
-    let edition = core.publish_within(0, MOST_PATHS)?;
+    let edition = core.publish_within(0, MAX_PATHS)?;
     Ok(edition)
 }
 
@@ -97,7 +97,7 @@ impl Session {
     ///
     /// # Errors
     ///
-    /// `Full` exactly where the stage has more than `MOST_PATHS` paths. `NoMemory` where memory ran out.
+    /// `Full` exactly where the stage has more than `MAX_PATHS` paths. `NoMemory` where memory ran out.
     pub fn open(alloc: Global, world: World) -> Result<(Session, Vec<u8>), StageRefused>
         ensures session { IfOk result (λ x. x.0 ≡ opening world) }
         ensures reply { IfOk result (λ x. x.1.items ≡ opening_text world) }
@@ -167,7 +167,7 @@ impl Session {
     ///
     /// # Errors
     ///
-    /// `Full` exactly where the stage has more than `MOST_PATHS` paths; then nothing was published. `NoMemory` where memory ran out.
+    /// `Full` exactly where the stage has more than `MAX_PATHS` paths; then nothing was published. `NoMemory` where memory ran out.
     pub fn publish(&mut self) -> Result<Vec<u8>, StageRefused>
         ensures reply { IfOk result (λ text. text.items ≡ publish_reply self.old) }
         ensures after { IfOk result (λ _. self.new ≡ after_publish self.old) }

@@ -1,30 +1,7 @@
--- What is in lists that are made item by item.
-use Rattle.std.proofs.Common.{◌≡◌, ◌⊎◌, inl, inr, refl, sym, ap, ◌∙◌, subst, List, [], ◌∷◌, ◌++◌, flat_map, Contains, arith}
-use Rattle.std.proofs.lemmas.List.Elements.{Contains-append_left, Contains-append_right, Contains-append_cases, Contains-push, Contains-push_cases}
-
-module _ {X : Type 0} where
-  pub none_in : (x : X) → Contains [] x → ⊥
-  none_in x h = let below = h.1 in absurd (omega arith)
-
-  pub head_in : (y : X) (ys : List X) → Contains (y ∷ ys) y
-  head_in y ys = Contains-append_left (y ∷ []) ys y (Contains-push [] y)
-
-  pub tail_in : (y : X) (ys : List X) (x : X) → Contains ys x → Contains (y ∷ ys) x
-  tail_in y ys x h = Contains-append_right (y ∷ []) ys x h
-
-  only : (y x : X) → Contains [] x ⊎ (y ≡ x) → y ≡ x
-  only y x (inl h) = absurd (none_in x h)
-  only y x (inr e) = e
-
-  pub only_in : (y x : X) → Contains (y ∷ []) x → y ≡ x
-  only_in y x h = only y x (Contains-push_cases [] y x h)
-
-  pub cases_in : (y : X) (ys : List X) (x : X) → Contains (y ∷ ys) x → (y ≡ x) ⊎ Contains ys x
-  cases_in y ys x h = by (Contains-append_cases (y ∷ []) ys x h)
-    where
-      by : Contains (y ∷ []) x ⊎ Contains ys x → (y ≡ x) ⊎ Contains ys x
-      by (inl one) = inl (only_in y x one)
-      by (inr more) = inr more
+-- What is in lists that are made item by item of others.
+use Rattle.std.proofs.Common.{◌≡◌, ◌⊎◌, inl, inr, refl, sym, ap, ◌∙◌, subst, List, [], ◌∷◌, ◌++◌, flat_map, Contains}
+use Rattle.std.proofs.lemmas.List.Elements.{Contains-append_left, Contains-append_right, Contains-append_cases}
+use Rattle.composition.proofs.Members.{none_in, head_in, tail_in, cases_in}
 
 module _ {X A : Type 0} (f : X → List A) where
   pub joined_in : (xs : List X) (x : X) (a : A) → Contains xs x → Contains (f x) a → Contains (flat_map f xs) a

@@ -7,8 +7,9 @@ use Rattle.composition.specs.World.{World}
 use Rattle.composition.specs.Fields.{child_path}
 use Rattle.composition.specs.Views.{PrimView, view, walked}
 use Rattle.stage_walks.specs.Laws.{IsListed, StageIsWhole}
-use Rattle.stage_walks.proofs.Members.{none_in, head_in, tail_in, only_in, cases_in, joined_in, in_joined}
+use Rattle.stage_walks.proofs.Members.{joined_in, in_joined}
 use Rattle.stage_walks.proofs.Deep.{fewer_left, within, lists_none, no_deeper}
+use Rattle.composition.proofs.Members.{none_in, head_in, tail_in, only_in, cases_in}
 
 module _ (l : Limits) (w : World) where
   -- a path with its view

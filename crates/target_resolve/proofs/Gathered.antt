@@ -1,5 +1,5 @@
 -- What the specs of a property say of its list, one after the other.
-use Rattle.std.proofs.Common.{◌≡◌, ◌∙◌, sym, ap, refl, ℕ, ◌+◌, ◌<◌, length, take, get_or, Bool, true, false, cond, List, [], ◌∷◌, ◌++◌, map, Option, Some, None}
+use Rattle.std.proofs.Common.{◌≡◌, ◌∙◌, sym, ap, refl, ℕ, ◌+◌, ◌<◌, length, take, get_or, Bool, true, false, cond, List, [], ◌∷◌, ◌++◌, map, Option, Some, None, append-nil}
 use Rattle.std.specs.Prelude.{filter, flat_map}
 use Rattle.std.proofs.lemmas.List.{map-append, take_more}
 use Rattle.std.proofs.lemmas.Grind.{flat_map-append}
@@ -16,10 +16,6 @@ use Rattle.composition.specs.Values.{PropertySaid}
 use Rattle.target_resolve.specs.Translating.{on_stage, is_missing, is_lost, op_on_stage, outside, folded_paths, if_any, edits_of, tried}
 use Rattle.target_resolve.specs.Resolving.{ops_by, targets_by, faults_by, with_op}
 use Rattle.target_resolve.proofs.Moved.{filter_append}
-
-append_none : {X : Type 0} (xs : List X) → xs ++ [] ≡ xs
-append_none [] = refl
-append_none (x ∷ xs) = ap (λ ys. x ∷ ys) (append_none xs)
 
 op_is : (s : Said) (op : ListOp Path) → op_on_stage s.site.maps op ≡ translated_op limits s op
 unfolding on_stage
@@ -50,7 +46,7 @@ ops_more ps p =
     by_opinion : (b : Bool) → translated_ops limits ps ++ map (λ (q : PropertySaid). translated_op limits q.said (edits_of q.property)) (cond b (p ∷ []) [])
         ≡ cond b (translated_ops limits ps ++ translated_op limits p.said (edits_of p.property) ∷ []) (translated_ops limits ps)
     by_opinion true = refl
-    by_opinion false = append_none (translated_ops limits ps)
+    by_opinion false = append-nil (translated_ops limits ps)
 
 faults_more : (name : Text) (ps : List PropertySaid) (p : PropertySaid)
     → faults_by name (ps ++ p ∷ []) ≡ faults_by name ps ++ map (outside name p.said) (filter (is_lost p.said.site.maps) (tried (edits_of p.property)))
@@ -59,7 +55,7 @@ faults_more name ps p =
     ap (map TargetOutside) (flat_map-append (λ (q : PropertySaid). flat_map (target_fault limits name q.said) (tried (edits_of q.property))) ps (p ∷ []))
     ∙ (map-append TargetOutside (target_faults limits name ps) (flat_map (target_fault limits name p.said) (tried (edits_of p.property)) ++ [])
     ∙ ap (λ (more : List PrimFault). map TargetOutside (target_faults limits name ps) ++ more)
-    (ap (map TargetOutside) (append_none (flat_map (target_fault limits name p.said) (tried (edits_of p.property))))
+    (ap (map TargetOutside) (append-nil (flat_map (target_fault limits name p.said) (tried (edits_of p.property))))
     ∙ faults_of name p.said (tried (edits_of p.property))))
 
 module _ (ps : List PropertySaid) (i : ℕ) (p : PropertySaid) (within : i < length ps) (item : p ≡ get_or ps i p) where

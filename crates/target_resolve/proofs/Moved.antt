@@ -34,10 +34,6 @@ filter_append p (x ∷ xs) ys = by_test (p x) (filter_append p xs ys)
     by_test true h = ap (λ zs. x ∷ zs) h
     by_test false h = h
 
-append_none : {X : Type 0} (xs : List X) → xs ++ [] ≡ xs
-append_none [] = refl
-append_none (x ∷ xs) = ap (λ ys. x ∷ ys) (append_none xs)
-
 module _ {X Y : Type 0} (f : X → Option Y) (p : X → Bool) (xs : List X) (i : ℕ) (x : X) (within : i < length xs) (item : x ≡ get_or xs i x) where
   taken : take (i + 1) xs ≡ take i xs ++ x ∷ []
   taken = take_more xs i x within ∙ ap (λ (y : X). take i xs ++ y ∷ []) (sym item)

@@ -16,7 +16,9 @@ use std::mem;
 /// Edits with what has a translation, and the items that have none, deletes aside.
 #[derive(Drop)]
 pub struct Edited {
+    /// The edits, of paths on the stage.
     pub op: ListOp<Path>,
+    /// The items that have no translation, as they are written; a delete is not told.
     pub lost: Items<Path>,
 }
 

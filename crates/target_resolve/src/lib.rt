@@ -5,4 +5,4 @@ mod edits;
 mod targets;
 mod translate;
 
-pub use targets::{TargetList, resolve_targets, resolve_targets_by, resolve_targets_of};
+pub use targets::{TargetList, resolve_targets, resolve_targets_by};

@@ -50,7 +50,9 @@ pub fn on_stage(maps: &[ArcMap], path: &Path) -> Result<Option<Path>, AllocError
 /// Paths that have a translation, translated, and the others as they are.
 #[derive(Drop)]
 pub struct Moved {
+    /// What stands on the stage for the paths that have a translation, in their order.
     pub kept: Items<Path>,
+    /// The paths that have none, in their order.
     pub lost: Items<Path>,
 }
 

@@ -2,10 +2,11 @@
 use Rattle.std.proofs.Common.{◌≡◌, ℕ, zero, suc, ◌<◌, nat_lt, Bool, true, false, List, [], ◌∷◌, ◌++◌, arith}
 use Rattle.std.specs.Prelude.{if◌then◌else◌, replicate}
 use Rattle.std.specs.List.{list_all, flat_map}
-use Rattle.std.specs.Str.{is_utf8, IsUtf8, IsAscii}
+use Rattle.std.specs.Str.{is_utf8, IsUtf8}
 use Rattle.std.proofs.lemmas.Bool.{and_parts}
 use Rattle.std.proofs.lemmas.Bool.Decides.{nat_tests}
-use Rattle.std.proofs.lemmas.Str.{IsUtf8-append, IsUtf8-from_ascii, IsUtf8-from_is_utf8, IsUtf8-nil}
+use Rattle.std.proofs.lemmas.Str.{IsUtf8-append, IsUtf8-from_is_utf8, IsUtf8-nil}
+use Rattle.value_texts.proofs.AsciiTests.{ascii_before}
 
 pub record IsValid (t : List ℕ) : Type 0 where
   pub utf8 : IsUtf8 t
@@ -20,13 +21,9 @@ two {s = s} {t = t} h k = record { utf8 = IsUtf8-append s t h.utf8 k.utf8 }
 pub nothing : IsValid []
 nothing = record { utf8 = IsUtf8-nil }
 
-one_ascii : (c : ℕ) → c < 128 → IsAscii (c ∷ [])
-one_ascii c h zero = h
-one_ascii c h (suc i) = omega arith
-
 -- behind an ASCII character
 pub behind : (c : ℕ) → c < 128 → {t : List ℕ} → IsValid t → IsValid (c ∷ t)
-behind c low {t = t} h = record { utf8 = IsUtf8-append (c ∷ []) t (IsUtf8-from_ascii (c ∷ []) (one_ascii c low)) h.utf8 }
+behind c low {t = t} h = record { utf8 = ascii_before c t low h.utf8 }
 
 abbrev pub is_low : ℕ → Bool
 is_low c = nat_lt c 128

@@ -1,21 +1,18 @@
 -- The checks before the first word.
 use Rattle.std.proofs.Common.{◌≡◌, ◌∙◌, ℕ, ◌≤◌, nat_lt, true, false, List, [], ◌++◌, length, None, ap, refl, subst, arith}
-use Rattle.std.specs.Prelude.{codes}
 use Rattle.std.specs.Str.{is_utf8}
 use Rattle.std.proofs.lemmas.Bool.Decides.{nat_tests}
 use Rattle.std.proofs.lemmas.Str.{is_utf8-from_IsUtf8}
 use Rattle.sdf_specs.specs.Layers.{LayerTable}
 use Rattle.usda_reader.specs.Checks.{foreign_check, header_check, text_check, some_or, first_check}
+use Rattle.usda_reader.proofs.FirstBytes.{text_is_utf8}
 use Rattle.usda_writer.specs.Canonical.{head_lines, head_block, root_order_text, children_text, body_text, first_line, canonical}
+use Rattle.layer_texts.proofs.FirstLine.{text as begun}
 use Rattle.text_checks.specs.Laws.{AreTextsUtf8, DoUtf8TextsPass, DoTextsPass}
 use Rattle.text_checks.proofs.Layers.{layer_valid}
 
 pub texts_are_utf8 : AreTextsUtf8
 texts_are_utf8 layer h u = is_utf8-from_IsUtf8 (canonical layer) (layer_valid layer h u).utf8
-
--- a text whose first line is that of a layer
-abbrev begun : List ℕ → List ℕ
-begun rest = codes "#usda 1.0\n" ++ rest
 
 canonical_begun : (layer : LayerTable) → (rest : List ℕ) × (canonical layer ≡ begun rest)
 unfolding canonical first_line
@@ -33,15 +30,11 @@ header_passed : (rest : List ℕ) → header_check (begun rest) ≡ None
 unfolding header_check
 header_passed rest = refl
 
-text_passed : (text : List ℕ) → is_utf8 text ≡ true → text_check text ≡ header_check text
-unfolding text_check
-text_passed text e = rw e refl
-
 passed : (text rest : List ℕ) → text ≡ begun rest → length text ≤ 67108864 → is_utf8 text ≡ true → first_check text ≡ None
 unfolding first_check
 passed text rest is short utf8 =
     let foreign : foreign_check text ≡ None = ap foreign_check is ∙ foreign_passed rest (subst (λ t. length t ≤ 67108864) is short) in
-    ap (λ o. some_or o (text_check text)) foreign ∙ text_passed text utf8 ∙ ap header_check is ∙ header_passed rest
+    ap (λ o. some_or o (text_check text)) foreign ∙ text_is_utf8 text utf8 ∙ ap header_check is ∙ header_passed rest
 
 pub utf8_texts_pass : DoUtf8TextsPass
 utf8_texts_pass layer utf8 short = let b = canonical_begun layer in passed (canonical layer) b.0 b.1 short utf8

@@ -1,5 +1,5 @@
 -- The lines of metadata.
-use Rattle.std.proofs.Common.{◌≡◌, ◌∙◌, ℕ, ◌&&◌, Bool, true, List, [], ◌∷◌, map, Option, Some, None, ap, refl}
+use Rattle.std.proofs.Common.{◌≡◌, ◌∙◌, ℕ, ◌&&◌, Bool, true, List, [], ◌∷◌, map, Option, Some, None, refl}
 use Rattle.std.specs.Prelude.{codes}
 use Rattle.std.specs.BTreeMap.{insert_entry}
 use Rattle.std.specs.List.{list_all}
@@ -7,7 +7,7 @@ use Rattle.std.specs.Ordering.{match_ordering}
 use Rattle.std.specs.Str.{is_utf8}
 use Rattle.std.specs.declared.cmp.Ordering.{Ordering}
 use Rattle.std.specs.declared.cmp.Ordering.TheVariants.{Less, Equal, Greater}
-use Rattle.std.proofs.lemmas.Bool.{and_parts}
+use Rattle.std.proofs.lemmas.Bool.{and_parts, and_from}
 use Rattle.usd_names.specs.Names.{is_name}
 use Rattle.sdf_paths.specs.Order.{text_cmp}
 use Rattle.sdf_values.specs.Print.{print, quoted}
@@ -21,7 +21,7 @@ use Rattle.usda_writer.specs.Canonical.{with_default_prim}
 use Rattle.usda_writer.specs.Texts.{path_text, reference_text, sublayer_text}
 use Rattle.usda_writer.specs.Fields.{is_comment, comment_line, key_line, meta_lines, selection_item, selection_lines, spec_lines, sublayer_lines}
 use Rattle.value_texts.specs.Writable.{is_writable}
-use Rattle.value_texts.proofs.Values as fold
+use Rattle.sdf_values.proofs.Values as fold
 use Rattle.layer_texts.specs.Writable.{none_or, is_word, is_writable_target, is_writable_reference, is_writable_list, is_writable_entry, is_writable_meta, are_writable_selections, are_writable_arcs, is_writable_body, is_writable_spec}
 use Rattle.layer_texts.proofs.Metadata.{selections_writable}
 use Rattle.text_checks.specs.Utf8.{is_utf8_value, is_utf8_entry, utf8_step, utf8_item, is_utf8_path, is_utf8_reference, is_utf8_sublayer, is_utf8_meta, is_utf8_spec}
@@ -29,9 +29,6 @@ use Rattle.text_checks.proofs.Bytes.{IsValid, tested, two, nothing, ascii, eithe
 use Rattle.text_checks.proofs.Lists.{line_valid, list_valid, edit_line_valid, path_valid, reference_valid, sublayer_valid}
 use Rattle.text_checks.proofs.Strings.{string_valid}
 use Rattle.text_checks.proofs.Values.{value_valid}
-
-pub and : (a b : Bool) → a ≡ true → b ≡ true → (a && b) ≡ true
-and a b h k = ap (λ x. x && b) h ∙ k
 
 pub word_valid : (t : List ℕ) → is_word t ≡ true → IsValid t
 unfolding is_word
@@ -48,7 +45,7 @@ entries_good [] w u = refl
 entries_good (e ∷ es) w u =
     let p = and_parts (is_writable_entry e) (is_writable_meta es) w in
     let q = and_parts (is_utf8_value e.1) (is_utf8_meta es) u in
-    and (is_good e) (list_all is_good es) (and (is_writable_entry e) (is_utf8_value e.1) p.0 q.0) (entries_good es p.1 q.1)
+    and_from (is_good e) (list_all is_good es) (and_from (is_writable_entry e) (is_utf8_value e.1) p.0 q.0) (entries_good es p.1 q.1)
 
 entry_value : (e : List ℕ × Value) → is_good e ≡ true → (level : ℕ) → IsValid (print e.1 level)
 entry_value e h level =
@@ -71,11 +68,11 @@ meta_valid level meta w u =
 
 -- with an entry more
 inserted : (cmp : List ℕ → List ℕ → Ordering) (k : List ℕ) (v : Value) → is_utf8_value v ≡ true → (es : MetaEntries) → is_utf8_meta es ≡ true → is_utf8_meta (insert_entry cmp es k v) ≡ true
-inserted cmp k v u [] h = and (is_utf8_value v) true u refl
+inserted cmp k v u [] h = and_from (is_utf8_value v) true u refl
 inserted cmp k v u (e ∷ es) h =
     let p = and_parts (is_utf8_value e.1) (is_utf8_meta es) h in
-    cases (cmp k e.0) (and (is_utf8_value v) (is_utf8_meta (e ∷ es)) u h) (and (is_utf8_value v) (is_utf8_meta es) u p.1)
-    (and (is_utf8_value e.1) (is_utf8_meta (insert_entry cmp es k v)) p.0 (inserted cmp k v u es p.1))
+    cases (cmp k e.0) (and_from (is_utf8_value v) (is_utf8_meta (e ∷ es)) u h) (and_from (is_utf8_value v) (is_utf8_meta es) u p.1)
+    (and_from (is_utf8_value e.1) (is_utf8_meta (insert_entry cmp es k v)) p.0 (inserted cmp k v u es p.1))
   where
     cases : (o : Ordering) → is_utf8_meta ((k, v) ∷ e ∷ es) ≡ true → is_utf8_meta ((e.0, v) ∷ es) ≡ true → is_utf8_meta (e ∷ insert_entry cmp es k v) ≡ true
         → is_utf8_meta (match_ordering o ((k, v) ∷ e ∷ es) ((e.0, v) ∷ es) (e ∷ insert_entry cmp es k v)) ≡ true
@@ -92,7 +89,7 @@ default_utf8 (Some name) meta h = inserted text_cmp (codes "defaultPrim") (value
 items_utf8 : (ss : SelectionEntries) → all_true (map is_utf8_entry (map selection_item ss)) ≡ true
 items_utf8 [] = refl
 items_utf8 (s ∷ ss) =
-    and (is_utf8_entry (selection_item s)) (all_true (map is_utf8_entry (map selection_item ss)))
+    and_from (is_utf8_entry (selection_item s)) (all_true (map is_utf8_entry (map selection_item ss)))
     (fold.of_item Bool Bool utf8_step utf8_item (selection_item s) ∙ fold.of_text Bool Bool utf8_step utf8_item s.1) (items_utf8 ss)
 
 selections_valid : (level : ℕ) (ss : SelectionEntries) → are_writable_selections ss ≡ true → IsValid (selection_lines level ss)

@@ -5,7 +5,7 @@ use Rattle.std.specs.BTreeMap.{is_at}
 use Rattle.std.specs.List.{list_all, flat_map}
 use Rattle.std.specs.Map.{lookup}
 use Rattle.std.specs.Str.{is_utf8}
-use Rattle.std.proofs.lemmas.Bool.{and_parts}
+use Rattle.std.proofs.lemmas.Bool.{and_parts, and_from}
 use Rattle.usd_names.specs.Names.{is_identifier, is_variant}
 use Rattle.sdf_paths.specs.Order.{path_cmp}
 use Rattle.sdf_paths.specs.declared.element.Element.{Element}
@@ -26,7 +26,7 @@ use Rattle.layer_texts.specs.Writable.{none_or, is_word, is_writable_list, is_wr
 use Rattle.layer_texts.proofs.Metadata.{default_writable}
 use Rattle.text_checks.specs.Utf8.{is_utf8_property, is_utf8_meta, is_utf8_spec, is_utf8_head, is_utf8_layer}
 use Rattle.text_checks.proofs.Bytes.{IsValid, two, nothing, ascii, all}
-use Rattle.text_checks.proofs.Fields.{and, word_valid, meta_valid, default_utf8, spec_valid, sublayers_valid}
+use Rattle.text_checks.proofs.Fields.{word_valid, meta_valid, default_utf8, spec_valid, sublayers_valid}
 use Rattle.text_checks.proofs.Lists.{line_valid, block_valid, bracketed_valid}
 use Rattle.text_checks.proofs.Properties.{property_valid}
 use Rattle.text_checks.proofs.Strings.{string_valid, identifier_valid, variant_valid}
@@ -155,7 +155,7 @@ specs_good [] w u = refl
 specs_good (e ∷ es) w u =
     let p = and_parts (is_writable_spec e.1) (list_all (λ e. is_writable_spec e.1) es) w in
     let q = and_parts (is_utf8_spec e.1) (list_all (λ e. is_utf8_spec e.1) es) u in
-    and (is_good e.1) (list_all (λ e. is_good e.1) es) (and (is_writable_spec e.1) (is_utf8_spec e.1) p.0 q.0) (specs_good es p.1 q.1)
+    and_from (is_good e.1) (list_all (λ e. is_good e.1) es) (and_from (is_writable_spec e.1) (is_utf8_spec e.1) p.0 q.0) (specs_good es p.1 q.1)
 
 head_block_valid : (t : List ℕ) → IsValid t → IsValid (head_block t)
 head_block_valid [] h = nothing

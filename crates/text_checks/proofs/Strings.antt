@@ -9,7 +9,8 @@ use Rattle.std.proofs.lemmas.Str.{IsUtf8-encode, chars-encodes, encode_ascii}
 use Rattle.usd_names.specs.Names.{is_name, spells_identifier, spells_variant, is_identifier, is_variant}
 use Rattle.sdf_values.specs.Print.{hex_digit, is_escaped, escape, escaped, quoted, is_long_asset, asset_text, key_text}
 use Rattle.sdf_values.proofs.Escapes.{escaped_ascii}
-use Rattle.value_texts.proofs.AsciiTests.{or_parts, no_byte}
+use Rattle.value_texts.proofs.AsciiTests.{no_byte}
+use Rattle.value_texts.proofs.QuotedNames.{as_it_is}
 use Rattle.usda_writer.specs.Texts.{quoted_name}
 use Rattle.text_checks.proofs.Bytes.{IsValid, tested, two, nothing, behind, ascii, either}
 
@@ -26,13 +27,6 @@ escape_valid c low =
     either (c == 92) (ascii (codes "\\\\") refl) (either (c == 34) (ascii (codes "\\\"") refl) (either (c == 10) (ascii (codes "\\n") refl) (either (c == 13) (ascii (codes "\\r") refl)
     (either (c == 9) (ascii (codes "\\t") refl)
     (behind 92 (omega arith) (behind 120 (omega arith) (behind (hex_digit (c / 16)) (low_digit (c / 16) (omega (arith, low))) (behind (hex_digit (c % 16)) (low_digit (c % 16) (omega arith)) nothing))))))))
-
--- a text with nothing to escape
-as_it_is : (t : List ℕ) → list_any is_escaped t ≡ false → escaped t ≡ t
-as_it_is [] h = refl
-as_it_is (c ∷ t) h =
-    let p = or_parts (is_escaped c) (list_any is_escaped t) h in
-    ap (λ b. (if b then escape c else c ∷ []) ++ escaped t) p.0 ∙ ap (λ x. c ∷ x) (as_it_is t p.1)
 
 escaped_both : (s t : List ℕ) → escaped (s ++ t) ≡ escaped s ++ escaped t
 escaped_both [] t = refl

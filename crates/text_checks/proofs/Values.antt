@@ -13,10 +13,10 @@ use Rattle.sdf_values.specs.declared.value.DictType.TheVariants as dict_type
 use Rattle.sdf_values.specs.declared.value.DictItem.{DictItem, fold-DictItem}
 use Rattle.sdf_values.specs.declared.value.Value.{Value}
 use Rattle.sdf_values.specs.declared.value.Value.TheVariants as value
+use Rattle.sdf_values.proofs.Values.{Each, by_cases}
 use Rattle.value_texts.specs.Writable.{is_writable, is_writable_item, writable_step, writable_item}
 use Rattle.value_texts.proofs.TypeTexts.{type_is_text}
-use Rattle.value_texts.proofs.Values as fold
-use Rattle.value_texts.proofs.Values.{Each, by_cases}
+use Rattle.sdf_values.proofs.Values as fold
 use Rattle.text_checks.specs.Utf8.{is_utf8_value, is_utf8_entry, utf8_step, utf8_item}
 use Rattle.text_checks.proofs.Bytes.{IsValid, tested, two, nothing, ascii, either, repeated}
 use Rattle.text_checks.proofs.Numbers.{number_valid, time_valid, whole_valid}

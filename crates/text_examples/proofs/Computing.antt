@@ -9,8 +9,9 @@ use Rattle.usda_lexer.specs.Meanings.{string_text, asset_text, path_text, number
 use Rattle.usda_lexer.specs.Words.{found, next_word, left}
 use Rattle.usda_values.specs.Drafts.{value_act}
 use Rattle.usda_values.specs.PathTexts.{is_path, is_path_text}
-use Rattle.usda_values.specs.Scalars.{whole_of, is_plain, token_value, time_of, tens_out, decimal_of_whole}
-use Rattle.usda_lists.specs.Paths.{path_of, path_from}
+use Rattle.usda_values.specs.Scalars.{whole_of, is_plain, token_value, time_of, tens_out, decimal_of_whole, finite_time}
+use Rattle.sdf_paths.specs.Reader.{path_of}
+use Rattle.usda_lists.specs.Paths.{path_from}
 use Rattle.usda_drafts.specs.Acts.{layers_act, prims_act, bodies_act, act}
 use Rattle.usda_drafts.specs.Bodies.{type_act, after_variability_act, after_custom_act, after_edit_act, after_reorder_act, statement_act, body_act, brackets_act, name_act, default_begun, samples_begun, list_begun, tail_act, dot_act, sample_act}
 use Rattle.usda_drafts.specs.Closed.{is_closed, with_spec_at}
@@ -20,7 +21,7 @@ use Rattle.usda_drafts.specs.Metadata.{comment_act, key_act, variants_act, field
 use Rattle.usda_drafts.specs.Owners.{owner_of, spec_of, with_child, has_set, with_set, with_variant, marks_at, property_for, with_place, with_returned, settled}
 use Rattle.usda_drafts.specs.Places.{prim_place, variant_place}
 use Rattle.usda_drafts.specs.Prims.{specifier_of, specifier_act, prim_type_act, entered, prim_at, with_prim, entered_prim, named_prim, prim_name_act, open_act, begun_set, set_name_act, with_variant_at, entered_variant, named_variant, variant_name_act, with_statement_over, left as left_texts, body_end_act}
-use Rattle.usda_drafts.specs.Values.{aimed_at_key, shape_of, aimed_at_default, finite_time, time_of_number, time_act, is_selections, completed, token_act, first_act}
+use Rattle.usda_drafts.specs.Values.{aimed_at_key, shape_of, aimed_at_default, time_of_number, time_act, is_selections, completed, token_act, first_act}
 use Rattle.usda_reader.specs.Checks.{foreign_check, header_check, text_check, first_check}
 use Rattle.usda_reader.specs.Reading.{run_from, draft_of, read}
 

@@ -75,8 +75,8 @@ use Rattle.usda_fields.specs.declared.field.ListField.TheVariants.{Paths, Refere
 use Rattle.usda_fields.specs.declared.owner.OrderWord.{OrderWord}
 use Rattle.usda_fields.specs.declared.owner.OwnerDraft.{OwnerDraft}
 use Rattle.usda_fields.specs.declared.keys.KeyRule.{KeyRule}
-use Rattle.usda_grammar.specs.declared.kinds.TokenKind.{TokenKind}
-use Rattle.usda_grammar.specs.declared.kinds.TokenKind.TheVariants as token
+use Rattle.usda_grammar.specs.declared.kinds.WordKind.{WordKind}
+use Rattle.usda_grammar.specs.declared.kinds.WordKind.TheVariants as token
 use Rattle.usda_grammar.specs.declared.kinds.Keyword.TheVariants as word
 use Rattle.usda_grammar.specs.declared.symbols.Symbol.{Symbol}
 use Rattle.usda_grammar.specs.declared.symbols.Symbol.TheVariants as symbol
@@ -443,7 +443,7 @@ variants_clean w d =
     then_clean w.start (variants.variants_act d.owner.said) (λ said. aimed goal.Variants Dictionary (with_said d said))
     (if_plain d.owner.said.given.variants DuplicateSpec (record d.owner.said { given = record d.owner.said.given { variants = true } }) (λ e. absurd cc))
 
-edited_ruled : (k : TokenKind) (w : Word) (d : Draft) → Ruled (IsClash d.edit k w d) (edited_act k w d)
+edited_ruled : (k : WordKind) (w : Word) (d : Draft) → Ruled (IsClash d.edit k w d) (edited_act k w d)
 unfolding edited_act
 edited_ruled token.Equals w d = key_clean d.word d.word_at d
 edited_ruled (token.Word word.StringField) w d = string_field_ruled d.edit w d
@@ -455,7 +455,7 @@ edit_clean : (w : Word) (d : Draft) → Ruled ⊥ (edit_act w d)
 unfolding edit_act
 edit_clean w d = tt
 
-prim_item_ruled : (k : TokenKind) (w : Word) (d : Draft) → Ruled (IsClash Explicit k w d) (prim_item_act k w d)
+prim_item_ruled : (k : WordKind) (w : Word) (d : Draft) → Ruled (IsClash Explicit k w d) (prim_item_act k w d)
 unfolding prim_item_act
 prim_item_ruled token.Quoted w d = comment_clean w d
 prim_item_ruled (token.Word word.Edit) w d = edit_clean w d
@@ -470,7 +470,7 @@ sublayers_clean : (at : ℕ) (d : Draft) → Ruled ⊥ (sublayers_act at d)
 unfolding sublayers_act
 sublayers_clean at d = if_clean d.has_sublayers (refused DuplicateSpec at) (record d { has_sublayers = true; list = open_list.SubLayers }) (λ e. absurd cc)
 
-head_item_clean : (k : TokenKind) (w : Word) (d : Draft) → Ruled ⊥ (head_item_act k w d)
+head_item_clean : (k : WordKind) (w : Word) (d : Draft) → Ruled ⊥ (head_item_act k w d)
 unfolding head_item_act
 head_item_clean token.Quoted w d = comment_clean w d
 head_item_clean (token.Word word.SubLayers) w d = sublayers_clean w.start d
@@ -480,7 +480,7 @@ specifier_clean : (t : List ℕ) (d : Draft) → Ruled ⊥ (specifier_act t d)
 unfolding specifier_act
 specifier_clean t d = tt
 
-root_clean : (k : TokenKind) (w : Word) (d : Draft) → Ruled ⊥ (root_act k w d)
+root_clean : (k : WordKind) (w : Word) (d : Draft) → Ruled ⊥ (root_act k w d)
 unfolding root_act
 root_clean (token.Word word.Specifier) w d = specifier_clean w.text d
 root_clean k w d = tt
@@ -497,7 +497,7 @@ root_order_clean : (w : Word) (d : Draft) → Ruled ⊥ (root_order_act w d)
 unfolding root_order_act
 root_order_clean w d = ordered_clean NameChildren w.start d
 
-order_name_clean : (k : TokenKind) (w : Word) (d : Draft) → Ruled ⊥ (order_name_act k w d)
+order_name_clean : (k : WordKind) (w : Word) (d : Draft) → Ruled ⊥ (order_name_act k w d)
 unfolding order_name_act
 order_name_clean token.Quoted w d =
     said_clean w.start (owner.ordered_act d.order w.text d.owner.said) d (kept_plain (if_utf8 (string_text w.text)) (λ name. owner.push_ordered d.order name d.owner.said) (utf8_plain (string_text w.text)))
@@ -507,7 +507,7 @@ property_key_clean : (w : Word) (d : Draft) → Ruled ⊥ (property_key_act w d)
 unfolding property_key_act
 property_key_clean w d = then_clean w.start (property_rule w.text d.property) (λ rule. aimed_at_key goal.PropertyKey w.text rule d) (rule_plain w.text d.property)
 
-property_item_clean : (k : TokenKind) (w : Word) (d : Draft) → Ruled ⊥ (property_item_act k w d)
+property_item_clean : (k : WordKind) (w : Word) (d : Draft) → Ruled ⊥ (property_item_act k w d)
 unfolding property_item_act
 property_item_clean token.Quoted w d =
     then_clean w.start (meta_comment_act w.text d.property) (with_property d) (kept_plain (keys.comment_act w.text d.property.meta) (λ meta. with_meta meta d.property) (comment_plain w.text d.property.meta))
@@ -533,21 +533,21 @@ end_clean (open_list.Field field) d = tt
 end_clean open_list.Property d = tt
 end_clean l d = tt
 
-in_list_ruled : (k : TokenKind) (w : Word) (d : Draft) → Ruled (IsNoPathOfList k w d) (in_list_act k w d)
+in_list_ruled : (k : WordKind) (w : Word) (d : Draft) → Ruled (IsNoPathOfList k w d) (in_list_act k w d)
 unfolding in_list_act
 in_list_ruled token.Quoted w d = string_clean d.list w d
 in_list_ruled token.Path w d = list_path_ruled d.list w d
 in_list_ruled token.CloseBracket w d = end_clean d.list d
 in_list_ruled k w d = tt
 
-in_references_ruled : (k : TokenKind) (w : Word) (d : Draft) → Ruled (IsNoPathOfList k w d) (in_references_act k w d)
+in_references_ruled : (k : WordKind) (w : Word) (d : Draft) → Ruled (IsNoPathOfList k w d) (in_references_act k w d)
 unfolding in_references_act
 in_references_ruled token.Asset w d = asset_clean d.list w d
 in_references_ruled token.Path w d = lone_path_ruled d.list w d
 in_references_ruled token.CloseBracket w d = end_clean d.list d
 in_references_ruled k w d = tt
 
-sublayer_clean : (k : TokenKind) (w : Word) (d : Draft) → Ruled ⊥ (sublayer_act k w d)
+sublayer_clean : (k : WordKind) (w : Word) (d : Draft) → Ruled ⊥ (sublayer_act k w d)
 unfolding sublayer_act
 sublayer_clean token.Asset w d = tt
 sublayer_clean k w d = tt
@@ -569,27 +569,27 @@ type_clean : (w : Word) (d : Draft) → Ruled ⊥ (type_act w d)
 unfolding type_act
 type_clean w d = then_clean w.start (with_type w.text d.heading) (λ h. headed h d) (element_plain (find_element ELEMENTS w.text) d.heading)
 
-after_variability_clean : (k : TokenKind) (w : Word) (d : Draft) → Ruled ⊥ (after_variability_act k w d)
+after_variability_clean : (k : WordKind) (w : Word) (d : Draft) → Ruled ⊥ (after_variability_act k w d)
 unfolding after_variability_act
 after_variability_clean (token.Word word.Rel) w d = tt
 after_variability_clean k w d = type_clean w d
 
-after_custom_clean : (k : TokenKind) (w : Word) (d : Draft) → Ruled ⊥ (after_custom_act k w d)
+after_custom_clean : (k : WordKind) (w : Word) (d : Draft) → Ruled ⊥ (after_custom_act k w d)
 unfolding after_custom_act
 after_custom_clean (token.Word word.Variability) w d = tt
 after_custom_clean k w d = after_variability_clean k w d
 
-after_edit_clean : (k : TokenKind) (w : Word) (d : Draft) → Ruled ⊥ (after_edit_act k w d)
+after_edit_clean : (k : WordKind) (w : Word) (d : Draft) → Ruled ⊥ (after_edit_act k w d)
 unfolding after_edit_act
 after_edit_clean (token.Word word.Custom) w d = tt
 after_edit_clean k w d = after_custom_clean k w d
 
-after_reorder_clean : (k : TokenKind) (w : Word) (d : Draft) → Ruled ⊥ (after_reorder_act k w d)
+after_reorder_clean : (k : WordKind) (w : Word) (d : Draft) → Ruled ⊥ (after_reorder_act k w d)
 unfolding after_reorder_act
 after_reorder_clean (token.Word word.OrderedField) w d = order_clean w d
 after_reorder_clean k w d = after_edit_clean k w d
 
-statement_clean : (k : TokenKind) (w : Word) (d : Draft) → Ruled ⊥ (statement_act k w d)
+statement_clean : (k : WordKind) (w : Word) (d : Draft) → Ruled ⊥ (statement_act k w d)
 unfolding statement_act
 statement_clean (token.Word word.Specifier) w d = specifier_clean w.text d
 statement_clean (token.Word word.VariantSet) w d = tt
@@ -617,12 +617,12 @@ samples_clean : (d : Draft) → Ruled ⊥ (samples_begun d)
 unfolding samples_begun
 samples_clean d = then_clean d.name_at (samples_act d.property) (with_property d) (if_plain d.property.marks.sampled DuplicateSpec (record d.property { marks = record d.property.marks { sampled = true } }) (λ e. absurd cc))
 
-tail_clean : (k : TokenKind) (d : Draft) → Ruled ⊥ (tail_act k d)
+tail_clean : (k : WordKind) (d : Draft) → Ruled ⊥ (tail_act k d)
 unfolding tail_act
 tail_clean token.Equals d = default_clean d
 tail_clean k d = tt
 
-dot_ruled : (k : TokenKind) (at : ℕ) (d : Draft) → Ruled (IsConnectClash k d) (dot_act k at d)
+dot_ruled : (k : WordKind) (at : ℕ) (d : Draft) → Ruled (IsConnectClash k d) (dot_act k at d)
 unfolding dot_act
 dot_ruled (token.Word word.TimeSamples) at d = samples_clean d
 dot_ruled (token.Word word.Connect) at d = list_ruled d
@@ -632,7 +632,7 @@ time_clean : (t : List ℕ) (at : ℕ) (d : Draft) → Ruled ⊥ (time_act t at 
 unfolding time_act
 time_clean t at d = then_clean at (time_of_number (number_of t)) (λ time. aimed_at_sample time d) (time_plain (number_of t))
 
-sample_clean : (k : TokenKind) (w : Word) (d : Draft) → Ruled ⊥ (sample_act k w d)
+sample_clean : (k : WordKind) (w : Word) (d : Draft) → Ruled ⊥ (sample_act k w d)
 unfolding sample_act
 sample_clean token.Number w d = time_clean w.text w.start d
 sample_clean k w d = tt

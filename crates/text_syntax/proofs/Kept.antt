@@ -1,5 +1,5 @@
 -- A word that is no value's leaves the open value as it is.
-use Rattle.std.proofs.Common.{◌≡◌, ◌∙◌, ℕ, Bool, true, false, List, Option, Some, None, Result, Ok, Err, refl}
+use Rattle.std.proofs.Common.{◌≡◌, ◌∙◌, ℕ, Bool, true, false, List, Option, Some, None, Result, Ok, Err, refl, subst}
 use Rattle.std.specs.Prelude.{if◌then◌else◌}
 use Rattle.plain_data.specs.Ends.{last}
 use Rattle.sdf_paths.specs.declared.element.Element.{Element}
@@ -31,8 +31,8 @@ use Rattle.usda_fields.specs.declared.field.ListField.TheVariants.{Paths, Refere
 use Rattle.usda_fields.specs.declared.owner.OrderWord.{OrderWord}
 use Rattle.usda_fields.specs.declared.owner.OwnerDraft.{OwnerDraft}
 use Rattle.usda_fields.specs.declared.keys.KeyRule.{KeyRule}
-use Rattle.usda_grammar.specs.declared.kinds.TokenKind.{TokenKind}
-use Rattle.usda_grammar.specs.declared.kinds.TokenKind.TheVariants as token
+use Rattle.usda_grammar.specs.declared.kinds.WordKind.{WordKind}
+use Rattle.usda_grammar.specs.declared.kinds.WordKind.TheVariants as token
 use Rattle.usda_grammar.specs.declared.kinds.Keyword.TheVariants as word
 use Rattle.usda_grammar.specs.declared.symbols.Symbol.{Symbol}
 use Rattle.usda_grammar.specs.declared.symbols.Symbol.TheVariants as symbol
@@ -184,7 +184,7 @@ edit_has : (w : Word) (d : Draft) → Has d.value (edit_act w d)
 unfolding edit_act
 edit_has w d = refl
 
-edited_has : (k : TokenKind) (w : Word) (d : Draft) → Has d.value (edited_act k w d)
+edited_has : (k : WordKind) (w : Word) (d : Draft) → Has d.value (edited_act k w d)
 unfolding edited_act
 edited_has token.Equals w d = key_has d.word d.word_at d
 edited_has (token.Word word.StringField) w d = string_field_has d.edit w d
@@ -192,7 +192,7 @@ edited_has (token.Word word.PathField) w d = path_field_has d.edit w d
 edited_has (token.Word word.ReferenceField) w d = reference_field_has d.edit w d
 edited_has k w d = refl
 
-prim_item_has : (k : TokenKind) (w : Word) (d : Draft) → Has d.value (prim_item_act k w d)
+prim_item_has : (k : WordKind) (w : Word) (d : Draft) → Has d.value (prim_item_act k w d)
 unfolding prim_item_act
 prim_item_has token.Quoted w d = comment_has w d
 prim_item_has (token.Word word.Edit) w d = edit_has w d
@@ -207,13 +207,13 @@ sublayers_has : (at : ℕ) (d : Draft) → Has d.value (sublayers_act at d)
 unfolding sublayers_act
 sublayers_has at d = if_has d.value d.has_sublayers (Err (refused DuplicateSpec at)) (Ok (record d { has_sublayers = true; list = open_list.SubLayers })) tt refl
 
-head_item_has : (k : TokenKind) (w : Word) (d : Draft) → Has d.value (head_item_act k w d)
+head_item_has : (k : WordKind) (w : Word) (d : Draft) → Has d.value (head_item_act k w d)
 unfolding head_item_act
 head_item_has token.Quoted w d = comment_has w d
 head_item_has (token.Word word.SubLayers) w d = sublayers_has w.start d
 head_item_has k w d = key_has w.text w.start d
 
-root_has : (k : TokenKind) (w : Word) (d : Draft) → Has d.value (root_act k w d)
+root_has : (k : WordKind) (w : Word) (d : Draft) → Has d.value (root_act k w d)
 unfolding root_act
 root_has (token.Word word.Specifier) w d = specifier_has w.text d
 root_has k w d = refl
@@ -230,7 +230,7 @@ root_order_has : (w : Word) (d : Draft) → Has d.value (root_order_act w d)
 unfolding root_order_act
 root_order_has w d = ordered_has NameChildren w.start d
 
-order_name_has : (k : TokenKind) (w : Word) (d : Draft) → Has d.value (order_name_act k w d)
+order_name_has : (k : WordKind) (w : Word) (d : Draft) → Has d.value (order_name_act k w d)
 unfolding order_name_act
 order_name_has token.Quoted w d = said_has w.start (owner.ordered_act d.order w.text d.owner.said) d
 order_name_has k w d = refl
@@ -239,7 +239,7 @@ property_key_has : (w : Word) (d : Draft) → Has d.value (property_key_act w d)
 unfolding property_key_act
 property_key_has w d = then_has d.value w.start (property_rule w.text d.property) (λ rule. aimed_at_key goal.PropertyKey w.text rule d) (λ rule. aimed_has goal.PropertyKey w.text rule d)
 
-property_item_has : (k : TokenKind) (w : Word) (d : Draft) → Has d.value (property_item_act k w d)
+property_item_has : (k : WordKind) (w : Word) (d : Draft) → Has d.value (property_item_act k w d)
 unfolding property_item_act
 property_item_has token.Quoted w d = then_has d.value w.start (meta_comment_act w.text d.property) (with_property d) (λ p. refl)
 property_item_has k w d = property_key_has w d
@@ -278,21 +278,21 @@ end_has (open_list.Field field) d = refl
 end_has open_list.Property d = refl
 end_has l d = refl
 
-in_list_has : (k : TokenKind) (w : Word) (d : Draft) → Has d.value (in_list_act k w d)
+in_list_has : (k : WordKind) (w : Word) (d : Draft) → Has d.value (in_list_act k w d)
 unfolding in_list_act
 in_list_has token.Quoted w d = string_has d.list w d
 in_list_has token.Path w d = list_path_has d.list w d
 in_list_has token.CloseBracket w d = end_has d.list d
 in_list_has k w d = refl
 
-in_references_has : (k : TokenKind) (w : Word) (d : Draft) → Has d.value (in_references_act k w d)
+in_references_has : (k : WordKind) (w : Word) (d : Draft) → Has d.value (in_references_act k w d)
 unfolding in_references_act
 in_references_has token.Asset w d = asset_has d.list w d
 in_references_has token.Path w d = lone_path_has d.list w d
 in_references_has token.CloseBracket w d = end_has d.list d
 in_references_has k w d = refl
 
-sublayer_has : (k : TokenKind) (w : Word) (d : Draft) → Has d.value (sublayer_act k w d)
+sublayer_has : (k : WordKind) (w : Word) (d : Draft) → Has d.value (sublayer_act k w d)
 unfolding sublayer_act
 sublayer_has token.Asset w d = refl
 sublayer_has k w d = refl
@@ -313,27 +313,27 @@ type_has : (w : Word) (d : Draft) → Has d.value (type_act w d)
 unfolding type_act
 type_has w d = then_has d.value w.start (with_type w.text d.heading) (λ h. headed h d) (λ h. refl)
 
-after_variability_has : (k : TokenKind) (w : Word) (d : Draft) → Has d.value (after_variability_act k w d)
+after_variability_has : (k : WordKind) (w : Word) (d : Draft) → Has d.value (after_variability_act k w d)
 unfolding after_variability_act
 after_variability_has (token.Word word.Rel) w d = refl
 after_variability_has k w d = type_has w d
 
-after_custom_has : (k : TokenKind) (w : Word) (d : Draft) → Has d.value (after_custom_act k w d)
+after_custom_has : (k : WordKind) (w : Word) (d : Draft) → Has d.value (after_custom_act k w d)
 unfolding after_custom_act
 after_custom_has (token.Word word.Variability) w d = refl
 after_custom_has k w d = after_variability_has k w d
 
-after_edit_has : (k : TokenKind) (w : Word) (d : Draft) → Has d.value (after_edit_act k w d)
+after_edit_has : (k : WordKind) (w : Word) (d : Draft) → Has d.value (after_edit_act k w d)
 unfolding after_edit_act
 after_edit_has (token.Word word.Custom) w d = refl
 after_edit_has k w d = after_custom_has k w d
 
-after_reorder_has : (k : TokenKind) (w : Word) (d : Draft) → Has d.value (after_reorder_act k w d)
+after_reorder_has : (k : WordKind) (w : Word) (d : Draft) → Has d.value (after_reorder_act k w d)
 unfolding after_reorder_act
 after_reorder_has (token.Word word.OrderedField) w d = order_has w d
 after_reorder_has k w d = after_edit_has k w d
 
-statement_has : (k : TokenKind) (w : Word) (d : Draft) → Has d.value (statement_act k w d)
+statement_has : (k : WordKind) (w : Word) (d : Draft) → Has d.value (statement_act k w d)
 unfolding statement_act
 statement_has (token.Word word.Specifier) w d = specifier_has w.text d
 statement_has (token.Word word.VariantSet) w d = refl
@@ -369,12 +369,12 @@ list_has : (d : Draft) → Has d.value (list_begun d)
 unfolding list_begun
 list_has d = then_has d.value d.name_at (list_act d.property) (λ p. record (with_property d p) { list = open_list.Property }) (λ p. refl)
 
-tail_has : (k : TokenKind) (d : Draft) → Has d.value (tail_act k d)
+tail_has : (k : WordKind) (d : Draft) → Has d.value (tail_act k d)
 unfolding tail_act
 tail_has token.Equals d = default_has d
 tail_has k d = refl
 
-dot_has : (k : TokenKind) (at : ℕ) (d : Draft) → Has d.value (dot_act k at d)
+dot_has : (k : WordKind) (at : ℕ) (d : Draft) → Has d.value (dot_act k at d)
 unfolding dot_act
 dot_has (token.Word word.TimeSamples) at d = samples_has d
 dot_has (token.Word word.Connect) at d = list_has d
@@ -384,7 +384,7 @@ time_has : (t : List ℕ) (at : ℕ) (d : Draft) → Has d.value (time_act t at 
 unfolding time_act
 time_has t at d = then_has d.value at (time_of_number (number_of t)) (λ time. aimed_at_sample time d) (λ time. refl)
 
-sample_has : (k : TokenKind) (w : Word) (d : Draft) → Has d.value (sample_act k w d)
+sample_has : (k : WordKind) (w : Word) (d : Draft) → Has d.value (sample_act k w d)
 unfolding sample_act
 sample_has token.Number w d = time_has w.text w.start d
 sample_has k w d = refl
@@ -445,6 +445,10 @@ bodies_has symbol.Value w d h = absurd cc
 bodies_has symbol.Dictionary w d h = absurd cc
 bodies_has symbol.NamesOrEnd w d h = order_name_has w.kind w d
 bodies_has s w d h = prims_has s w d
+
+-- the same of the draft that comes of the word
+pub bodies_value : (s : Symbol) (w : Word) (d next : Draft) → begins_value s ≡ false → bodies_act s w d ≡ Ok next → next.value ≡ d.value
+bodies_value s w d next begins h = subst (Has d.value) h (bodies_has s w d begins)
 
 -- ---- a value that is complete
 

@@ -8,7 +8,7 @@ use Rattle.usda_drafts.specs.declared.fault.Refused.{Refused}
 use Rattle.usda_grammar.specs.Derivations.{Derivation, ends, skips, takes}
 use Rattle.usda_grammar.specs.Machine.{step, choose}
 use Rattle.usda_grammar.specs.Table.{layer, starts, may_be_absent}
-use Rattle.usda_grammar.specs.declared.kinds.TokenKind.{TokenKind}
+use Rattle.usda_grammar.specs.declared.kinds.WordKind.{WordKind}
 use Rattle.usda_grammar.specs.declared.symbols.Symbol.{Symbol}
 use Rattle.usda_grammar.proofs.Clear.{IsClear, is_good-at, clear-after, clear-layer}
 use Rattle.usda_grammar.proofs.Follow.{may_follow}
@@ -20,7 +20,7 @@ use Rattle.text_syntax.specs.Open.{Follows, IsOfValue, IsNoPathFrom, kind_in, Op
 use Rattle.text_syntax.proofs.Tokens.{kept, refused, begins}
 
 -- a symbol that may be absent does not hide what takes the token below it
-below_it : (s : Symbol) (stack : List Symbol) (k : TokenKind) (next : Symbol × List Symbol) → IsClear (s ∷ stack) → may_be_absent s ≡ true → step stack k ≡ Some next → step (s ∷ stack) k ≡ Some next
+below_it : (s : Symbol) (stack : List Symbol) (k : WordKind) (next : Symbol × List Symbol) → IsClear (s ∷ stack) → may_be_absent s ≡ true → step stack k ≡ Some next → step (s ∷ stack) k ≡ Some next
 below_it s stack k next clear absent took = from (starts s k) (may_follow s k) refl refl
   where
     from : (o : Option (List Symbol)) (b : Bool) → starts s k ≡ o → may_follow s k ≡ b → step (s ∷ stack) k ≡ Some next
@@ -29,11 +29,11 @@ below_it s stack k next clear absent took = from (starts s k) (may_follow s k) r
     from (Some after) true at follow = let g : (may_be_absent s && may_follow s k) ≡ false = (is_good-at s k after at).unlike in absurd (let f : (true && true) ≡ false = rw (absent, follow) at g in cc)
 
 -- symbols from which the machine gets to the word, and which the draft goes with
-abbrev Reached : Symbol → List Symbol → Draft → TokenKind → Type 0
+abbrev Reached : Symbol → List Symbol → Draft → WordKind → Type 0
 Reached s after d k = (stack : List Symbol) × Follows stack d × (step stack k ≡ Some (s, after))
 
-reach : (refused_as : Option Word → Refused) (t : Derivation) (origin stack : List Symbol) (d : Draft) (front : List Word) (s : Symbol) (below : List Symbol) (out : Draft) (k : TokenKind) (after : List Symbol) → IsClear stack → Follows origin d
-    → ((j : TokenKind) (next : Symbol × List Symbol) → step stack j ≡ Some next → step origin j ≡ Some next) → AreOfTokens front → Makes kind_in act refused_as t stack d front (s ∷ below) out → starts s k ≡ Some after
+reach : (refused_as : Option Word → Refused) (t : Derivation) (origin stack : List Symbol) (d : Draft) (front : List Word) (s : Symbol) (below : List Symbol) (out : Draft) (k : WordKind) (after : List Symbol) → IsClear stack → Follows origin d
+    → ((j : WordKind) (next : Symbol × List Symbol) → step stack j ≡ Some next → step origin j ≡ Some next) → AreOfTokens front → Makes kind_in act refused_as t stack d front (s ∷ below) out → starts s k ≡ Some after
     → Reached s (after ++ below) out k
 reach refused_as ends origin stack d [] s below out k after clear follows up words h at =
     (origin, subst (Follows origin) h.1 follows, up k (s, after ++ below) (ap (λ (x : List Symbol). step x k) h.0 ∙ ap (λ o. choose s below o (may_be_absent s) (step below k)) at))

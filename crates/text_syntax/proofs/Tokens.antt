@@ -1,6 +1,7 @@
 -- A word of a value that is open, and the first word of one.
 use Rattle.std.proofs.Common.{◌≡◌, ◌∙◌, ℕ, Bool, true, false, not, List, [], ◌∷◌, ◌++◌, Option, Some, None, Result, Ok, Err, ap, sym, refl, subst, inl, inr}
 use Rattle.std.specs.Prelude.{if◌then◌else◌, ◌⊎◌}
+use Rattle.std.proofs.lemmas.Option.{same_Some}
 use Rattle.sdf_paths.specs.declared.element.Element.{Element}
 use Rattle.sdf_values.specs.declared.refusal.RefusalKind.{RefusalKind}
 use Rattle.sdf_values.specs.declared.refusal.RefusalKind.TheVariants.{Syntax, ValueShape, NumberTooLong}
@@ -21,12 +22,12 @@ use Rattle.usda_fields.specs.declared.keys.KeyRule.{KeyRule}
 use Rattle.usda_fields.specs.declared.keys.KeyRule.TheVariants.{Comment, Boolean, DefaultPrim, Free}
 use Rattle.usda_grammar.specs.Machine.{step, choose}
 use Rattle.usda_grammar.specs.Table.{layer, starts, may_be_absent}
-use Rattle.usda_grammar.specs.declared.kinds.TokenKind.{TokenKind}
-use Rattle.usda_grammar.specs.declared.kinds.TokenKind.TheVariants as kind
+use Rattle.usda_grammar.specs.declared.kinds.WordKind.{WordKind}
+use Rattle.usda_grammar.specs.declared.kinds.WordKind.TheVariants as kind
 use Rattle.usda_grammar.specs.declared.symbols.Symbol.{Symbol}
 use Rattle.usda_grammar.specs.declared.symbols.Symbol.TheVariants as symbol
 use Rattle.usda_lexer.specs.Meanings.{path_text}
-use Rattle.usda_lexer.specs.declared.token.TokenKind.{TokenKind as Form}
+use Rattle.usda_lexer.specs.declared.token.TokenKind.{TokenKind}
 use Rattle.usda_lexer.specs.declared.token.TokenKind.TheVariants as form
 use Rattle.usda_lists.specs.Acts.{and_then}
 use Rattle.usda_lists.specs.Paths.{absolute_from}
@@ -43,7 +44,7 @@ use Rattle.text_syntax.proofs.Kept.{Has, bodies_has}
 
 -- ---- a token as it is given to the draft of the value
 
-strings_go : (f : Form) (text : List ℕ) (below after : List Symbol) (r : Acted) → GoesWith f text below after r → GoesWith f text below after (and_then r of_strings)
+strings_go : (f : TokenKind) (text : List ℕ) (below after : List Symbol) (r : Acted) → GoesWith f text below after r → GoesWith f text below after (and_then r of_strings)
 strings_go f text below after (Err k) h = h
 strings_go f text below after (Ok d) h = cases (is_behind_type d.place) (is_string d.level.ty)
   where
@@ -52,16 +53,16 @@ strings_go f text below after (Ok d) h = cases (is_behind_type d.place) (is_stri
     cases true false = λ e. absurd cc
     cases false b = h
 
-given_goes : (only : Bool) (f : Form) (text : List ℕ) (below after : List Symbol) (d : ValueDraft) → GoesWith f text below after (value_act f text d) → GoesWith f text below after (given_token only f text d)
+given_goes : (only : Bool) (f : TokenKind) (text : List ℕ) (below after : List Symbol) (d : ValueDraft) → GoesWith f text below after (value_act f text d) → GoesWith f text below after (given_token only f text d)
 given_goes true f text below after d h = strings_go f text below after (value_act f text d) h
 given_goes false f text below after d h = h
 
 -- what a token makes, where the grammar takes it and leaves these symbols above those below
-abbrev Goes : List Element → Form → List ℕ → List Symbol → List Symbol → Acted → Type 0
+abbrev Goes : List Element → TokenKind → List ℕ → List Symbol → List Symbol → Acted → Type 0
 Goes base f text below after (Ok next) = (is_formed next ≡ true) × (after ≡ awaited next ++ below)
 Goes base f text below after (Err r) = r ≡ Syntax → IsNoPathFrom base f text
 
-other_goes : (base : List Element) (f : Form) (text : List ℕ) (below after : List Symbol) (r : Acted) → (f ≡ form.Path → ⊥) → GoesWith f text below after r → Goes base f text below after r
+other_goes : (base : List Element) (f : TokenKind) (text : List ℕ) (below after : List Symbol) (r : Acted) → (f ≡ form.Path → ⊥) → GoesWith f text below after r → Goes base f text below after r
 other_goes base f text below after (Ok next) other h = h
 other_goes base f text below after (Err k) other h = λ e. absurd (other (h e).0)
 
@@ -69,7 +70,7 @@ path_goes : (base : List Element) (text token : List ℕ) (below after : List Sy
 path_goes base text token below after (Ok next) is h = h
 path_goes base text token below after (Err k) is h = λ e. (refl, subst IsNone (sym is) (h e).1)
 
-in_goes : (base : List Element) (only : Bool) (f : Form) (text : List ℕ) (below after : List Symbol) (d : ValueDraft) → ((t : List ℕ) → (f ≡ form.Path ⊎ t ≡ text) → GoesWith f t below after (value_act f t d))
+in_goes : (base : List Element) (only : Bool) (f : TokenKind) (text : List ℕ) (below after : List Symbol) (d : ValueDraft) → ((t : List ℕ) → (f ≡ form.Path ⊎ t ≡ text) → GoesWith f t below after (value_act f t d))
     → Goes base f text below after (given_in base only f text d)
 in_goes base only form.Path text below after d h = by_path (absolute_from base (path_text text)) refl
   where
@@ -130,7 +131,7 @@ completed_goes goal.Sample v at d after base w h = closed after (with_property d
 abbrev with_text : Word → List ℕ → Word
 with_text w t = record w { text = t }
 
-still_of_token : (k : TokenKind) (f : Form) (text t : List ℕ) → (k ≡ kind_of f text) ⊎ (k ≡ kind.Fault) → (f ≡ form.Path) ⊎ (t ≡ text) → (k ≡ kind_of f t) ⊎ (k ≡ kind.Fault)
+still_of_token : (k : WordKind) (f : TokenKind) (text t : List ℕ) → (k ≡ kind_of f text) ⊎ (k ≡ kind.Fault) → (f ≡ form.Path) ⊎ (t ≡ text) → (k ≡ kind_of f t) ⊎ (k ≡ kind.Fault)
 still_of_token k f text t (inr fault) other = inr fault
 still_of_token k f text t (inl is) (inl path) = inl (is ∙ ap (λ x. kind_of x text) path ∙ ap (λ x. kind_of x t) (sym path))
 still_of_token k f text t (inl is) (inr same) = inl (is ∙ ap (kind_of f) (sym same))
@@ -159,24 +160,21 @@ token_goes w d below s after word formed open' took =
 -- ---- the first word of a value
 
 -- the symbol that takes a token, and what it leaves above those below it
-abbrev Took : Symbol → TokenKind → List Symbol → Type 0
+abbrev Took : Symbol → WordKind → List Symbol → Type 0
 Took s k after = (below : List Symbol) × (rest : List Symbol) × (starts s k ≡ Some rest) × (after ≡ rest ++ below)
 
-some_is : {A : Type 0} (x y : A) → Some x ≡ Some y → x ≡ y
-some_is x y h = cc
-
-took_by : (stack : List Symbol) (k : TokenKind) (s : Symbol) (after : List Symbol) → step stack k ≡ Some (s, after) → Took s k after
+took_by : (stack : List Symbol) (k : WordKind) (s : Symbol) (after : List Symbol) → step stack k ≡ Some (s, after) → Took s k after
 took_by [] k s after e = absurd cc
 took_by (u ∷ stack) k s after e = cases (starts u k) refl (may_be_absent u) e (λ f. took_by stack k s after f)
   where
     cases : (o : Option (List Symbol)) → starts u k ≡ o → (b : Bool) → choose u stack o b (step stack k) ≡ Some (s, after) → (step stack k ≡ Some (s, after) → Took s k after) → Took s k after
     cases (Some a) is b f more =
-        let same : (u, a ++ stack) ≡ (s, after) = some_is (u, a ++ stack) (s, after) f in
+        let same : (u, a ++ stack) ≡ (s, after) = same_Some (u, a ++ stack) (s, after) f in
         (stack, a, ap (λ (x : Symbol × List Symbol). starts x.0 k) (sym same) ∙ is, ap (λ (x : Symbol × List Symbol). x.1) (sym same))
     cases None is true f more = more f
     cases None is false f more = absurd cc
 
-value_takes : (s : Symbol) (k : TokenKind) (rest below : List Symbol) → begins_value s ≡ true → starts s k ≡ Some rest → step (symbol.Value ∷ below) k ≡ Some (symbol.Value, rest ++ below)
+value_takes : (s : Symbol) (k : WordKind) (rest below : List Symbol) → begins_value s ≡ true → starts s k ≡ Some rest → step (symbol.Value ∷ below) k ≡ Some (symbol.Value, rest ++ below)
 value_takes symbol.Value k rest below h e = ap (λ o. choose symbol.Value below o false (step below k)) e
 value_takes symbol.Dictionary kind.OpenBrace rest below h e = let same : symbol.DictionaryEntries ∷ symbol.CloseBrace ∷ [] ≡ rest = cc e in ap (λ (x : List Symbol). Some (symbol.Value, x ++ below)) same
 value_takes symbol.Dictionary _ rest below h e = absurd cc
@@ -188,7 +186,7 @@ first_goes w d stack s after word h e =
     let t : Took s w.kind after = took_by stack w.kind s after e in
     token_goes w (with_value_begun d) t.0 symbol.Value after word refl refl (value_takes s w.kind t.1 t.0 h t.2 ∙ ap (λ x. Some (symbol.Value, x)) (sym t.3))
 
-begun_by : (s : Symbol) (w : Word) (d : Draft) → begins_value s ≡ true → bodies_act s w d ≡ first_act w d
+pub begun_by : (s : Symbol) (w : Word) (d : Draft) → begins_value s ≡ true → bodies_act s w d ≡ first_act w d
 unfolding bodies_act
 begun_by symbol.Value w d h = refl
 begun_by symbol.Dictionary w d h = refl
@@ -199,6 +197,15 @@ begun_by _ w d h = absurd cc
 pub act_is : (s : Symbol) (w : Word) (d : Draft) (b : Bool) → is_open d.value ≡ b → act s w d ≡ (if w.too_long then Err (refused_at NumberTooLong w.start) else if b then token_act w d else bodies_act s w d)
 unfolding act
 act_is s w d b h = ap (λ x. if w.too_long then Err (refused_at NumberTooLong w.start) else if x then token_act w d else bodies_act s w d) h
+
+-- where a number that is too long is refused, a word that is taken is another
+not_long : (b : Bool) (refusal : Refused) (r : Result Draft Refused) (next : Draft) → (if b then Err refusal else r) ≡ Ok next → r ≡ Ok next
+not_long true refusal r next h = absurd cc
+not_long false refusal r next h = h
+
+-- what a word that is taken does, by whether a value is open
+pub acted_by : (s : Symbol) (w : Word) (d next : Draft) (b : Bool) → is_open d.value ≡ b → act s w d ≡ Ok next → (if b then token_act w d else bodies_act s w d) ≡ Ok next
+acted_by s w d next b is h = not_long w.too_long (refused_at NumberTooLong w.start) (if b then token_act w d else bodies_act s w d) next (sym (act_is s w d b is) ∙ h)
 
 unless_long : (after : List Symbol) (base : List Element) (w : Word) (b : Bool) (r : Result Draft Refused) → After after base w r → After after base w (if b then Err (refused_at NumberTooLong w.start) else r)
 unless_long after base w true r h = λ e. absurd cc

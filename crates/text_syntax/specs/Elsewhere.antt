@@ -10,8 +10,8 @@ use Rattle.usda_fields.specs.Fields.{given_at, text_field, path_field, reference
 use Rattle.usda_fields.specs.Names.{identifier_of, variant_of, has_variants}
 use Rattle.usda_fields.specs.declared.field.ListField.TheVariants.{Paths, References, Texts}
 use Rattle.usda_grammar.specs.declared.kinds.Keyword.TheVariants as word
-use Rattle.usda_grammar.specs.declared.kinds.TokenKind.{TokenKind}
-use Rattle.usda_grammar.specs.declared.kinds.TokenKind.TheVariants as kind
+use Rattle.usda_grammar.specs.declared.kinds.WordKind.{WordKind}
+use Rattle.usda_grammar.specs.declared.kinds.WordKind.TheVariants as kind
 use Rattle.usda_grammar.specs.declared.symbols.Symbol.{Symbol}
 use Rattle.usda_grammar.specs.declared.symbols.Symbol.TheVariants as symbol
 use Rattle.usda_lexer.specs.Meanings.{path_text}
@@ -24,12 +24,12 @@ use Rattle.usda_words.specs.Words.{Word}
 use Rattle.text_syntax.specs.Open.{begins_value}
 
 -- a path of a list that is none where this is the plain path of the prim that owns the statement
-abbrev pub IsNoPathOfList : TokenKind → Word → Draft → Type 0
+abbrev pub IsNoPathOfList : WordKind → Word → Draft → Type 0
 IsNoPathOfList kind.Path w d = path_from d.owner.said.base (path_text w.text) ≡ None
 IsNoPathOfList k w d = ⊥
 
 -- the word of a field whose list is an edit beside an explicit list, or an explicit list beside edits
-abbrev pub IsClash : ListEdit → TokenKind → Word → Draft → Type 0
+abbrev pub IsClash : ListEdit → WordKind → Word → Draft → Type 0
 IsClash edit (kind.Word word.StringField) w d = clashes edit (given_at (Texts (text_field w.text)) d.owner.said.given) ≡ true
 IsClash edit (kind.Word word.PathField) w d = clashes edit (given_at (Paths (path_field w.text)) d.owner.said.given) ≡ true
 IsClash edit (kind.Word word.ReferenceField) w d = clashes edit (given_at (References (reference_field w.text)) d.owner.said.given) ≡ true
@@ -40,14 +40,14 @@ abbrev pub IsPropertyClash : Draft → Type 0
 IsPropertyClash d = clashes d.property.edit d.property.marks.lists ≡ true
 
 -- the word `connect` before a list that does not go with those given of the attribute
-abbrev pub IsConnectClash : TokenKind → Draft → Type 0
+abbrev pub IsConnectClash : WordKind → Draft → Type 0
 IsConnectClash (kind.Word word.Connect) d = IsPropertyClash d
 IsConnectClash k d = ⊥
 
 -- The rule of a symbol that a word of this kind breaks: a name in quotes that is none, a path that is none, or lists that do not go
 -- together. A draft whose innermost owner is a property, or whose variant set has no name, refuses the names below it as well; that no
 -- text makes such a draft is not said here.
-abbrev pub BreaksRule : Symbol → TokenKind → Word → Draft → Type 0
+abbrev pub BreaksRule : Symbol → WordKind → Word → Draft → Type 0
 BreaksRule symbol.PrimName k w d = (identifier_of w.text ≡ Err Syntax) ⊎ (is_property d.owner.said.path ≡ true)
 BreaksRule symbol.SetName k w d = identifier_of w.text ≡ Err Syntax
 BreaksRule symbol.VariantList k w d = (variant_of w.text ≡ Err Syntax) ⊎ ((has_variants d.owner.said.path && is_identifier d.owner.set) ≡ false)

@@ -8,11 +8,11 @@ use Rattle.usda_drafts.specs.declared.draft.Draft.{Draft}
 use Rattle.usda_drafts.specs.declared.fault.Refused.{Refused}
 use Rattle.usda_grammar.specs.Machine.{step}
 use Rattle.usda_grammar.specs.Table.{layer}
-use Rattle.usda_grammar.specs.declared.kinds.TokenKind.{TokenKind}
+use Rattle.usda_grammar.specs.declared.kinds.WordKind.{WordKind}
 use Rattle.usda_grammar.specs.declared.symbols.Symbol.{Symbol}
 use Rattle.usda_grammar.specs.declared.symbols.Symbol.TheVariants as symbol
 use Rattle.usda_lexer.specs.Meanings.{path_text}
-use Rattle.usda_lexer.specs.declared.token.TokenKind.{TokenKind as Form}
+use Rattle.usda_lexer.specs.declared.token.TokenKind.{TokenKind}
 use Rattle.usda_lexer.specs.declared.token.TokenKind.TheVariants as form
 use Rattle.usda_lists.specs.Paths.{absolute_from}
 use Rattle.usda_machine.specs.Texts.{HasRead, IsRefusedAct}
@@ -46,10 +46,10 @@ IsNone None = Unit {0}
 IsNone (Some token) = is_path_text (path_text token) ≡ false
 
 -- a path between `<` and `>` that is none where this is the plain path of the prim that owns the statement
-abbrev pub IsNoPathFrom : List Element → Form → List ℕ → Type 0
+abbrev pub IsNoPathFrom : List Element → TokenKind → List ℕ → Type 0
 IsNoPathFrom base f text = (f ≡ form.Path) × IsNone (absolute_from base (path_text text))
 
-abbrev pub kind_in : Word → TokenKind
+abbrev pub kind_in : Word → WordKind
 kind_in w = w.kind
 
 -- Of each text: where a value is open behind some of its words, what the grammar goes on with is what the draft of the value awaits. So

@@ -1,5 +1,5 @@
 use std::alloc::{AllocError, AllocFailed};
-use usda_values::{ActFault, ValueFault};
+use usda_values::{PartFault, ValueFault};
 
 /// Why a call has no answer.
 #[derive(Clone, Copy)]
@@ -22,11 +22,11 @@ impl<T: Drop> From<AllocFailed<T>> for CallFault {
     }
 }
 
-impl From<ActFault> for CallFault {
-    fn from(fault: ActFault) -> CallFault {
+impl From<PartFault> for CallFault {
+    fn from(fault: PartFault) -> CallFault {
         match fault {
-            ActFault::Refused(_) => CallFault::Bad,
-            ActFault::NoMemory => CallFault::NoMemory,
+            PartFault::Refused(_) => CallFault::Bad,
+            PartFault::NoMemory => CallFault::NoMemory,
         }
     }
 }

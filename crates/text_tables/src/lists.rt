@@ -12,10 +12,10 @@ use std::alloc::{AllocError, Global};
 use std::fmt::Write;
 use usda_lists::{
     GivenLists, ListEdit, absolute_from, asset_item, close_items, close_paths, close_texts,
-    identity, offset_key, open_list, path_from, path_item, push_item, push_sublayer,
-    set_last_offset, set_last_path, set_offset, set_sublayer_offset, target_from,
+    offset_key, open_list, path_from, path_item, push_item, push_sublayer, set_last_offset,
+    set_last_path, set_offset, set_sublayer_offset, target_from,
 };
-use usda_values::ActFault;
+use usda_values::PartFault;
 
 /// `from BASE`, `is_path BASE` and `target BASE`: the path that the text means from a prim, or `none`; whether there is one; the path of a target.
 pub(crate) fn push_from_call(
@@ -52,11 +52,11 @@ pub(crate) fn push_token_call(
 }
 
 // Appends why something is refused, if it is.
-fn push_refused(out: &mut String, done: Result<(), ActFault>) -> Result<(), CallFault> {
+fn push_refused(out: &mut String, done: Result<(), PartFault>) -> Result<(), CallFault> {
     match done {
         Ok(()) => Ok(()),
-        Err(ActFault::Refused(kind)) => Ok(writeln!(out, "{kind:?}")?),
-        Err(ActFault::NoMemory) => Err(CallFault::NoMemory),
+        Err(PartFault::Refused(kind)) => Ok(writeln!(out, "{kind:?}")?),
+        Err(PartFault::NoMemory) => Err(CallFault::NoMemory),
     }
 }
 
@@ -82,9 +82,9 @@ pub(crate) fn push_edits_call(out: &mut String, words: &str) -> Result<(), CallF
 }
 
 // An offset of 7 and a scale of 3, of which one is set.
-fn set(key: &str, number: &str) -> Result<LayerOffset, ActFault> {
+fn set(key: &str, number: &str) -> Result<LayerOffset, PartFault> {
     let key = offset_key(key)?;
-    let moved = set_offset(offset_key("offset")?, "7", identity())?;
+    let moved = set_offset(offset_key("offset")?, "7", LayerOffset::identity())?;
     let given = set_offset(offset_key("scale")?, "3", moved)?;
     set_offset(key, number, given)
 }
@@ -104,7 +104,7 @@ fn take_item(
     op: &mut ListOp<RefItem>,
     base: &Path,
     line: &str,
-) -> Result<(), ActFault> {
+) -> Result<(), PartFault> {
     let (word, token) = first_word(line);
     match word {
         "asset" => Ok(push_item(op, ListEdit::Add, asset_item(alloc, token)?)?),
@@ -128,7 +128,7 @@ fn push_ref(out: &mut String, item: &RefItem) -> Result<(), AllocError> {
         Some(path) => out.push_str(path.print()?.as_str())?,
         None => out.push_str("-")?,
     }
-    let is_mapped = item.offset != identity();
+    let is_mapped = item.offset != LayerOffset::identity();
     push_word(out, if is_mapped { " mapped" } else { "" })
 }
 
@@ -226,7 +226,7 @@ fn take_sublayer(
     alloc: Global,
     sublayers: &mut Items<SubLayer>,
     line: &str,
-) -> Result<(), ActFault> {
+) -> Result<(), PartFault> {
     let (word, token) = first_word(line);
     if word == "asset" {
         return Ok(push_sublayer(alloc, sublayers, token)?);

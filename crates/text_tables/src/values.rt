@@ -11,7 +11,7 @@ use sdf_values::{
 use std::alloc::Global;
 use std::fmt::Write;
 use usda_lexer::Tokens;
-use usda_lists::{identity, offset_key, set_offset};
+use usda_lists::{offset_key, set_offset};
 use usda_values::{Shape, ValueFault, read_dict, read_shaped, read_value, take_shape};
 
 /// `number`: the decimal that the text is, or why it is none.
@@ -45,7 +45,7 @@ pub(crate) fn push_time_call(alloc: Global, out: &mut String, text: &str) -> Res
 
 // The offset that two words are: an offset and a scale.
 fn offset_of(offset: &str, scale: &str) -> Result<LayerOffset, CallFault> {
-    let moved = set_offset(offset_key("offset")?, offset, identity())?;
+    let moved = set_offset(offset_key("offset")?, offset, LayerOffset::identity())?;
     Ok(set_offset(offset_key("scale")?, scale, moved)?)
 }
 

@@ -55,3 +55,11 @@ fn a_turn_begins_where_the_last_one_ended(rt: HostRuntime) -> Result<(), Fail> {
     assert!(rt; pushed.is_ok() && long == 1 && spare == 1 && value.list[0] == 1);
     Ok(())
 }
+
+#[test]
+fn a_seat_without_numbers_says_why(rt: HostRuntime) -> Result<(), Fail> {
+    let fault = SplitRefused::SeatsFull;
+    let said = format!(in rt.alloc(); "{fault}")?;
+    assert!(rt; said.as_str() == "the seat has no spare number");
+    Ok(())
+}

@@ -34,8 +34,8 @@ use Rattle.usda_fields.specs.declared.owner.OrderWord.{OrderWord}
 use Rattle.usda_fields.specs.declared.owner.OrderWord.TheVariants.{NameChildren}
 use Rattle.usda_fields.specs.declared.owner.OwnerDraft.{OwnerDraft}
 use Rattle.usda_grammar.specs.declared.kinds.Keyword.TheVariants as word
-use Rattle.usda_grammar.specs.declared.kinds.TokenKind.{TokenKind}
-use Rattle.usda_grammar.specs.declared.kinds.TokenKind.TheVariants as token
+use Rattle.usda_grammar.specs.declared.kinds.WordKind.{WordKind}
+use Rattle.usda_grammar.specs.declared.kinds.WordKind.TheVariants as token
 use Rattle.usda_grammar.specs.declared.symbols.Symbol.{Symbol}
 use Rattle.usda_grammar.specs.declared.symbols.Symbol.TheVariants as symbol
 use Rattle.usda_lexer.specs.Meanings.{number_of}
@@ -182,7 +182,7 @@ edit_kept : (w : Word) (d : Draft) → Kept d (edit_act w d)
 unfolding edit_act
 edit_kept w d = keeps_all d _ refl refl refl
 
-edited_kept : (k : TokenKind) (w : Word) (d : Draft) → Kept d (edited_act k w d)
+edited_kept : (k : WordKind) (w : Word) (d : Draft) → Kept d (edited_act k w d)
 unfolding edited_act
 edited_kept token.Equals w d = key_kept d.word d.word_at d
 edited_kept (token.Word word.StringField) w d = string_field_kept d.edit w d
@@ -190,7 +190,7 @@ edited_kept (token.Word word.PathField) w d = path_field_kept d.edit w d
 edited_kept (token.Word word.ReferenceField) w d = reference_field_kept d.edit w d
 edited_kept k w d = itself d
 
-prim_item_kept : (k : TokenKind) (w : Word) (d : Draft) → Kept d (prim_item_act k w d)
+prim_item_kept : (k : WordKind) (w : Word) (d : Draft) → Kept d (prim_item_act k w d)
 unfolding prim_item_act
 prim_item_kept token.Quoted w d = comment_kept w d
 prim_item_kept (token.Word word.Edit) w d = edit_kept w d
@@ -205,13 +205,13 @@ sublayers_kept : (at : ℕ) (d : Draft) → Kept d (sublayers_act at d)
 unfolding sublayers_act
 sublayers_kept at d = if_made (Keeps d) d.has_sublayers (Err (refused DuplicateSpec at)) (Ok (record d { has_sublayers = true; list = open_list.SubLayers })) tt (keeps_all d _ refl refl refl)
 
-head_item_kept : (k : TokenKind) (w : Word) (d : Draft) → Kept d (head_item_act k w d)
+head_item_kept : (k : WordKind) (w : Word) (d : Draft) → Kept d (head_item_act k w d)
 unfolding head_item_act
 head_item_kept token.Quoted w d = comment_kept w d
 head_item_kept (token.Word word.SubLayers) w d = sublayers_kept w.start d
 head_item_kept k w d = key_kept w.text w.start d
 
-root_kept : (k : TokenKind) (w : Word) (d : Draft) → Kept d (root_act k w d)
+root_kept : (k : WordKind) (w : Word) (d : Draft) → Kept d (root_act k w d)
 unfolding root_act
 root_kept (token.Word word.Specifier) w d = specifier_kept w.text d
 root_kept k w d = itself d
@@ -228,7 +228,7 @@ root_order_kept : (w : Word) (d : Draft) → Kept d (root_order_act w d)
 unfolding root_order_act
 root_order_kept w d = ordered_kept NameChildren w.start d
 
-order_name_kept : (k : TokenKind) (w : Word) (d : Draft) → Kept d (order_name_act k w d)
+order_name_kept : (k : WordKind) (w : Word) (d : Draft) → Kept d (order_name_act k w d)
 unfolding order_name_act
 order_name_kept token.Quoted w d = said_kept w.start (owner.ordered_act d.order w.text d.owner.said) d (same.ordered_same d.order w.text d.owner.said)
 order_name_kept k w d = itself d
@@ -237,7 +237,7 @@ property_key_kept : (w : Word) (d : Draft) → Kept d (property_key_act w d)
 unfolding property_key_act
 property_key_kept w d = then_free d w.start (property_rule w.text d.property) (λ rule. aimed_at_key goal.PropertyKey w.text rule d) (λ rule. aimed_keeps goal.PropertyKey w.text rule d)
 
-property_item_kept : (k : TokenKind) (w : Word) (d : Draft) → Kept d (property_item_act k w d)
+property_item_kept : (k : WordKind) (w : Word) (d : Draft) → Kept d (property_item_act k w d)
 unfolding property_item_act
 property_item_kept token.Quoted w d = property_kept w.start (meta_comment_act w.text d.property) d (same.meta_comment_same w.text d.property)
 property_item_kept k w d = property_key_kept w d
@@ -276,21 +276,21 @@ end_kept (open_list.Field field) d = keeps_said d _ (fields.close_field field d.
 end_kept open_list.Property d = keeps_all d _ refl refl refl
 end_kept l d = itself d
 
-in_list_kept : (k : TokenKind) (w : Word) (d : Draft) → Kept d (in_list_act k w d)
+in_list_kept : (k : WordKind) (w : Word) (d : Draft) → Kept d (in_list_act k w d)
 unfolding in_list_act
 in_list_kept token.Quoted w d = string_kept d.list w d
 in_list_kept token.Path w d = list_path_kept d.list w d
 in_list_kept token.CloseBracket w d = end_kept d.list d
 in_list_kept k w d = itself d
 
-in_references_kept : (k : TokenKind) (w : Word) (d : Draft) → Kept d (in_references_act k w d)
+in_references_kept : (k : WordKind) (w : Word) (d : Draft) → Kept d (in_references_act k w d)
 unfolding in_references_act
 in_references_kept token.Asset w d = asset_kept d.list w d
 in_references_kept token.Path w d = lone_path_kept d.list w d
 in_references_kept token.CloseBracket w d = end_kept d.list d
 in_references_kept k w d = itself d
 
-sublayer_kept : (k : TokenKind) (w : Word) (d : Draft) → Kept d (sublayer_act k w d)
+sublayer_kept : (k : WordKind) (w : Word) (d : Draft) → Kept d (sublayer_act k w d)
 unfolding sublayer_act
 sublayer_kept token.Asset w d = keeps_all d _ refl refl refl
 sublayer_kept k w d = itself d
@@ -311,27 +311,27 @@ type_kept : (w : Word) (d : Draft) → Kept d (type_act w d)
 unfolding type_act
 type_kept w d = then_free d w.start (with_type w.text d.heading) (λ h. headed h d) (λ h. keeps_all d _ refl refl refl)
 
-after_variability_kept : (k : TokenKind) (w : Word) (d : Draft) → Kept d (after_variability_act k w d)
+after_variability_kept : (k : WordKind) (w : Word) (d : Draft) → Kept d (after_variability_act k w d)
 unfolding after_variability_act
 after_variability_kept (token.Word word.Rel) w d = keeps_all d _ refl refl refl
 after_variability_kept k w d = type_kept w d
 
-after_custom_kept : (k : TokenKind) (w : Word) (d : Draft) → Kept d (after_custom_act k w d)
+after_custom_kept : (k : WordKind) (w : Word) (d : Draft) → Kept d (after_custom_act k w d)
 unfolding after_custom_act
 after_custom_kept (token.Word word.Variability) w d = keeps_all d _ refl refl refl
 after_custom_kept k w d = after_variability_kept k w d
 
-after_edit_kept : (k : TokenKind) (w : Word) (d : Draft) → Kept d (after_edit_act k w d)
+after_edit_kept : (k : WordKind) (w : Word) (d : Draft) → Kept d (after_edit_act k w d)
 unfolding after_edit_act
 after_edit_kept (token.Word word.Custom) w d = keeps_all d _ refl refl refl
 after_edit_kept k w d = after_custom_kept k w d
 
-after_reorder_kept : (k : TokenKind) (w : Word) (d : Draft) → Kept d (after_reorder_act k w d)
+after_reorder_kept : (k : WordKind) (w : Word) (d : Draft) → Kept d (after_reorder_act k w d)
 unfolding after_reorder_act
 after_reorder_kept (token.Word word.OrderedField) w d = order_kept w d
 after_reorder_kept k w d = after_edit_kept k w d
 
-statement_kept : (k : TokenKind) (w : Word) (d : Draft) → Kept d (statement_act k w d)
+statement_kept : (k : WordKind) (w : Word) (d : Draft) → Kept d (statement_act k w d)
 unfolding statement_act
 statement_kept (token.Word word.Specifier) w d = specifier_kept w.text d
 statement_kept (token.Word word.VariantSet) w d = itself d
@@ -361,12 +361,12 @@ unfolding list_begun
 list_kept d =
     then_kept (IsNamedSame d.property) d d.name_at (list_act d.property) (λ p. record (with_property d p) { list = open_list.Property }) (same.list_same d.property) (λ p h. keeps_all d (record (with_property d p) { list = open_list.Property }) refl refl h)
 
-tail_kept : (k : TokenKind) (d : Draft) → Kept d (tail_act k d)
+tail_kept : (k : WordKind) (d : Draft) → Kept d (tail_act k d)
 unfolding tail_act
 tail_kept token.Equals d = default_kept d
 tail_kept k d = itself d
 
-dot_kept : (k : TokenKind) (at : ℕ) (d : Draft) → Kept d (dot_act k at d)
+dot_kept : (k : WordKind) (at : ℕ) (d : Draft) → Kept d (dot_act k at d)
 unfolding dot_act
 dot_kept (token.Word word.TimeSamples) at d = samples_kept d
 dot_kept (token.Word word.Connect) at d = list_kept d
@@ -376,7 +376,7 @@ time_kept : (t : List ℕ) (at : ℕ) (d : Draft) → Kept d (time_act t at d)
 unfolding time_act
 time_kept t at d = then_free d at (time_of_number (number_of t)) (λ time. aimed_at_sample time d) (λ time. keeps_all d _ refl refl refl)
 
-sample_kept : (k : TokenKind) (w : Word) (d : Draft) → Kept d (sample_act k w d)
+sample_kept : (k : WordKind) (w : Word) (d : Draft) → Kept d (sample_act k w d)
 unfolding sample_act
 sample_kept token.Number w d = time_kept w.text w.start d
 sample_kept k w d = itself d

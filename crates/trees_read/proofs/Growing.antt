@@ -1,6 +1,7 @@
 -- The tree stays sound: an owner begins, has a set more, and ends.
 use Rattle.std.proofs.Common.{◌≡◌, ◌∙◌, ℕ, ◌+◌, ◌<◌, Bool, true, false, ◌||◌, List, [], ◌∷◌, ◌++◌, length, Option, Some, ap, sym, refl, subst, arith}
 use Rattle.std.specs.List.{IsDistinct}
+use Rattle.std.proofs.lemmas.Bool.{or_right, or_left, false_from_ne_true, or_parts}
 use Rattle.plain_data.specs.Ends.{last}
 use Rattle.sdf_paths.specs.DerivedOrder.{path_cmp_same}
 use Rattle.sdf_paths.specs.Order.{path_cmp}
@@ -15,10 +16,12 @@ use Rattle.spec_parts.specs.declared.items.VariantSet.{VariantSet}
 use Rattle.spec_parts.specs.declared.spec.Spec.{Spec}
 use Rattle.spec_properties.specs.Properties.{AreProperties}
 use Rattle.spec_properties.specs.declared.property.Property.{Property}
-use Rattle.trees_read.specs.Names.{AreAll, IsPlace, AreNamesBelow, AreBelow, IsVariantOf}
+use Rattle.value_texts.specs.Each.{AreAll}
+use Rattle.value_texts.proofs.EachOf.{all_so}
+use Rattle.trees_read.specs.Names.{IsPlace, AreNamesBelow, AreBelow, IsVariantOf}
 use Rattle.trees_read.specs.Trees.{has_spec, IsPlaced, IsProperTree, Frame, Tree, is_one, is_open_at, stands, AreChained, IsFrame, IsSound}
 use Rattle.trees_read.proofs.Names.{names_by, below_by, none_below}
-use Rattle.trees_read.proofs.Paths.{paths_total, all_map, all_both, isnt, either, or_left, or_right, neither_left, or_false, push_front, one_apart, longer, parent_push, ends_so, some_with, all_with, all_found}
+use Rattle.trees_read.proofs.Paths.{paths_total, all_both, either, or_false, push_front, one_apart, longer, parent_push, ends_so, some_with, all_with, all_found}
 
 -- ---- how long the paths of owners are
 
@@ -26,7 +29,7 @@ pub shorter : (o : Frame) (rest : List Frame) → AreChained (o ∷ rest) → Ar
 shorter o [] h = tt
 shorter o (p ∷ rest) h =
     let one : length o.path ≡ length p.path + 1 = ap length h.0.1 ∙ longer p.path h.0.0 in
-    (omega arith, all_map (λ r. length r.path < length p.path) (λ r. length r.path < length o.path) (λ r l. omega arith) rest (shorter p rest h.2))
+    (omega arith, all_so (λ r. length r.path < length p.path) (λ r. length r.path < length o.path) (λ r l. omega arith) rest (shorter p rest h.2))
 
 pub none_open : (owners : List Frame) (q : List Element) → AreAll (λ r. length r.path < length q) owners → is_open_at owners q ≡ false
 none_open [] q h = refl
@@ -127,7 +130,7 @@ module _ (specs : SpecEntries) (o : Frame) (rest : List Frame) (child_names : Li
 
     nothing_inside : (x : Element) → stands behind ((o.path ++ e ∷ []) ++ x ∷ []) ≡ false
     nothing_inside x =
-        isnt (stands behind ((o.path ++ e ∷ []) ++ x ∷ []))
+        false_from_ne_true (stands behind ((o.path ++ e ∷ []) ++ x ∷ []))
         (λ h. either (stands before ((o.path ++ e ∷ []) ++ x ∷ [])) (is_one ((o.path ++ e ∷ []) ++ x ∷ []) (o.path ++ e ∷ [])) (sym (grown ((o.path ++ e ∷ []) ++ x ∷ [])) ∙ h)
         (λ old. let there : stands before (o.path ++ e ∷ []) ≡ true = sound.owned.owned (o.path ++ e ∷ []) x old in let bad : true ≡ false = sym there ∙ free in absurd cc)
         (λ one.
@@ -147,7 +150,7 @@ module _ (specs : SpecEntries) (o : Frame) (rest : List Frame) (child_names : Li
       closed = sound.closed;
       opened = record {
         chained = ((e, refl), place, chain_more rest sound.opened.chained);
-        new = (neither_left (has_spec specs (o.path ++ e ∷ [])) (is_open_at (o ∷ rest) (o.path ++ e ∷ [])) free, (sound.opened.new.0, sound.opened.new.1));
+        new = ((or_parts (has_spec specs (o.path ++ e ∷ [])) (is_open_at (o ∷ rest) (o.path ++ e ∷ [])) free).0, (sound.opened.new.0, sound.opened.new.1));
         frames = (record { indexed = λ name. refl; last_set = refl; variant = variant; once = none_once }, (frame, sound.opened.frames.1));
       };
       owned = record {
@@ -207,12 +210,12 @@ module _ (specs : SpecEntries) (o p : Frame) (rest : List Frame) (spec : Spec) w
       owned = λ path e h. stays path ∙ sound.owned.owned path e (sym (stays (path ++ e ∷ [])) ∙ h);
       closed =
           all_with path_cmp path_cmp_same (λ f. AreBelow (stands over) f.0 f.1.body.children f.1.body.variant_names) o.path spec specs
-          (all_map (λ f. AreBelow (stands open_still) f.0 f.1.body.children f.1.body.variant_names) (λ f. AreBelow (stands over) f.0 f.1.body.children f.1.body.variant_names)
+          (all_so (λ f. AreBelow (stands open_still) f.0 f.1.body.children f.1.body.variant_names) (λ f. AreBelow (stands over) f.0 f.1.body.children f.1.body.variant_names)
           (λ f h. below_by (stands open_still) (stands over) f.0 f.1.body.children f.1.body.variant_names (λ e. stays (f.0 ++ e ∷ [])) h) specs sound.owned.closed)
           (subst (λ s. AreBelow (stands over) o.path spec.body.children s) (sym sets) (subst (λ c. AreBelow (stands over) o.path c o.sets) (sym child_names)
           (below_by (stands open_still) (stands over) o.path o.children o.sets (λ e. stays (o.path ++ e ∷ [])) sound.owned.opened.0)));
       opened =
-          all_map (λ r. AreBelow (stands open_still) r.path r.children r.sets) (λ r. AreBelow (stands over) r.path r.children r.sets)
+          all_so (λ r. AreBelow (stands open_still) r.path r.children r.sets) (λ r. AreBelow (stands over) r.path r.children r.sets)
           (λ r h. below_by (stands open_still) (stands over) r.path r.children r.sets (λ e. stays (r.path ++ e ∷ [])) h) (p ∷ rest) sound.owned.opened.1;
     };
   }

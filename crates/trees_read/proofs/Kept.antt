@@ -1,8 +1,9 @@
 -- Each word that the grammar takes keeps what follows.
 use Rattle.std.proofs.Common.{◌≡◌, ◌∙◌, ℕ, ◌+◌, ◌<◌, Bool, true, false, not, List, length, Some, Result, Ok, Err, ap, sym, refl, subst, arith}
 use Rattle.std.specs.Prelude.{if◌then◌else◌}
-use Rattle.sdf_values.specs.declared.refusal.RefusalKind.TheVariants.{NumberTooLong, TooDeep}
+use Rattle.sdf_values.specs.declared.refusal.RefusalKind.TheVariants.{TooDeep}
 use Rattle.text_syntax.specs.Open.{Follows as ValueFollows, IsAwaited}
+use Rattle.text_syntax.proofs.Tokens.{acted_by}
 use Rattle.usda_drafts.specs.Acts.{act, bodies_act, prims_act, layers_act}
 use Rattle.usda_drafts.specs.Bodies.{name_act}
 use Rattle.usda_drafts.specs.Prims.{open_act, prim_name_act, set_name_act, variant_name_act, body_end_act}
@@ -48,14 +49,6 @@ opening_apart symbol.OpenBrace h = refl
 opening_apart _ h = absurd cc
 
 -- ---- what a word does, by whether a value is open
-
-long_or : (b : Bool) (refusal : Refused) (r : Result Draft Refused) (next : Draft) → (if b then Err refusal else r) ≡ Ok next → r ≡ Ok next
-long_or true refusal r next h = absurd cc
-long_or false refusal r next h = h
-
-pub acted_by : (s : Symbol) (w : Word) (d next : Draft) (b : Bool) → is_open d.value ≡ b → act s w d ≡ Ok next → (if b then token_act w d else bodies_act s w d) ≡ Ok next
-unfolding act
-acted_by s w d next b is h = subst (λ c. (if c then token_act w d else bodies_act s w d) ≡ Ok next) is (long_or w.too_long (refused NumberTooLong w.start) (if is_open d.value then token_act w d else bodies_act s w d) next h)
 
 pub made_of : {E : Type 0} (P : Draft → Type 0) (r : Result Draft E) (next : Draft) → r ≡ Ok next → IfMade P r → P next
 made_of {E} P r next h m = subst (λ (x : Result Draft E). IfMade P x) h m

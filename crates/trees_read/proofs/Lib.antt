@@ -1,5 +1,4 @@
 pub mod Rows
-pub mod AllRows
 pub mod Stacks
 pub mod Paths
 pub mod Names
@@ -14,7 +13,6 @@ pub mod Kept
 pub mod Runs
 pub mod Texts
 pub mod ListRows
-pub mod AllListRows
 pub mod ListStacks
 pub mod ListOps
 pub mod ListFields

@@ -31,8 +31,8 @@ use Rattle.usda_fields.specs.declared.owner.OrderWord.{OrderWord}
 use Rattle.usda_fields.specs.declared.owner.OrderWord.TheVariants.{NameChildren, PropertyNames}
 use Rattle.usda_fields.specs.declared.owner.OwnerDraft.{OwnerDraft}
 use Rattle.usda_grammar.specs.declared.kinds.Keyword.TheVariants as word
-use Rattle.usda_grammar.specs.declared.kinds.TokenKind.{TokenKind}
-use Rattle.usda_grammar.specs.declared.kinds.TokenKind.TheVariants as token
+use Rattle.usda_grammar.specs.declared.kinds.WordKind.{WordKind}
+use Rattle.usda_grammar.specs.declared.kinds.WordKind.TheVariants as token
 use Rattle.usda_lexer.specs.Meanings.{number_of}
 use Rattle.usda_lists.specs.Lists.{list_at}
 use Rattle.usda_lists.specs.References.{same_path}
@@ -45,8 +45,8 @@ use Rattle.usda_statements.specs.declared.open_value.OpenValue.{OpenValue}
 use Rattle.usda_statements.specs.declared.property.PropertyDraft.{PropertyDraft}
 use Rattle.usda_values.specs.declared.shape.Shape.TheVariants.{Dictionary}
 use Rattle.usda_words.specs.Words.{Word}
+use Rattle.value_texts.specs.Each.{AreAll}
 use Rattle.trees_read.specs.Lists.{paths_of}
-use Rattle.trees_read.specs.Names.{AreAll}
 use Rattle.trees_read.proofs.Fields.{IfMade, and_made, if_made}
 use Rattle.trees_read.proofs.ListFields.{Ops, ops_of, AllOnce, InHand}
 use Rattle.trees_read.proofs.ListOps.{OpOnce, OpBut, Size, Sized}
@@ -222,7 +222,7 @@ pub edit_viewed : (w : Word) (d : Draft) → Viewed d (edit_act w d)
 unfolding edit_act
 edit_viewed w d = refl
 
-pub root_viewed : (k : TokenKind) (w : Word) (d : Draft) → Viewed d (root_act k w d)
+pub root_viewed : (k : WordKind) (w : Word) (d : Draft) → Viewed d (root_act k w d)
 unfolding root_act
 root_viewed (token.Word word.Specifier) w d = specifier_viewed w.text d
 root_viewed k w d = refl
@@ -239,7 +239,7 @@ pub root_order_viewed : (w : Word) (d : Draft) → Viewed d (root_order_act w d)
 unfolding root_order_act
 root_order_viewed w d = ordered_viewed NameChildren w.start d
 
-pub order_name_viewed : (k : TokenKind) (w : Word) (d : Draft) → Viewed d (order_name_act k w d)
+pub order_name_viewed : (k : WordKind) (w : Word) (d : Draft) → Viewed d (order_name_act k w d)
 unfolding order_name_act
 order_name_viewed token.Quoted w d = said_viewed w.start (owner.ordered_act d.order w.text d.owner.said) d (ordered_alike d.order w.text d.owner.said)
 order_name_viewed k w d = refl
@@ -248,7 +248,7 @@ pub property_key_viewed : (w : Word) (d : Draft) → Viewed d (property_key_act 
 unfolding property_key_act
 property_key_viewed w d = then_any (λ next. view_of next ≡ view_of d) w.start (property_rule w.text d.property) (λ rule. aimed_at_key goal.PropertyKey w.text rule d) (λ rule. aimed_viewed goal.PropertyKey w.text rule d)
 
-pub property_item_viewed : (k : TokenKind) (w : Word) (d : Draft) → Viewed d (property_item_act k w d)
+pub property_item_viewed : (k : WordKind) (w : Word) (d : Draft) → Viewed d (property_item_act k w d)
 unfolding property_item_act
 property_item_viewed token.Quoted w d = property_viewed w.start (meta_comment_act w.text d.property) d (meta_comment_alike w.text d.property)
 property_item_viewed k w d = property_key_viewed w d
@@ -259,27 +259,27 @@ pub type_viewed : (w : Word) (d : Draft) → Viewed d (type_act w d)
 unfolding type_act
 type_viewed w d = then_any (λ next. view_of next ≡ view_of d) w.start (with_type w.text d.heading) (λ h. headed h d) (λ h. refl)
 
-pub after_variability_viewed : (k : TokenKind) (w : Word) (d : Draft) → Viewed d (after_variability_act k w d)
+pub after_variability_viewed : (k : WordKind) (w : Word) (d : Draft) → Viewed d (after_variability_act k w d)
 unfolding after_variability_act
 after_variability_viewed (token.Word word.Rel) w d = refl
 after_variability_viewed k w d = type_viewed w d
 
-pub after_custom_viewed : (k : TokenKind) (w : Word) (d : Draft) → Viewed d (after_custom_act k w d)
+pub after_custom_viewed : (k : WordKind) (w : Word) (d : Draft) → Viewed d (after_custom_act k w d)
 unfolding after_custom_act
 after_custom_viewed (token.Word word.Variability) w d = refl
 after_custom_viewed k w d = after_variability_viewed k w d
 
-pub after_edit_viewed : (k : TokenKind) (w : Word) (d : Draft) → Viewed d (after_edit_act k w d)
+pub after_edit_viewed : (k : WordKind) (w : Word) (d : Draft) → Viewed d (after_edit_act k w d)
 unfolding after_edit_act
 after_edit_viewed (token.Word word.Custom) w d = refl
 after_edit_viewed k w d = after_custom_viewed k w d
 
-pub after_reorder_viewed : (k : TokenKind) (w : Word) (d : Draft) → Viewed d (after_reorder_act k w d)
+pub after_reorder_viewed : (k : WordKind) (w : Word) (d : Draft) → Viewed d (after_reorder_act k w d)
 unfolding after_reorder_act
 after_reorder_viewed (token.Word word.OrderedField) w d = order_viewed w d
 after_reorder_viewed k w d = after_edit_viewed k w d
 
-pub statement_viewed : (k : TokenKind) (w : Word) (d : Draft) → Viewed d (statement_act k w d)
+pub statement_viewed : (k : WordKind) (w : Word) (d : Draft) → Viewed d (statement_act k w d)
 unfolding statement_act
 statement_viewed (token.Word word.Specifier) w d = specifier_viewed w.text d
 statement_viewed (token.Word word.VariantSet) w d = refl
@@ -300,7 +300,7 @@ pub samples_viewed : (d : Draft) → Viewed d (samples_begun d)
 unfolding samples_begun
 samples_viewed d = property_viewed d.name_at (samples_act d.property) d (samples_alike d.property)
 
-pub tail_viewed : (k : TokenKind) (d : Draft) → Viewed d (tail_act k d)
+pub tail_viewed : (k : WordKind) (d : Draft) → Viewed d (tail_act k d)
 unfolding tail_act
 tail_viewed token.Equals d = default_viewed d
 tail_viewed k d = refl
@@ -309,7 +309,7 @@ pub time_viewed : (t : List ℕ) (at : ℕ) (d : Draft) → Viewed d (time_act t
 unfolding time_act
 time_viewed t at d = then_any (λ next. view_of next ≡ view_of d) at (time_of_number (number_of t)) (λ time. aimed_at_sample time d) (λ time. refl)
 
-pub sample_viewed : (k : TokenKind) (w : Word) (d : Draft) → Viewed d (sample_act k w d)
+pub sample_viewed : (k : WordKind) (w : Word) (d : Draft) → Viewed d (sample_act k w d)
 unfolding sample_act
 sample_viewed token.Number w d = time_viewed w.text w.start d
 sample_viewed k w d = refl

@@ -19,8 +19,8 @@ use Rattle.usda_fields.specs.declared.field.ListField.TheVariants.{Paths, Refere
 use Rattle.usda_fields.specs.declared.owner.OwnerDraft.{OwnerDraft}
 use Rattle.usda_grammar.specs.Table.{starts}
 use Rattle.usda_grammar.specs.declared.kinds.Keyword.TheVariants as word
-use Rattle.usda_grammar.specs.declared.kinds.TokenKind.{TokenKind}
-use Rattle.usda_grammar.specs.declared.kinds.TokenKind.TheVariants as token
+use Rattle.usda_grammar.specs.declared.kinds.WordKind.{WordKind}
+use Rattle.usda_grammar.specs.declared.kinds.WordKind.TheVariants as token
 use Rattle.usda_grammar.specs.declared.symbols.Symbol.{Symbol}
 use Rattle.usda_grammar.specs.declared.symbols.Symbol.TheVariants as symbol
 use Rattle.usda_lexer.specs.Meanings.{path_text}
@@ -201,11 +201,11 @@ abbrev pub Landed : Option (List Symbol) → Draft → Type 0
 Landed None d = Unit {0}
 Landed (Some rest) d = State (part rest) (has_item rest) d
 
-nothing : {E : Type 0} (r : Result Draft E) → IfMade (λ n. Unit {0}) r
+pub nothing : {E : Type 0} (r : Result Draft E) → IfMade (λ n. Unit {0}) r
 nothing (Ok d) = tt
 nothing (Err e) = tt
 
-weaker : {E : Type 0} (P Q : Draft → Type 0) (r : Result Draft E) → ((n : Draft) → P n → Q n) → IfMade P r → IfMade Q r
+pub weaker : {E : Type 0} (P Q : Draft → Type 0) (r : Result Draft E) → ((n : Draft) → P n → Q n) → IfMade P r → IfMade Q r
 weaker P Q (Ok n) make h = make n h
 weaker P Q (Err e) make h = tt
 
@@ -225,7 +225,7 @@ pushed_bare r h = weaker (Busy short) Bare r (λ n b. bare n (short_quiet n b)) 
 pushed_item : {E : Type 0} (r : Result Draft E) → IfMade (Busy short) r → IfMade (State none true) r
 pushed_item r h = weaker (Busy short) (State none true) r (λ n b. (short_quiet n b, λ t. b)) h
 
-pub string_list : (k : TokenKind) (w : Word) (d : Draft) → Busy empty d → IfMade (Landed (starts symbol.StringList k)) (in_list_act k w d)
+pub string_list : (k : WordKind) (w : Word) (d : Draft) → Busy empty d → IfMade (Landed (starts symbol.StringList k)) (in_list_act k w d)
 unfolding in_list_act
 string_list token.Quoted w d b = pushed_bare (string_act d.list w d) (string_hand empty d.list w d (opened empty d b))
 string_list (token.Word word.NoneWord) w d b = bare d (empty_quiet d b)
@@ -234,7 +234,7 @@ string_list token.Path w d b = nothing (list_path_act d.list w d)
 string_list token.CloseBracket w d b = nothing (end_act d.list d)
 string_list k w d b = tt
 
-pub path_list : (k : TokenKind) (w : Word) (d : Draft) → Busy empty d → IfMade (Landed (starts symbol.PathList k)) (in_list_act k w d)
+pub path_list : (k : WordKind) (w : Word) (d : Draft) → Busy empty d → IfMade (Landed (starts symbol.PathList k)) (in_list_act k w d)
 unfolding in_list_act
 path_list token.Path w d b = pushed_bare (list_path_act d.list w d) (list_path_hand empty d.list w d (opened empty d b))
 path_list (token.Word word.NoneWord) w d b = bare d (empty_quiet d b)
@@ -243,7 +243,7 @@ path_list token.Quoted w d b = nothing (string_act d.list w d)
 path_list token.CloseBracket w d b = nothing (end_act d.list d)
 path_list k w d b = tt
 
-pub reference_list : (k : TokenKind) (w : Word) (d : Draft) → Busy empty d → IfMade (Landed (starts symbol.ReferenceList k)) (in_references_act k w d)
+pub reference_list : (k : WordKind) (w : Word) (d : Draft) → Busy empty d → IfMade (Landed (starts symbol.ReferenceList k)) (in_references_act k w d)
 unfolding in_references_act
 reference_list token.Asset w d b = pushed_item (asset_act d.list w d) (asset_busy empty d.list w d (opened empty d b))
 reference_list token.Path w d b = pushed_item (lone_path_act d.list w d) (lone_path_hand empty d.list w d (opened empty d b))
@@ -252,14 +252,14 @@ reference_list token.OpenBracket w d b = busy_less empty d b
 reference_list token.CloseBracket w d b = nothing (end_act d.list d)
 reference_list k w d b = tt
 
-pub strings_or_end : (k : TokenKind) (w : Word) (d : Draft) → Busy any d → IfMade (Landed (starts symbol.StringsOrEnd k)) (in_list_act k w d)
+pub strings_or_end : (k : WordKind) (w : Word) (d : Draft) → Busy any d → IfMade (Landed (starts symbol.StringsOrEnd k)) (in_list_act k w d)
 unfolding in_list_act
 strings_or_end token.Quoted w d b = string_hand any d.list w d (opened any d b)
 strings_or_end token.CloseBracket w d b = quiet_bare (end_act d.list d) (end_hand d.list d (opened any d b))
 strings_or_end token.Path w d b = nothing (list_path_act d.list w d)
 strings_or_end k w d b = tt
 
-pub more_strings : (k : TokenKind) (w : Word) (d : Draft) → Busy any d → IfMade (Landed (starts symbol.MoreStrings k)) (in_list_act k w d)
+pub more_strings : (k : WordKind) (w : Word) (d : Draft) → Busy any d → IfMade (Landed (starts symbol.MoreStrings k)) (in_list_act k w d)
 unfolding in_list_act
 more_strings token.Comma w d b = b
 more_strings token.CloseBracket w d b = quiet_bare (end_act d.list d) (end_hand d.list d (opened any d b))
@@ -267,14 +267,14 @@ more_strings token.Quoted w d b = nothing (string_act d.list w d)
 more_strings token.Path w d b = nothing (list_path_act d.list w d)
 more_strings k w d b = tt
 
-pub paths_or_end : (k : TokenKind) (w : Word) (d : Draft) → Busy any d → IfMade (Landed (starts symbol.PathsOrEnd k)) (in_list_act k w d)
+pub paths_or_end : (k : WordKind) (w : Word) (d : Draft) → Busy any d → IfMade (Landed (starts symbol.PathsOrEnd k)) (in_list_act k w d)
 unfolding in_list_act
 paths_or_end token.Path w d b = list_path_hand any d.list w d (opened any d b)
 paths_or_end token.CloseBracket w d b = quiet_bare (end_act d.list d) (end_hand d.list d (opened any d b))
 paths_or_end token.Quoted w d b = nothing (string_act d.list w d)
 paths_or_end k w d b = tt
 
-pub more_paths : (k : TokenKind) (w : Word) (d : Draft) → Busy any d → IfMade (Landed (starts symbol.MorePaths k)) (in_list_act k w d)
+pub more_paths : (k : WordKind) (w : Word) (d : Draft) → Busy any d → IfMade (Landed (starts symbol.MorePaths k)) (in_list_act k w d)
 unfolding in_list_act
 more_paths token.Comma w d b = b
 more_paths token.CloseBracket w d b = quiet_bare (end_act d.list d) (end_hand d.list d (opened any d b))
@@ -282,14 +282,14 @@ more_paths token.Quoted w d b = nothing (string_act d.list w d)
 more_paths token.Path w d b = nothing (list_path_act d.list w d)
 more_paths k w d b = tt
 
-pub references_or_end : (k : TokenKind) (w : Word) (d : Draft) → Busy any d → IfMade (Landed (starts symbol.ReferencesOrEnd k)) (in_references_act k w d)
+pub references_or_end : (k : WordKind) (w : Word) (d : Draft) → Busy any d → IfMade (Landed (starts symbol.ReferencesOrEnd k)) (in_references_act k w d)
 unfolding in_references_act
 references_or_end token.Asset w d b = asset_busy any d.list w d (opened any d b)
 references_or_end token.Path w d b = lone_path_hand any d.list w d (opened any d b)
 references_or_end token.CloseBracket w d b = quiet_bare (end_act d.list d) (end_hand d.list d (opened any d b))
 references_or_end k w d b = tt
 
-pub more_references : (k : TokenKind) (w : Word) (d : Draft) → Busy any d → IfMade (Landed (starts symbol.MoreReferences k)) (in_references_act k w d)
+pub more_references : (k : WordKind) (w : Word) (d : Draft) → Busy any d → IfMade (Landed (starts symbol.MoreReferences k)) (in_references_act k w d)
 unfolding in_references_act
 more_references token.Comma w d b = b
 more_references token.CloseBracket w d b = quiet_bare (end_act d.list d) (end_hand d.list d (opened any d b))
@@ -347,7 +347,7 @@ property_list_busy d q = by (give d.property.edit d.property.marks.lists)
     }
     by (Err k) = tt
 
-pub head_items : (k : TokenKind) (w : Word) (d : Draft) → Quiet (view_of d) → IfMade (Landed (starts symbol.HeadItems k)) (head_item_act k w d)
+pub head_items : (k : WordKind) (w : Word) (d : Draft) → Quiet (view_of d) → IfMade (Landed (starts symbol.HeadItems k)) (head_item_act k w d)
 unfolding head_item_act sublayers_act
 head_items token.Quoted w d q = landed_quiet (starts symbol.HeadItems token.Quoted) _ refl (quiet_made d _ (comment_viewed w d) q)
 head_items (token.Word word.SubLayers) w d q =
@@ -355,7 +355,7 @@ head_items (token.Word word.SubLayers) w d q =
     (record { rest = record { specs = q.rest.specs; outer = q.rest.outer; properties = q.rest.properties }; fields = q.fields; paths = q.paths }, refl)
 head_items k w d q = landed_quiet (starts symbol.HeadItems k) _ refl (quiet_made d _ (key_viewed w.text w.start d) q)
 
-pub prim_items : (k : TokenKind) (w : Word) (d : Draft) → Quiet (view_of d) → IfMade (Landed (starts symbol.PrimMetadata k)) (prim_item_act k w d)
+pub prim_items : (k : WordKind) (w : Word) (d : Draft) → Quiet (view_of d) → IfMade (Landed (starts symbol.PrimMetadata k)) (prim_item_act k w d)
 unfolding prim_item_act
 prim_items token.Quoted w d q = landed_quiet (starts symbol.PrimMetadata token.Quoted) _ refl (quiet_made d _ (comment_viewed w d) q)
 prim_items (token.Word word.Edit) w d q = landed_quiet (starts symbol.PrimMetadata (token.Word word.Edit)) _ refl (quiet_made d _ (edit_viewed w d) q)
@@ -366,7 +366,7 @@ prim_items (token.Word word.PathField) w d q = path_field_busy Explicit w d q
 prim_items (token.Word word.ReferenceField) w d q = reference_field_busy Explicit w d q
 prim_items k w d q = landed_quiet (starts symbol.PrimMetadata k) _ refl (quiet_made d _ (key_viewed w.text w.start d) q)
 
-pub edited_fields : (k : TokenKind) (w : Word) (d : Draft) → Quiet (view_of d) → IfMade (Landed (starts symbol.EditedField k)) (edited_act k w d)
+pub edited_fields : (k : WordKind) (w : Word) (d : Draft) → Quiet (view_of d) → IfMade (Landed (starts symbol.EditedField k)) (edited_act k w d)
 unfolding edited_act
 edited_fields token.Equals w d q = landed_quiet (starts symbol.EditedField token.Equals) _ refl (quiet_made d _ (key_viewed d.word d.word_at d) q)
 edited_fields (token.Word word.StringField) w d q = string_field_busy d.edit w d q
@@ -374,17 +374,17 @@ edited_fields (token.Word word.PathField) w d q = path_field_busy d.edit w d q
 edited_fields (token.Word word.ReferenceField) w d q = reference_field_busy d.edit w d q
 edited_fields k w d q = tt
 
-pub targets : (k : TokenKind) (d : Draft) → Quiet (view_of d) → IfMade (Landed (starts symbol.MaybeTargets k)) (list_begun d)
+pub targets : (k : WordKind) (d : Draft) → Quiet (view_of d) → IfMade (Landed (starts symbol.MaybeTargets k)) (list_begun d)
 targets token.Equals d q = property_list_busy d q
 targets k d q = nothing (list_begun d)
 
-pub after_dot : (k : TokenKind) (at : ℕ) (d : Draft) → Quiet (view_of d) → IfMade (Landed (starts symbol.AfterDot k)) (dot_act k at d)
+pub after_dot : (k : WordKind) (at : ℕ) (d : Draft) → Quiet (view_of d) → IfMade (Landed (starts symbol.AfterDot k)) (dot_act k at d)
 unfolding dot_act
 after_dot (token.Word word.TimeSamples) at d q = landed_quiet (starts symbol.AfterDot (token.Word word.TimeSamples)) _ refl (quiet_made d _ (samples_viewed d) q)
 after_dot (token.Word word.Connect) at d q = property_list_busy d q
 after_dot k at d q = tt
 
-pub connect_words : (k : TokenKind) (at : ℕ) (d : Draft) → Quiet (view_of d) → IfMade (Landed (starts symbol.ConnectWord k)) (dot_act k at d)
+pub connect_words : (k : WordKind) (at : ℕ) (d : Draft) → Quiet (view_of d) → IfMade (Landed (starts symbol.ConnectWord k)) (dot_act k at d)
 unfolding dot_act
 connect_words (token.Word word.TimeSamples) at d q = nothing (samples_begun d)
 connect_words (token.Word word.Connect) at d q = property_list_busy d q
@@ -392,7 +392,7 @@ connect_words k at d q = tt
 
 -- ---- the sublayers
 
-pub sublayers_or_end : (k : TokenKind) (w : Word) (d : Draft) → Quiet (view_of d) → d.list ≡ open_list.SubLayers → IfMade (Landed (starts symbol.SubLayersOrEnd k)) (sublayer_act k w d)
+pub sublayers_or_end : (k : WordKind) (w : Word) (d : Draft) → Quiet (view_of d) → d.list ≡ open_list.SubLayers → IfMade (Landed (starts symbol.SubLayersOrEnd k)) (sublayer_act k w d)
 unfolding sublayer_act
 sublayers_or_end token.Asset w d q is = (q, is)
 sublayers_or_end token.CloseBracket w d q is = bare d q

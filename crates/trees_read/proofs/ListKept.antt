@@ -5,6 +5,7 @@ use Rattle.spec_parts.specs.declared.items.Specifier.TheVariants.{Over}
 use Rattle.spec_parts.specs.declared.spec.Spec.{Spec}
 use Rattle.text_syntax.proofs.Texts.{followed as values}
 use Rattle.text_syntax.specs.Open.{Follows as ValueFollows}
+use Rattle.text_syntax.proofs.Tokens.{acted_by}
 use Rattle.usda_drafts.specs.Acts.{act, bodies_act, prims_act, layers_act}
 use Rattle.usda_drafts.specs.Drafts.{blank, layer_by, layer_of}
 use Rattle.usda_drafts.specs.Lists.{item_path_act, number_act, offset_key_act}
@@ -19,8 +20,8 @@ use Rattle.usda_fields.specs.declared.field.ReferenceField.TheVariants.{Referenc
 use Rattle.usda_fields.specs.declared.field.TextField.TheVariants.{VariantSets, ApiSchemas, ClipSets}
 use Rattle.usda_grammar.specs.Machine.{step}
 use Rattle.usda_grammar.specs.Table.{layer, starts}
-use Rattle.usda_grammar.specs.declared.kinds.TokenKind.{TokenKind}
-use Rattle.usda_grammar.specs.declared.kinds.TokenKind.TheVariants as token
+use Rattle.usda_grammar.specs.declared.kinds.WordKind.{WordKind}
+use Rattle.usda_grammar.specs.declared.kinds.WordKind.TheVariants as token
 use Rattle.usda_grammar.specs.declared.symbols.Symbol.{Symbol}
 use Rattle.usda_grammar.specs.declared.symbols.Symbol.TheVariants as symbol
 use Rattle.usda_lists.specs.Offsets.{offset_key}
@@ -28,18 +29,18 @@ use Rattle.usda_lists.specs.References.{same_text, same_path, same_item}
 use Rattle.usda_statements.specs.OpenValues.{is_open}
 use Rattle.usda_words.specs.Words.{Word}
 use Rattle.value_texts.specs.Following.{IsOfToken}
-use Rattle.trees_read.specs.Lists.{AreItemsOnce, paths_of, AreListsMade, ListsAreRead}
-use Rattle.trees_read.specs.Names.{AreAll}
+use Rattle.value_texts.specs.Each.{AreAll}
+use Rattle.value_texts.proofs.EachOf.{all_so}
+use Rattle.trees_read.specs.Lists.{AreItemsOnce, paths_of, AreListsMade, ListsAreClosed}
 use Rattle.trees_read.specs.Stacks.{is_of_statement}
 use Rattle.trees_read.proofs.Fields.{IfMade}
-use Rattle.trees_read.proofs.Kept.{acted_by, made_of, value_symbol}
+use Rattle.trees_read.proofs.Kept.{made_of, value_symbol}
 use Rattle.trees_read.proofs.ListActs.{PropertyOnce, SpecOnce, view_of, Quiet, Busy, Same, same_busy, token_same, then_any}
 use Rattle.trees_read.proofs.ListHands.{State, Landed, short_quiet, item_path_busy, number_busy, sub_path, sub_number, string_list, path_list, reference_list, strings_or_end, more_strings, paths_or_end, more_paths, references_or_end, more_references, head_items, prim_items, edited_fields, targets, after_dot, connect_words, sublayers_or_end}
 use Rattle.trees_read.proofs.ListMoves.{bodies_quiet, blank_once, no_paths_once}
 use Rattle.trees_read.proofs.ListOps.{short, empty, any, items_once}
 use Rattle.trees_read.proofs.ListRows.{Part, none, begun, brackets, sublayers, part_of, part, is_none, is_of_item, has_item, is_light, are_on_top, begins_list}
 use Rattle.trees_read.proofs.ListStacks.{NoParts, Listed, listed, is_the_none, done_parts}
-use Rattle.trees_read.proofs.Paths.{all_map}
 use Rattle.trees_read.proofs.Runs.{IsAtEnd, holds_behind}
 
 -- what has been read of the lists is what the symbols that are still to come say
@@ -133,11 +134,11 @@ begun_landed symbol.AfterDot w d is q = after_dot w.kind w.start d q
 begun_landed symbol.ConnectWord w d is q = connect_words w.kind w.start d q
 begun_landed _ w d is q = absurd cc
 
-sub_list : (k : TokenKind) (d : Draft) → State sublayers false d → Landed (starts symbol.SubLayerList k) d
+sub_list : (k : WordKind) (d : Draft) → State sublayers false d → Landed (starts symbol.SubLayerList k) d
 sub_list token.OpenBracket d s = s
 sub_list k d s = tt
 
-sub_more : (k : TokenKind) (d : Draft) → State sublayers false d → Landed (starts symbol.MoreSubLayers k) d
+sub_more : (k : WordKind) (d : Draft) → State sublayers false d → Landed (starts symbol.MoreSubLayers k) d
 sub_more token.Comma d s = s
 sub_more token.CloseBracket d s = (s.0, λ h. absurd cc)
 sub_more k d s = tt
@@ -160,7 +161,7 @@ list_landed _ w item d is s = absurd cc
 
 -- ---- a word
 
-landed_state : (k : TokenKind) (s : Symbol) (rest after : List Symbol) (next : Draft) → starts s k ≡ Some rest → part after ≡ part rest → has_item after ≡ has_item rest → Landed (starts s k) next → State (part after) (has_item after) next
+landed_state : (k : WordKind) (s : Symbol) (rest after : List Symbol) (next : Draft) → starts s k ≡ Some rest → part after ≡ part rest → has_item after ≡ has_item rest → Landed (starts s k) next → State (part after) (has_item after) next
 landed_state k s rest after next is p item h = subst (λ x. State x (has_item after) next) (sym p) (subst (λ x. State (part rest) x next) (sym item) (subst (λ o. Landed o next) is h))
 
 not_none : (p : Part) → p ≡ none → (item : Bool) (d : Draft) → State p item d → Quiet (view_of d)
@@ -213,7 +214,7 @@ begins : Follows layer blank
 begins = record { value = values.begins; on_top = refl; state = (blank_quiet, λ h. absurd cc) }
 
 all_made : (specs : List (List Element × Spec)) → AreAll (λ e. SpecOnce e.1) specs → AreAll (λ e. AreListsMade e.1) specs
-all_made specs h = all_map (λ e. SpecOnce e.1) (λ e. AreListsMade e.1) (λ e s. made e.1 s) specs h
+all_made specs h = all_so (λ e. SpecOnce e.1) (λ e. AreListsMade e.1) (λ e s. made e.1 s) specs h
   where
     made : (spec : Spec) → SpecOnce spec → AreListsMade spec
     made spec s = record {
@@ -224,10 +225,10 @@ all_made specs h = all_map (λ e. SpecOnce e.1) (λ e. AreListsMade e.1) (λ e s
       variant_sets = items_once same_text spec.arcs.variant_sets (s.0 (list.Texts VariantSets));
       api_schemas = items_once same_text spec.body.api_schemas (s.0 (list.Texts ApiSchemas));
       clip_sets = items_once same_text spec.body.clip_sets (s.0 (list.Texts ClipSets));
-      properties = all_map PropertyOnce (λ p. AreItemsOnce same_path (paths_of p)) (λ p o. items_once same_path (paths_of p) o) spec.body.properties s.1;
+      properties = all_so PropertyOnce (λ p. AreItemsOnce same_path (paths_of p)) (λ p o. items_once same_path (paths_of p) o) spec.body.properties s.1;
     }
 
-pub read_lists : ListsAreRead
+pub read_lists : ListsAreClosed
 unfolding layer_of layer_by
 read_lists bytes d text =
     let e : IsAtEnd Follows d = holds_behind Follows kept bytes d begins text in

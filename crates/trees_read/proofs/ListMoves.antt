@@ -3,7 +3,7 @@ use Rattle.std.proofs.Common.{◌≡◌, ℕ, Bool, true, false, ◌||◌, cond,
 use Rattle.std.specs.List.{IsDistinct}
 use Rattle.std.specs.Prelude.{if◌then◌else◌}
 use Rattle.list_ops.specs.Blank.{no_edits}
-use Rattle.plain_data.specs.Ends.{last, front}
+use Rattle.plain_data.specs.Ends.{last}
 use Rattle.sdf_paths.specs.DerivedOrder.{path_cmp_same}
 use Rattle.sdf_paths.specs.Order.{path_cmp}
 use Rattle.sdf_paths.specs.declared.element.Element.{Element}
@@ -40,13 +40,14 @@ use Rattle.usda_statements.specs.declared.heading.Heading.{Heading}
 use Rattle.usda_statements.specs.declared.property.PropertyDraft.{PropertyDraft}
 use Rattle.usda_statements.specs.declared.property.PropertyMarks.{PropertyMarks}
 use Rattle.usda_words.specs.Words.{Word}
-use Rattle.trees_read.specs.Names.{AreAll}
+use Rattle.value_texts.specs.Each.{AreAll}
+use Rattle.value_texts.proofs.EachOf.{all_push, all_front, all_last}
 use Rattle.trees_read.proofs.Fields.{IfMade, and_made, if_made}
 use Rattle.trees_read.proofs.ListActs.{PropertyOnce, SpecOnce, OwnerOnce, view_of, Quiet, Viewed, prim_type_viewed, open_viewed, root_viewed, root_order_viewed, order_name_viewed, property_item_viewed, after_variability_viewed, after_custom_viewed, after_edit_viewed, after_reorder_viewed, statement_viewed, brackets_viewed, tail_viewed, sample_viewed, first_viewed}
 use Rattle.trees_read.proofs.ListFields.{ops_of, AllOnce}
 use Rattle.trees_read.proofs.ListOps.{OpOnce}
 use Rattle.trees_read.proofs.ListRows.{part_of, is_none, is_light, begins_list}
-use Rattle.trees_read.proofs.Paths.{all_push, all_with}
+use Rattle.trees_read.proofs.Paths.{all_with}
 use Rattle.trees_read.proofs.Prims.{placed_made}
 
 -- no list is in the making in the draft that an act makes, where it makes one
@@ -208,28 +209,18 @@ set_quiet : (token : List ℕ) (d : Draft) → Quiet (view_of d) → IsQuiet (se
 unfolding set_name_act
 set_quiet token d q = and_made (λ n. Quiet (view_of n)) (identifier_of token) (λ name. begun_set name d) (λ name. quiet_made d (begun_set name d) (set_viewed name d) q)
 
-front_all : {T : Type 0} (P : T → Type 0) (xs : List T) → AreAll P xs → AreAll P (front xs)
-front_all P [] h = tt
-front_all P (x ∷ []) h = tt
-front_all P (x ∷ y ∷ xs) h = (h.0, front_all P (y ∷ xs) h.1)
-
-last_one : {T : Type 0} (P : T → Type 0) (xs : List T) (x : T) → AreAll P xs → last xs ≡ Some x → P x
-last_one P [] x h is = absurd cc
-last_one P (y ∷ []) x h is = let same : y ≡ x = cc in subst P same h.0
-last_one P (y ∷ z ∷ xs) x h is = last_one P (z ∷ xs) x h.1 is
-
 left_quiet : (d : Draft) → Quiet (view_of d) → Quiet (view_of (left d))
 unfolding left with_spec_at spec_of
 left_quiet d q = by (last d.outer) refl
   where
     by : (l : Option Owner) → last d.outer ≡ l → Quiet (view_of (left_for l d))
-    by None is = record { rest = record { specs = q.rest.specs; outer = front_all OwnerOnce d.outer q.rest.outer; properties = q.rest.properties }; fields = q.fields; paths = q.paths }
+    by None is = record { rest = record { specs = q.rest.specs; outer = all_front OwnerOnce d.outer q.rest.outer; properties = q.rest.properties }; fields = q.fields; paths = q.paths }
     by (Some o) is =
-        let once : OwnerOnce o = last_one OwnerOnce d.outer o q.rest.outer is in
+        let once : OwnerOnce o = all_last OwnerOnce d.outer o q.rest.outer is in
         record {
           rest = record {
             specs = all_with path_cmp path_cmp_same (λ e. SpecOnce e.1) d.owner.said.path (spec_of d.owner) d.specs q.rest.specs (q.fields, q.rest.properties);
-            outer = front_all OwnerOnce d.outer q.rest.outer;
+            outer = all_front OwnerOnce d.outer q.rest.outer;
             properties = once.1;
           };
           fields = once.0;

@@ -1,10 +1,11 @@
 -- What the symbols that are still to come tell of the list that is read, and what a row of the grammar's table has to keep of it.
-use Rattle.std.proofs.Common.{Bool, true, false, not, ◌&&◌, ◌||◌, List, [], ◌∷◌, Option, Some, None}
+use Rattle.std.proofs.Common.{Bool, true, false, not, ◌&&◌, ◌||◌, List, [], ◌∷◌, Option, Some, None, ◌≡◌, refl}
 use Rattle.std.specs.List.{list_any, list_all}
 use Rattle.usda_grammar.specs.Table.{starts}
-use Rattle.usda_grammar.specs.declared.kinds.TokenKind.{TokenKind}
+use Rattle.usda_grammar.specs.declared.kinds.WordKind.{WordKind}
 use Rattle.usda_grammar.specs.declared.symbols.Symbol.{Symbol}
 use Rattle.usda_grammar.specs.declared.symbols.Symbol.TheVariants as symbol
+use Rattle.usda_productions.proofs.AllSymbols.{every_row}
 
 -- what is read: no list, one that is begun and still empty, one between brackets, or the sublayers
 pub data Part : Type 0 where
@@ -90,5 +91,9 @@ is_list_after s (Some after) =
     && ((not (is_light s) || (list_all is_light after && (is_none (part after) && (not (has_item after) || is_of_item s))))
     && (is_light s || begins_list s || not (is_none (part_of s)) || not (has_parts after)))
 
-abbrev pub is_list_row : Symbol → TokenKind → Bool
+abbrev pub is_list_row : Symbol → WordKind → Bool
 is_list_row s k = is_list_after s (starts s k)
+
+-- each row of the table keeps it
+pub list_rows : (s : Symbol) (k : WordKind) → is_list_row s k ≡ true
+list_rows = every_row is_list_row refl

@@ -2,14 +2,17 @@
 use Rattle.std.proofs.Common.{◌≡◌, ◌∙◌, Bool, true, false, not, ◌&&◌, ◌||◌, List, [], ◌∷◌, ◌++◌, Option, Some, None, refl, ap, sym, subst}
 use Rattle.std.specs.List.{list_all}
 use Rattle.std.proofs.lemmas.List.Folds.{list_any-append}
-use Rattle.usda_grammar.proofs.AllKinds.{all_kinds-at, front, back}
+use Rattle.std.proofs.lemmas.Bool.{and_from, or_right}
+use Rattle.std.proofs.Math.Bool.{or-false}
+use Rattle.std.proofs.lemmas.Option.{same_Some}
+use Rattle.usda_grammar.proofs.AllKinds.{front, back}
 use Rattle.usda_grammar.specs.Machine.{step, choose, is_done}
 use Rattle.usda_grammar.specs.Table.{starts, may_be_absent}
-use Rattle.usda_grammar.specs.declared.kinds.TokenKind.{TokenKind}
+use Rattle.usda_grammar.specs.declared.kinds.WordKind.{WordKind}
 use Rattle.usda_grammar.specs.declared.symbols.Symbol.{Symbol}
 use Rattle.usda_grammar.specs.declared.symbols.Symbol.TheVariants as symbol
-use Rattle.trees_read.proofs.AllListRows.{list_rows}
-use Rattle.trees_read.proofs.ListRows.{Part, none, begun, brackets, sublayers, part_of, or_part, part, is_none, is_of_item, has_item, is_light, has_parts, are_on_top, begins_list, is_list_after, is_list_row}
+use Rattle.value_texts.proofs.Tests.{implied, other_holds}
+use Rattle.trees_read.proofs.ListRows.{Part, none, begun, brackets, sublayers, part_of, or_part, part, is_none, is_of_item, has_item, is_light, has_parts, are_on_top, begins_list, is_list_after, list_rows}
 
 -- ---- parts
 
@@ -55,10 +58,6 @@ no_parts stack h = by (part stack) refl (has_item stack) refl h
 
 -- ---- rows
 
-and_so : (a b : Bool) → a ≡ true → b ≡ true → (a && b) ≡ true
-and_so true b p q = q
-and_so false b p q = absurd cc
-
 pub record IsListRow (s : Symbol) (after : List Symbol) : Type 0 where
   pub on_top : are_on_top after ≡ true
   pub light : (not (is_light s) || (list_all is_light after && (is_none (part after) && (not (has_item after) || is_of_item s)))) ≡ true
@@ -73,8 +72,8 @@ row-from s (Some x) after e h =
     let rest : (b && c) ≡ true = back (are_on_top x) (b && c) h in
     subst (λ (y : List Symbol). IsListRow s y) same (record { on_top = front (are_on_top x) (b && c) h; light = front b c rest; plain = back b c rest })
 
-row_at : (s : Symbol) (k : TokenKind) (after : List Symbol) → starts s k ≡ Some after → IsListRow s after
-row_at s k after e = row-from s (starts s k) after e (all_kinds-at (is_list_row s) (list_rows s) k)
+row_at : (s : Symbol) (k : WordKind) (after : List Symbol) → starts s k ≡ Some after → IsListRow s after
+row_at s k after e = row-from s (starts s k) after e (list_rows s k)
 
 -- ---- the symbol that takes a word
 
@@ -103,7 +102,7 @@ light_part symbol.CloseParen h = refl
 light_part symbol.MaybeSemicolon h = refl
 light_part _ h = absurd cc
 
-record Took (stack : List Symbol) (k : TokenKind) (s : Symbol) (after : List Symbol) : Type 0 where
+record Took (stack : List Symbol) (k : WordKind) (s : Symbol) (after : List Symbol) : Type 0 where
   pub below : List Symbol
   pub rest : List Symbol
   pub starts_it : starts s k ≡ Some rest
@@ -115,20 +114,13 @@ record Took (stack : List Symbol) (k : TokenKind) (s : Symbol) (after : List Sym
 top_below : (s : Symbol) (stack : List Symbol) → are_on_top (s ∷ stack) ≡ true → are_on_top stack ≡ true
 top_below s stack h = back (is_light s || not (has_parts stack)) (are_on_top stack) h
 
-some_is : {A : Type 0} (x y : A) → Some x ≡ Some y → x ≡ y
-some_is x y h = cc
-
-or_right : (a b : Bool) → b ≡ true → (a || b) ≡ true
-or_right true b h = refl
-or_right false b h = h
-
-took : (stack : List Symbol) (k : TokenKind) (s : Symbol) (after : List Symbol) → step stack k ≡ Some (s, after) → Took stack k s after
+took : (stack : List Symbol) (k : WordKind) (s : Symbol) (after : List Symbol) → step stack k ≡ Some (s, after) → Took stack k s after
 took [] k s after e = absurd cc
 took (u ∷ stack) k s after e = cases (starts u k) refl (may_be_absent u) refl e (λ f. took stack k s after f)
   where
     cases : (o : Option (List Symbol)) → starts u k ≡ o → (b : Bool) → may_be_absent u ≡ b → choose u stack o b (step stack k) ≡ Some (s, after) → (step stack k ≡ Some (s, after) → Took stack k s after) → Took (u ∷ stack) k s after
     cases (Some a) is b absent f more =
-        let same : (u, a ++ stack) ≡ (s, after) = some_is (u, a ++ stack) (s, after) f in
+        let same : (u, a ++ stack) ≡ (s, after) = same_Some (u, a ++ stack) (s, after) f in
         subst (λ (x : Symbol). Took (u ∷ stack) k x after) (ap (λ (x : Symbol × List Symbol). x.0) same)
         (record { below = stack; rest = a; starts_it = is; leaves = sym (ap (λ (x : Symbol × List Symbol). x.1) same); on_top = λ h. h; part_is = refl; item = λ h. h })
     cases None is true absent f more =
@@ -149,24 +141,20 @@ took (u ∷ stack) k s after e = cases (starts u k) refl (may_be_absent u) refl 
 light_over : (a below : List Symbol) → list_all is_light a ≡ true → are_on_top below ≡ true → are_on_top (a ++ below) ≡ true
 light_over [] below h rest = rest
 light_over (s ∷ a) below h rest =
-    and_so (is_light s || not (has_parts (a ++ below))) (are_on_top (a ++ below)) (ap (λ b. b || not (has_parts (a ++ below))) (front (is_light s) (list_all is_light a) h)) (light_over a below (back (is_light s) (list_all is_light a) h) rest)
-
-or_false : (b : Bool) → (b || false) ≡ b
-or_false true = refl
-or_false false = refl
+    and_from (is_light s || not (has_parts (a ++ below))) (are_on_top (a ++ below)) (ap (λ b. b || not (has_parts (a ++ below))) (front (is_light s) (list_all is_light a) h)) (light_over a below (back (is_light s) (list_all is_light a) h) rest)
 
 parts_alone : (a below : List Symbol) → NoParts below → has_parts (a ++ below) ≡ has_parts a
 parts_alone a below n =
     ap (λ p. not (is_none p) || has_item (a ++ below)) (part_joined a below ∙ ap (or_part (part a)) n.part_is ∙ or_none (part a))
-    ∙ ap (λ b. not (is_none (part a)) || b) (item_joined a below ∙ ap (λ b. has_item a || b) n.no_item ∙ or_false (has_item a))
+    ∙ ap (λ b. not (is_none (part a)) || b) (item_joined a below ∙ ap (λ b. has_item a || b) n.no_item ∙ or-false (has_item a))
 
 top_over : (a below : List Symbol) → are_on_top a ≡ true → NoParts below → are_on_top below ≡ true → are_on_top (a ++ below) ≡ true
 top_over [] below h n rest = rest
 top_over (s ∷ a) below h n rest =
-    and_so (is_light s || not (has_parts (a ++ below))) (are_on_top (a ++ below)) (ap (λ b. is_light s || not b) (parts_alone a below n) ∙ front (is_light s || not (has_parts a)) (are_on_top a) h)
+    and_from (is_light s || not (has_parts (a ++ below))) (are_on_top (a ++ below)) (ap (λ b. is_light s || not b) (parts_alone a below n) ∙ front (is_light s || not (has_parts a)) (are_on_top a) h)
     (top_over a below (back (is_light s || not (has_parts a)) (are_on_top a) h) n rest)
 
-pub record Listed (stack : List Symbol) (k : TokenKind) (s : Symbol) (after : List Symbol) : Type 0 where
+pub record Listed (stack : List Symbol) (k : WordKind) (s : Symbol) (after : List Symbol) : Type 0 where
   pub on_top : are_on_top after ≡ true
   -- a light symbol goes on with the same list
   pub light : is_light s ≡ true → (part after ≡ part stack) × (has_item after ≡ true → has_item stack ≡ true)
@@ -188,15 +176,7 @@ no_other false false begun c is other pn m = absurd (let bad : is_none begun ≡
 no_other false false brackets c is other pn m = absurd (let bad : is_none brackets ≡ is_none none = ap is_none pn in cc)
 no_other false false sublayers c is other pn m = absurd (let bad : is_none sublayers ≡ is_none none = ap is_none pn in cc)
 
-when_light : (a b : Bool) → a ≡ true → (not a || b) ≡ true → b ≡ true
-when_light true b is h = h
-when_light false b is h = absurd cc
-
-when_heavy : (a b : Bool) → a ≡ false → (a || b) ≡ true → b ≡ true
-when_heavy true b is h = absurd cc
-when_heavy false b is h = h
-
-pub listed : (stack : List Symbol) (k : TokenKind) (s : Symbol) (after : List Symbol) → are_on_top stack ≡ true → step stack k ≡ Some (s, after) → Listed stack k s after
+pub listed : (stack : List Symbol) (k : WordKind) (s : Symbol) (after : List Symbol) → are_on_top stack ≡ true → step stack k ≡ Some (s, after) → Listed stack k s after
 listed stack k s after top e = record { on_top = on_top (is_light s) refl; light = light; item = λ h. t.item (ap (λ b. b || has_item t.below) h); heavy = heavy; plain = plain }
   where
     t : Took stack k s after
@@ -206,13 +186,13 @@ listed stack k s after top e = record { on_top = on_top (is_light s) refl; light
     row = row_at s k t.rest t.starts_it
 
     light_row : is_light s ≡ true → (list_all is_light t.rest && (is_none (part t.rest) && (not (has_item t.rest) || is_of_item s))) ≡ true
-    light_row is = when_light (is_light s) (list_all is_light t.rest && (is_none (part t.rest) && (not (has_item t.rest) || is_of_item s))) is row.light
+    light_row is = implied (is_light s) (list_all is_light t.rest && (is_none (part t.rest) && (not (has_item t.rest) || is_of_item s))) is row.light
 
     light_more : is_light s ≡ true → (is_none (part t.rest) && (not (has_item t.rest) || is_of_item s)) ≡ true
     light_more is = back (list_all is_light t.rest) (is_none (part t.rest) && (not (has_item t.rest) || is_of_item s)) (light_row is)
 
     bare : is_light s ≡ false → NoParts t.below
-    bare is = no_parts t.below (when_heavy (is_light s) (not (has_parts t.below)) is (front (is_light s || not (has_parts t.below)) (are_on_top t.below) (t.on_top top)))
+    bare is = no_parts t.below (other_holds (is_light s) (not (has_parts t.below)) is (front (is_light s || not (has_parts t.below)) (are_on_top t.below) (t.on_top top)))
 
     on_top : (b : Bool) → is_light s ≡ b → are_on_top after ≡ true
     on_top true is = subst (λ (x : List Symbol). are_on_top x ≡ true) (sym t.leaves) (light_over t.rest t.below (front (list_all is_light t.rest) (is_none (part t.rest) && (not (has_item t.rest) || is_of_item s)) (light_row is)) (top_below s t.below (t.on_top top)))
@@ -231,7 +211,7 @@ listed stack k s after top e = record { on_top = on_top (is_light s) refl; light
       t.starts_it,
       t.part_is ∙ ap (or_part (part_of s)) (bare is).part_is ∙ or_none (part_of s),
       ap part t.leaves ∙ part_joined t.rest t.below ∙ ap (or_part (part t.rest)) (bare is).part_is ∙ or_none (part t.rest),
-      ap has_item t.leaves ∙ item_joined t.rest t.below ∙ ap (λ b. has_item t.rest || b) (bare is).no_item ∙ or_false (has_item t.rest),
+      ap has_item t.leaves ∙ item_joined t.rest t.below ∙ ap (λ b. has_item t.rest || b) (bare is).no_item ∙ or-false (has_item t.rest),
     )
 
     plain : is_light s ≡ false → begins_list s ≡ false → part_of s ≡ none → NoParts after

@@ -5,6 +5,7 @@ use Rattle.std.specs.List.{IsDistinct, AllByRecursion}
 use Rattle.std.proofs.lemmas.Cmp.{nat_list_eq_equiv}
 use Rattle.std.proofs.lemmas.List.Folds.{list_any-append}
 use Rattle.std.proofs.lemmas.Map.Keys.{IsDistinct-push, IsDistinct-head, IsDistinct-tail}
+use Rattle.std.proofs.lemmas.Bool.{or_right, or_left, false_from_ne_true}
 use Rattle.plain_data.specs.Exact.{text_same}
 use Rattle.sdf_paths.specs.declared.element.Element.{Element}
 use Rattle.sdf_paths.specs.declared.element.Element.TheVariants.{Prim, Selection}
@@ -12,9 +13,11 @@ use Rattle.sdf_specs.proofs.PathLemmas.{finds_itself, same_path}
 use Rattle.spec_parts.specs.declared.items.VariantSet.{VariantSet}
 use Rattle.spec_properties.specs.Properties.{same_name}
 use Rattle.usd_names.specs.Names.{is_identifier}
-use Rattle.trees_read.specs.Names.{AreAll, is_among, set_names, AreNamesBelow, AreSetsBelow, AreBelow}
+use Rattle.value_texts.specs.Each.{AreAll}
+use Rattle.value_texts.proofs.EachOf.{all_so, all_push}
+use Rattle.trees_read.specs.Names.{is_among, set_names, AreNamesBelow, AreSetsBelow, AreBelow}
 use Rattle.trees_read.specs.Trees.{is_one}
-use Rattle.trees_read.proofs.Paths.{all_map, all_push, isnt, either, or_left, or_right, or_false, push_last, one_apart}
+use Rattle.trees_read.proofs.Paths.{either, or_false, push_last, one_apart}
 
 -- what holds of each name holds of one that is among them
 pub among_each : (P : List ℕ → Type 0) (name : List ℕ) (names : List (List ℕ)) → AreAll P names → is_among name names ≡ true → P name
@@ -48,7 +51,7 @@ module _ (at new : List Element → Bool) (path : List Element) where
   pub names_by : (named : List ℕ → Element) (names : List (List ℕ)) → ((name : List ℕ) → new (path ++ named name ∷ []) ≡ at (path ++ named name ∷ [])) → AreNamesBelow at path named names → AreNamesBelow new path named names
   names_by named names same h = record {
     once = h.once;
-    each = all_map (λ n. at (path ++ named n ∷ []) ≡ true) (λ n. new (path ++ named n ∷ []) ≡ true) (λ n e. same n ∙ e) names h.each;
+    each = all_so (λ n. at (path ++ named n ∷ []) ≡ true) (λ n. new (path ++ named n ∷ []) ≡ true) (λ n e. same n ∙ e) names h.each;
     all = λ n e. h.all n (sym (same n) ∙ e);
   }
 
@@ -56,7 +59,7 @@ module _ (at new : List Element → Bool) (path : List Element) where
   sets_by sets same h = record {
     once = h.once;
     named = h.named;
-    each = all_map (λ s. AreNamesBelow at path (Selection s.set) s.variants) (λ s. AreNamesBelow new path (Selection s.set) s.variants) (λ s e. names_by (Selection s.set) s.variants (λ n. same s.set n) e) sets h.each;
+    each = all_so (λ s. AreNamesBelow at path (Selection s.set) s.variants) (λ s. AreNamesBelow new path (Selection s.set) s.variants) (λ s e. names_by (Selection s.set) s.variants (λ n. same s.set n) e) sets h.each;
     all = λ set variant e. h.all set variant (sym (same set variant) ∙ e);
   }
 
@@ -88,10 +91,10 @@ module _ (at new : List Element → Bool) (path : List Element) (e : Element) (f
   -- with the name of what stands there now
   names_more : (named : List ℕ → Element) (name : List ℕ) → e ≡ named name → ((a b : List ℕ) → named a ≡ named b → a ≡ b) → (names : List (List ℕ)) → AreNamesBelow at path named names → AreNamesBelow new path named (names ++ name ∷ [])
   names_more named name is apart names h = record {
-    once = distinct_more name names h.once (isnt (is_among name names) (λ m. unlike (among_each (λ n. at (path ++ named n ∷ []) ≡ true) name names h.each m)));
+    once = distinct_more name names h.once (false_from_ne_true (is_among name names) (λ m. unlike (among_each (λ n. at (path ++ named n ∷ []) ≡ true) name names h.each m)));
     each =
         all_push (λ n. new (path ++ named n ∷ []) ≡ true) names name
-        (all_map (λ n. at (path ++ named n ∷ []) ≡ true) (λ n. new (path ++ named n ∷ []) ≡ true) (λ n g. still (path ++ named n ∷ []) g) names h.each)
+        (all_so (λ n. at (path ++ named n ∷ []) ≡ true) (λ n. new (path ++ named n ∷ []) ≡ true) (λ n g. still (path ++ named n ∷ []) g) names h.each)
         (subst (λ x. new (path ++ x ∷ []) ≡ true) is (grown (path ++ e ∷ []) ∙ or_right (at (path ++ e ∷ [])) (is_one (path ++ e ∷ []) (path ++ e ∷ [])) (finds_itself (path ++ e ∷ []))));
     all = λ n g. either (at (path ++ named n ∷ [])) (is_one (path ++ named n ∷ []) (path ++ e ∷ [])) (sym (grown (path ++ named n ∷ [])) ∙ g)
         (λ old. among_more n name names (h.all n old))
@@ -173,7 +176,7 @@ module _ (at : List Element → Bool) (path : List Element) where
       once = subst (IsDistinct same_name) (sym (pushed sets)) (distinct_more name (set_names sets) h.sets.once new);
       named = all_push (λ s. is_identifier s.set ≡ true) sets (record { set = name; variants = [] }) h.sets.named good;
       each = all_push (λ s. AreNamesBelow at path (Selection s.set) s.variants) sets (record { set = name; variants = [] }) h.sets.each
-          (no_names at path (Selection name) (λ v. isnt (at (path ++ Selection name v ∷ [])) (λ g. absurd (let a : is_among name (set_names sets) ≡ true = h.sets.all name v g in let bad : true ≡ false = sym a ∙ new in cc))));
+          (no_names at path (Selection name) (λ v. false_from_ne_true (at (path ++ Selection name v ∷ [])) (λ g. absurd (let a : is_among name (set_names sets) ≡ true = h.sets.all name v g in let bad : true ≡ false = sym a ∙ new in cc))));
       all = λ set variant g. subst (λ ns. is_among set ns ≡ true) (sym (pushed sets)) (among_more set name (set_names sets) (h.sets.all set variant g));
     };
   }

@@ -5,6 +5,8 @@ use Rattle.std.specs.Ordering.{is_eq, match_ordering}
 use Rattle.std.specs.declared.cmp.Ordering.{Ordering}
 use Rattle.std.specs.declared.cmp.Ordering.TheVariants.{Less, Equal, Greater}
 use Rattle.std.proofs.Math.Seq.{take-append_seam}
+use Rattle.std.proofs.lemmas.Bool.{false_from_ne_true}
+use Rattle.std.proofs.lemmas.Option.{same_Some}
 use Rattle.plain_data.specs.Ends.{last, front, last-push, front-push}
 use Rattle.sdf_paths.specs.Order.{path_cmp}
 use Rattle.sdf_paths.specs.PathOrder.{order_is}
@@ -13,7 +15,8 @@ use Rattle.sdf_paths.specs.contracts.path.PathOrd.TheImpl.Laws.{total-law}
 use Rattle.sdf_paths.specs.declared.element.Element.{Element}
 use Rattle.sdf_specs.proofs.PathLemmas.{same_path}
 use Rattle.spec_tables.specs.Tables.{at_key, with_key}
-use Rattle.trees_read.specs.Names.{AreAll}
+use Rattle.value_texts.specs.Each.{AreAll}
+use Rattle.value_texts.proofs.EachOf.{all_so}
 use Rattle.trees_read.specs.Trees.{is_one}
 
 pub paths_total : IsTotalOrder path_cmp
@@ -21,39 +24,15 @@ paths_total = subst (λ (R : List Element → List Element → Ordering). IsTota
 
 -- ---- items
 
-pub all_map : {T : Type 0} (P Q : T → Type 0) → ((x : T) → P x → Q x) → (xs : List T) → AreAll P xs → AreAll Q xs
-all_map P Q make [] h = tt
-all_map P Q make (x ∷ xs) h = (make x h.0, all_map P Q make xs h.1)
-
 pub all_both : {T : Type 0} (P Q R : T → Type 0) → ((x : T) → P x → Q x → R x) → (xs : List T) → AreAll P xs → AreAll Q xs → AreAll R xs
 all_both P Q R make [] h g = tt
 all_both P Q R make (x ∷ xs) h g = (make x h.0 g.0, all_both P Q R make xs h.1 g.1)
 
-pub all_push : {T : Type 0} (P : T → Type 0) (xs : List T) (x : T) → AreAll P xs → P x → AreAll P (xs ++ x ∷ [])
-all_push P [] x h one = (one, tt)
-all_push P (y ∷ xs) x h one = (h.0, all_push P xs x h.1 one)
-
 -- ---- tests
-
-pub isnt : (b : Bool) → (b ≡ true → ⊥) → b ≡ false
-isnt true h = absurd (h refl)
-isnt false h = refl
 
 pub either : (a b : Bool) {G : Type 0} → (a || b) ≡ true → (a ≡ true → G) → (b ≡ true → G) → G
 either true b h one other = one refl
 either false b h one other = other h
-
-pub or_left : (a b : Bool) → a ≡ true → (a || b) ≡ true
-or_left true b h = refl
-or_left false b h = absurd cc
-
-pub or_right : (a b : Bool) → b ≡ true → (a || b) ≡ true
-or_right true b h = refl
-or_right false b h = h
-
-pub neither_left : (a b : Bool) → (a || b) ≡ false → a ≡ false
-neither_left true b h = absurd cc
-neither_left false b h = refl
 
 pub or_false : (a b : Bool) → b ≡ false → (a || b) ≡ a
 or_false true b h = refl
@@ -61,17 +40,14 @@ or_false false b h = h
 
 -- ---- paths
 
-some_same : {A : Type 0} (a b : A) → Some a ≡ Some b → a ≡ b
-some_same a b h = cc
-
 pub push_front : (p q : List Element) (x y : Element) → p ++ x ∷ [] ≡ q ++ y ∷ [] → p ≡ q
 push_front p q x y h = sym (front-push p x) ∙ ap front h ∙ front-push q y
 
 pub push_last : (p q : List Element) (x y : Element) → p ++ x ∷ [] ≡ q ++ y ∷ [] → x ≡ y
-push_last p q x y h = some_same x y (sym (last-push p x) ∙ ap last h ∙ last-push q y)
+push_last p q x y h = same_Some x y (sym (last-push p x) ∙ ap last h ∙ last-push q y)
 
 pub one_apart : (p q : List Element) → (p ≡ q → ⊥) → is_one p q ≡ false
-one_apart p q apart = isnt (is_one p q) (λ h. apart (same_path p q h))
+one_apart p q apart = false_from_ne_true (is_one p q) (λ h. apart (same_path p q h))
 
 pub longer : (p : List Element) (x : Element) → length (p ++ x ∷ []) ≡ length p + 1
 longer p x = length-append p (x ∷ [])
@@ -133,7 +109,7 @@ module _ {K V : Type 0} (cmp : K → K → Ordering) (tie : (x y : K) → cmp x 
   pub all_found : ((x : K) → is_eq (cmp x x) ≡ true) → (es : List (K × V)) → AreAll (λ e. is_some (at_key cmp e.0 es) ≡ true) es
   all_found itself [] = tt
   all_found itself (e ∷ es) =
-      (ap (λ b. is_some (cond b (Some e.1) (at_key cmp e.0 es))) (itself e.0), all_map (λ f. is_some (at_key cmp f.0 es) ≡ true) (λ f. is_some (at_key cmp f.0 (e ∷ es)) ≡ true) (λ f h. past (is_eq (cmp f.0 e.0)) (at_key cmp f.0 es) h) es (all_found itself es))
+      (ap (λ b. is_some (cond b (Some e.1) (at_key cmp e.0 es))) (itself e.0), all_so (λ f. is_some (at_key cmp f.0 es) ≡ true) (λ f. is_some (at_key cmp f.0 (e ∷ es)) ≡ true) (λ f h. past (is_eq (cmp f.0 e.0)) (at_key cmp f.0 es) h) es (all_found itself es))
     where
       past : (b : Bool) (o : Option V) → is_some o ≡ true → is_some (cond b (Some e.1) o) ≡ true
       past true o h = refl

@@ -4,10 +4,12 @@ use Rattle.std.specs.List.{list_all}
 use Rattle.std.proofs.lemmas.Bool.{ltb-true, ltb-false}
 use Rattle.std.specs.Prelude.{if◌then◌else◌}
 use Rattle.std.proofs.lemmas.List.Folds.{list_all-append, list_any-append}
+use Rattle.std.proofs.lemmas.Option.{same_Some}
 use Rattle.sdf_paths.proofs.Shapes.{both_hold, depth_joined, length_printed, path_of, ordered_joined}
 use Rattle.sdf_paths.specs.Paths.{IsPath, is_ordered, is_well_named, is_empty, is_property, is_property_part, depth, printed}
 use Rattle.sdf_paths.specs.declared.element.Element.{Element}
 use Rattle.sdf_paths.specs.declared.element.Element.TheVariants.{Prim, Selection}
+use Rattle.sdf_paths.proofs.Sound.{some_push}
 use Rattle.sdf_values.specs.declared.refusal.RefusalKind.{RefusalKind}
 use Rattle.sdf_values.specs.declared.refusal.RefusalKind.TheVariants.{Syntax, TooLong}
 use Rattle.usd_names.specs.Names.{is_identifier, is_variant}
@@ -24,10 +26,6 @@ less a b h = ltb-true a b h
 
 -- ---- a path with an element more
 
-not_empty : (path : List Element) (e : Element) → is_empty (path ++ e ∷ []) ≡ false
-not_empty [] e = refl
-not_empty (x ∷ path) e = refl
-
 not_property : (path : List Element) (e : Element) → is_property path ≡ false → is_property_part e ≡ false → is_property (path ++ e ∷ []) ≡ false
 not_property path e h one = list_any-append is_property_part path (e ∷ []) ∙ none (is_property path) (is_property_part e) h one
   where
@@ -42,7 +40,7 @@ place_more : (path : List Element) (e : Element) → IsPath path → is_property
 place_more path e h prim part named ordered few short = record {
   within = path_of (path ++ e ∷ []) ordered (list_all-append is_well_named path (e ∷ []) ∙ both_hold (list_all is_well_named path) (is_well_named e && true) h.well_formed.named (both_hold (is_well_named e) true named refl))
       (omega (arith, depth_joined path (e ∷ []))) (let l : length (printed (path ++ e ∷ [])) ≤ 4096 = not_less 4096 (length (printed (path ++ e ∷ []))) short in omega (arith, length_printed (path ++ e ∷ [])));
-  below_root = not_empty path e;
+  below_root = some_push path e;
   unlike_property = not_property path e prim part;
 }
 
@@ -56,9 +54,6 @@ ordered_prim : (owner : List Element) (name : List ℕ) → is_ordered false own
 ordered_prim [] name h prim = refl
 ordered_prim (e ∷ owner) name h prim = ordered_joined (e ∷ owner) (Prim name ∷ []) false h prim refl refl
 
-some_is : {A : Type 0} (x y : A) → Some x ≡ Some y → x ≡ y
-some_is x y h = cc
-
 ok_is : {A E : Type 0} (x y : A) → ◌≡◌ {A = Result A E} (Ok x) (Ok y) → x ≡ y
 ok_is x y h = cc
 
@@ -68,7 +63,7 @@ prim_placed owner name path h made = by (is_property owner) refl (is_identifier 
     by : (a : Bool) → is_property owner ≡ a → (b : Bool) → is_identifier name ≡ b → (c : Bool) → is_long (owner ++ Prim name ∷ []) ≡ c → (d : Bool) → nat_lt (depth owner) 64 ≡ d
         → (if a || not b then Err Syntax else if c then Err TooLong else if d then Ok (Some (owner ++ Prim name ∷ [])) else Ok None) ≡ Ok (Some path) → IsPrimPlace owner name path
     by false prim true named false short true few e =
-        let is : owner ++ Prim name ∷ [] ≡ path = some_is (owner ++ Prim name ∷ []) path (ok_is {E = RefusalKind} (Some (owner ++ Prim name ∷ [])) (Some path) e) in
+        let is : owner ++ Prim name ∷ [] ≡ path = same_Some (owner ++ Prim name ∷ []) path (ok_is {E = RefusalKind} (Some (owner ++ Prim name ∷ [])) (Some path) e) in
         record {
           is = sym is;
           place = place_more owner (Prim name) h prim refl named (ordered_prim owner name h.well_formed.ordered prim) (let l : depth owner < 64 = less (depth owner) 64 few in omega arith) short;

@@ -33,6 +33,7 @@ use Rattle.usda_lists.specs.Acts.{and_then}
 use Rattle.usda_statements.specs.PropertyDrafts.{is_in_hand}
 use Rattle.usda_statements.specs.declared.property.PropertyDraft.{PropertyDraft}
 use Rattle.usda_words.specs.Words.{Word}
+use Rattle.value_texts.proofs.EachOf.{all_so}
 use Rattle.trees_read.specs.Drafts.{frame_of, frames, tree_of}
 use Rattle.trees_read.specs.Names.{is_among, set_names, AreBelow, IsVariantOf}
 use Rattle.trees_read.specs.Trees.{has_spec, Frame, is_open_at, stands, AreChained, IsLastSet, IsFrame, IsSound}
@@ -40,7 +41,7 @@ use Rattle.trees_read.proofs.Acts.{Keeps, over_keeps}
 use Rattle.trees_read.proofs.Fields.{IfMade, and_made}
 use Rattle.trees_read.proofs.Growing.{none_open, shorter, renamed, new_frame, changed, properties_changed, grown, begun, ended}
 use Rattle.trees_read.proofs.Names.{child_more, variant_more, set_more}
-use Rattle.trees_read.proofs.Paths.{all_map, longer, some_with}
+use Rattle.trees_read.proofs.Paths.{longer, some_with}
 use Rattle.trees_read.proofs.Places.{IsPrimPlace, prim_placed, IsVariantPlace, variant_placed}
 use Rattle.trees_read.proofs.Properties.{with_once}
 
@@ -73,7 +74,7 @@ free_below : (specs : SpecEntries) (o : Frame) (rest : List Frame) (e : Element)
 free_below specs o rest e h none =
     let more : length (o.path ++ e ∷ []) ≡ length o.path + 1 = longer o.path e in
     ap (λ b. b || is_open_at (o ∷ rest) (o.path ++ e ∷ [])) none
-    ∙ none_open (o ∷ rest) (o.path ++ e ∷ []) (omega arith, all_map (λ r. length r.path < length o.path) (λ r. length r.path < length (o.path ++ e ∷ [])) (λ r l. omega arith) rest (shorter o rest h))
+    ∙ none_open (o ∷ rest) (o.path ++ e ∷ []) (omega arith, all_so (λ r. length r.path < length o.path) (λ r. length r.path < length (o.path ++ e ∷ [])) (λ r l. omega arith) rest (shorter o rest h))
 
 -- ---- what an act makes
 

@@ -2,16 +2,17 @@
 use Rattle.std.proofs.Common.{◌≡◌, ◌∙◌, ◌+◌, ◌<◌, ◌≤◌, Bool, true, false, not, ◌&&◌, ◌||◌, List, [], ◌∷◌, ◌++◌, Option, Some, None, refl, ap, sym, subst, arith}
 use Rattle.std.proofs.Math.Dec.{eqb, leb}
 use Rattle.std.proofs.lemmas.Bool.{eqb-true, leb-true}
-use Rattle.usda_grammar.proofs.AllKinds.{all_kinds-at, front, back}
+use Rattle.std.proofs.Math.Bool.{or-false}
+use Rattle.std.proofs.lemmas.Option.{same_Some}
+use Rattle.usda_grammar.proofs.AllKinds.{front, back}
 use Rattle.usda_grammar.specs.Machine.{step, choose, is_done}
 use Rattle.usda_grammar.specs.Table.{starts, may_be_absent}
-use Rattle.usda_grammar.specs.declared.kinds.TokenKind.{TokenKind}
-use Rattle.usda_grammar.specs.declared.kinds.TokenKind.TheVariants as token
+use Rattle.usda_grammar.specs.declared.kinds.WordKind.{WordKind}
+use Rattle.usda_grammar.specs.declared.kinds.WordKind.TheVariants as token
 use Rattle.usda_grammar.specs.declared.symbols.Symbol.{Symbol}
 use Rattle.usda_grammar.specs.declared.symbols.Symbol.TheVariants as symbol
 use Rattle.trees_read.specs.Stacks.{is_end, end_of, ends, has_end, name_of, names, variant_of, is_in_body, are_held, AreBalanced, awaits_body, is_name, have_bodies, is_opening}
-use Rattle.trees_read.proofs.AllRows.{rows}
-use Rattle.trees_read.proofs.Rows.{are_balanced, is_kept_after, is_kept_row}
+use Rattle.trees_read.proofs.Rows.{are_balanced, is_kept_after, rows}
 
 -- ---- symbols that may be absent
 
@@ -54,12 +55,12 @@ row-from s (Some x) after e h =
       bodies = back (are_balanced x) (have_bodies x) more;
     })
 
-pub row_at : (s : Symbol) (k : TokenKind) (after : List Symbol) → starts s k ≡ Some after → IsRow s after
-row_at s k after e = row-from s (starts s k) after e (all_kinds-at (is_kept_row s) (rows s) k)
+pub row_at : (s : Symbol) (k : WordKind) (after : List Symbol) → starts s k ≡ Some after → IsRow s after
+row_at s k after e = row-from s (starts s k) after e (rows s k)
 
 -- ---- the symbol that takes a word, and what it leaves
 
-pub record Took (stack : List Symbol) (k : TokenKind) (s : Symbol) (after : List Symbol) : Type 0 where
+pub record Took (stack : List Symbol) (k : WordKind) (s : Symbol) (after : List Symbol) : Type 0 where
   pub below : List Symbol
   pub rest : List Symbol
   pub starts_it : starts s k ≡ Some rest
@@ -77,16 +78,13 @@ bodies_below s stack h = back (not (is_name s) || awaits_body stack) (have_bodie
 held_below : (s : Symbol) (stack : List Symbol) → are_held false (s ∷ stack) ≡ true → are_held false stack ≡ true
 held_below s stack h = back (not (is_in_body s) || (has_end stack || false)) (are_held false stack) h
 
-some_is : {A : Type 0} (x y : A) → Some x ≡ Some y → x ≡ y
-some_is x y h = cc
-
-pub took : (stack : List Symbol) (k : TokenKind) (s : Symbol) (after : List Symbol) → step stack k ≡ Some (s, after) → Took stack k s after
+pub took : (stack : List Symbol) (k : WordKind) (s : Symbol) (after : List Symbol) → step stack k ≡ Some (s, after) → Took stack k s after
 took [] k s after e = absurd cc
 took (u ∷ stack) k s after e = cases (starts u k) refl (may_be_absent u) refl e (λ f. took stack k s after f)
   where
     cases : (o : Option (List Symbol)) → starts u k ≡ o → (b : Bool) → may_be_absent u ≡ b → choose u stack o b (step stack k) ≡ Some (s, after) → (step stack k ≡ Some (s, after) → Took stack k s after) → Took (u ∷ stack) k s after
     cases (Some a) is b absent f more =
-        let same : (u, a ++ stack) ≡ (s, after) = some_is (u, a ++ stack) (s, after) f in
+        let same : (u, a ++ stack) ≡ (s, after) = same_Some (u, a ++ stack) (s, after) f in
         subst (λ (x : Symbol). Took (u ∷ stack) k x after) (ap (λ (x : Symbol × List Symbol). x.0) same)
         (record { below = stack; rest = a; starts_it = is; leaves = sym (ap (λ (x : Symbol × List Symbol). x.1) same); ends_of = refl; names_of = refl; end_in = refl; held = λ h. h; balanced = λ h. h; bodies = λ h. h })
     cases None is true absent f more =
@@ -123,10 +121,6 @@ end_joined : (a b : List Symbol) → has_end (a ++ b) ≡ (has_end a || has_end 
 end_joined [] b = refl
 end_joined (s ∷ a) b = ap (λ x. is_end s || x) (end_joined a b) ∙ or_more (is_end s) (has_end a) (has_end b)
 
-or_end : (b : Bool) → (b || false) ≡ b
-or_end true = refl
-or_end false = refl
-
 -- what is held with something below is held where that stands below
 held_over : (base : Bool) (a below : List Symbol) → (base ≡ true → has_end below ≡ true) → are_held base a ≡ true → are_held false below ≡ true → are_held false (a ++ below) ≡ true
 held_over base [] below some h rest = rest
@@ -140,11 +134,11 @@ held_over base (s ∷ a) below some h rest =
 
     one : (out inner base : Bool) → (base ≡ true → has_end below ≡ true) → (all : Bool) → all ≡ (inner || has_end below) → (out || (inner || base)) ≡ true → (out || (all || false)) ≡ true
     one true inner base some all joined h = refl
-    one false true base some all joined h = or_end all ∙ joined
-    one false false true some all joined h = or_end all ∙ joined ∙ some refl
+    one false true base some all joined h = or-false all ∙ joined
+    one false false true some all joined h = or-false all ∙ joined ∙ some refl
     one false false false some all joined h = absurd cc
 
-balanced_whole : (stack : List Symbol) → AreBalanced stack → names stack ≤ ends stack
+pub balanced_whole : (stack : List Symbol) → AreBalanced stack → names stack ≤ ends stack
 balanced_whole [] h = omega arith
 balanced_whole (s ∷ stack) h = h.0
 
@@ -192,8 +186,8 @@ ends_one symbol.BodyEnd h = (refl, refl)
 ends_one _ h = absurd cc
 
 -- behind the name of a prim nothing comes before what stands below it
-name_alone : (s : Symbol) (k : TokenKind) (rest : List Symbol) → is_name s ≡ true → starts s k ≡ Some rest → rest ≡ []
-name_alone symbol.PrimName token.Quoted rest is h = sym (some_is [] rest h)
+name_alone : (s : Symbol) (k : WordKind) (rest : List Symbol) → is_name s ≡ true → starts s k ≡ Some rest → rest ≡ []
+name_alone symbol.PrimName token.Quoted rest is h = sym (same_Some [] rest h)
 name_alone symbol.PrimName _ rest is h = absurd cc
 name_alone _ k rest is h = absurd cc
 
@@ -211,7 +205,7 @@ end_over a below h = end_joined a below ∙ last (has_end a) (has_end below) h
     last true y h = refl
     last false y h = h
 
-pub stepped : (stack : List Symbol) (k : TokenKind) (s : Symbol) (after : List Symbol) → step stack k ≡ Some (s, after) → Stepped stack s after
+pub stepped : (stack : List Symbol) (k : WordKind) (s : Symbol) (after : List Symbol) → step stack k ≡ Some (s, after) → Stepped stack s after
 stepped stack k s after e =
     let t : Took stack k s after = took stack k s after e in
     let row : IsRow s t.rest = row_at s k t.rest t.starts_it in
@@ -227,12 +221,12 @@ stepped stack k s after e =
     }
 
 -- where the metadata or the body of a prim comes next, its mark is what is taken
-pub opened_by : (stack : List Symbol) (k : TokenKind) (s : Symbol) (after : List Symbol) → awaits_body stack ≡ true → step stack k ≡ Some (s, after) → is_opening s ≡ true
+pub opened_by : (stack : List Symbol) (k : WordKind) (s : Symbol) (after : List Symbol) → awaits_body stack ≡ true → step stack k ≡ Some (s, after) → is_opening s ≡ true
 opened_by (symbol.MaybePrimMetadata ∷ symbol.OpenBrace ∷ stack) k s after h e = cases (starts symbol.MaybePrimMetadata k) (starts symbol.OpenBrace k) e
   where
     cases : (a b : Option (List Symbol)) → choose symbol.MaybePrimMetadata (symbol.OpenBrace ∷ stack) a true (choose symbol.OpenBrace stack b false (step stack k)) ≡ Some (s, after) → is_opening s ≡ true
-    cases (Some a) b f = ap (λ (x : Symbol × List Symbol). is_opening x.0) (sym (some_is (symbol.MaybePrimMetadata, a ++ symbol.OpenBrace ∷ stack) (s, after) f))
-    cases None (Some b) f = ap (λ (x : Symbol × List Symbol). is_opening x.0) (sym (some_is (symbol.OpenBrace, b ++ stack) (s, after) f))
+    cases (Some a) b f = ap (λ (x : Symbol × List Symbol). is_opening x.0) (sym (same_Some (symbol.MaybePrimMetadata, a ++ symbol.OpenBrace ∷ stack) (s, after) f))
+    cases None (Some b) f = ap (λ (x : Symbol × List Symbol). is_opening x.0) (sym (same_Some (symbol.OpenBrace, b ++ stack) (s, after) f))
     cases None None f = absurd cc
 opened_by _ k s after h e = absurd cc
 

@@ -2,6 +2,7 @@
 use Rattle.std.proofs.Common.{◌≡◌, ◌∙◌, ℕ, ◌+◌, Bool, true, false, not, ◌||◌, List, [], ◌∷◌, ◌++◌, length, Some, Ok, ap, sym, refl, subst, arith}
 use Rattle.std.specs.List.{IsDistinct}
 use Rattle.std.specs.List.Sorted.{IsStrictlySortedBy}
+use Rattle.std.proofs.lemmas.Bool.{false_from_ne_true}
 use Rattle.sdf_paths.specs.declared.element.Element.{Element}
 use Rattle.text_syntax.proofs.Texts.{followed as values}
 use Rattle.text_syntax.specs.Open.{IsAwaited, kind_in}
@@ -28,7 +29,7 @@ use Rattle.trees_read.specs.Trees.{IsSound, is_one}
 use Rattle.trees_read.proofs.Growing.{proper}
 use Rattle.trees_read.proofs.Kept.{kept}
 use Rattle.trees_read.proofs.Names.{none_below}
-use Rattle.trees_read.proofs.Paths.{isnt, one_apart, longer}
+use Rattle.trees_read.proofs.Paths.{one_apart, longer}
 use Rattle.trees_read.proofs.Runs.{IsAtEnd, holds_behind}
 use Rattle.trees_read.proofs.Stacks.{done_ends, done_end}
 use Rattle.trees_read.proofs.Values.{not_done, awaited_must}
@@ -66,19 +67,19 @@ body_not_done : (stack : List Symbol) → awaits_body stack ≡ true → is_done
 body_not_done (symbol.MaybePrimMetadata ∷ symbol.OpenBrace ∷ stack) h done = absurd cc
 body_not_done _ h done = absurd cc
 
-none_left : {A : Type 0} (xs : List A) → length xs ≡ 0 → xs ≡ []
+pub none_left : {A : Type 0} (xs : List A) → length xs ≡ 0 → xs ≡ []
 none_left [] h = refl
 none_left (x ∷ xs) h = absurd (omega arith)
 
 over : (stack : List Symbol) (d : Draft) → Follows stack d → is_done stack ≡ true → IsOver d
 over stack d follows done = record {
   outer = none_left d.outer (let counts : length d.outer + names stack ≡ ends stack = follows.nested.counted not_deep in omega (arith, done_ends stack done));
-  property = isnt (is_in_hand d.property) (λ h. let bad : true ≡ false = sym (follows.nested.in_hand h) ∙ done_end stack done in absurd cc);
-  value = isnt (is_open d.value) not_open;
+  property = false_from_ne_true (is_in_hand d.property) (λ h. let bad : true ≡ false = sym (follows.nested.in_hand h) ∙ done_end stack done in absurd cc);
+  value = false_from_ne_true (is_open d.value) not_open;
 }
   where
     not_deep : d.opening.is_too_deep ≡ false
-    not_deep = isnt d.opening.is_too_deep (λ h. body_not_done stack (follows.nested.too_deep h) done)
+    not_deep = false_from_ne_true d.opening.is_too_deep (λ h. body_not_done stack (follows.nested.too_deep h) done)
 
     incomplete : (b : Bool) → not b ≡ true → b ≡ false
     incomplete true e = absurd cc

@@ -1,9 +1,11 @@
 -- While a value is open, the word that is taken is one of the value, and the text does not end.
 use Rattle.std.proofs.Common.{◌≡◌, ◌∙◌, Bool, true, false, not, ◌&&◌, ◌||◌, List, [], ◌∷◌, ◌++◌, Option, Some, None, refl, ap, sym}
+use Rattle.std.proofs.lemmas.Bool.{not-true}
+use Rattle.std.proofs.lemmas.Option.{same_Some}
 use Rattle.usda_grammar.proofs.AllKinds.{front, back}
 use Rattle.usda_grammar.specs.Machine.{step, choose, is_done}
 use Rattle.usda_grammar.specs.Table.{starts, may_be_absent}
-use Rattle.usda_grammar.specs.declared.kinds.TokenKind.{TokenKind}
+use Rattle.usda_grammar.specs.declared.kinds.WordKind.{WordKind}
 use Rattle.usda_grammar.specs.declared.symbols.Symbol.{Symbol}
 use Rattle.usda_values.specs.Drafts.{is_complete_at}
 use Rattle.usda_values.specs.declared.draft.ValueDraft.{ValueDraft}
@@ -27,14 +29,7 @@ has_to_come (s ∷ stack) = not (may_be_absent s) || has_to_come stack
 
 -- ---- stacks
 
-not_true : (b : Bool) → not b ≡ true → b ≡ false
-not_true true h = absurd cc
-not_true false h = refl
-
-some_is : {A : Type 0} (x y : A) → Some x ≡ Some y → x ≡ y
-some_is x y h = cc
-
-pub apart_taken : (stack below : List Symbol) (k : TokenKind) (s : Symbol) (after : List Symbol) → are_apart stack ≡ true → has_to_come stack ≡ true → step (stack ++ below) k ≡ Some (s, after) → is_of_statement s ≡ false
+pub apart_taken : (stack below : List Symbol) (k : WordKind) (s : Symbol) (after : List Symbol) → are_apart stack ≡ true → has_to_come stack ≡ true → step (stack ++ below) k ≡ Some (s, after) → is_of_statement s ≡ false
 apart_taken [] below k s after apart must e = absurd cc
 apart_taken (u ∷ stack) below k s after apart must e =
     cases (starts u k) (may_be_absent u) must e (λ m f. apart_taken stack below k s after (back (not (is_of_statement u)) (are_apart stack) apart) m f)
@@ -42,8 +37,8 @@ apart_taken (u ∷ stack) below k s after apart must e =
     cases : (o : Option (List Symbol)) (b : Bool) → (not b || has_to_come stack) ≡ true → choose u (stack ++ below) o b (step (stack ++ below) k) ≡ Some (s, after)
         → (has_to_come stack ≡ true → step (stack ++ below) k ≡ Some (s, after) → is_of_statement s ≡ false) → is_of_statement s ≡ false
     cases (Some a) b must f more =
-        let same : (u, a ++ (stack ++ below)) ≡ (s, after) = some_is (u, a ++ (stack ++ below)) (s, after) f in
-        ap (λ (x : Symbol × List Symbol). is_of_statement x.0) (sym same) ∙ not_true (is_of_statement u) (front (not (is_of_statement u)) (are_apart stack) apart)
+        let same : (u, a ++ (stack ++ below)) ≡ (s, after) = same_Some (u, a ++ (stack ++ below)) (s, after) f in
+        ap (λ (x : Symbol × List Symbol). is_of_statement x.0) (sym same) ∙ not-true (is_of_statement u) (front (not (is_of_statement u)) (are_apart stack) apart)
     cases None true must f more = more must f
     cases None false must f more = absurd cc
 

@@ -14,7 +14,7 @@ use Rattle.usda_lists.specs.References.{same_text, same_path, same_item}
 use Rattle.usda_productions.specs.Rules.{layer_forms}
 use Rattle.usda_productions.specs.Texts.{MakeBy}
 use Rattle.usda_words.specs.Words.{words_of}
-use Rattle.trees_read.specs.Names.{AreAll}
+use Rattle.value_texts.specs.Each.{AreAll}
 
 -- in the explicit list, where there is one, and in the list of each edit word, each item stands once
 pub record AreItemsOnce {T : Type 0} (same : T → T → Bool) (op : ListOp T) : Type 0 where
@@ -42,5 +42,5 @@ pub record AreListsMade (spec : Spec) : Type 0 where
   pub properties : AreAll (λ p. AreItemsOnce same_path (paths_of p)) spec.body.properties
 
 -- Of each text: no list of the layer that it says is still in the making, so each item stands once in it.
-abbrev pub ListsAreRead : Type 0
-ListsAreRead = (bytes : List ℕ) (d : Draft) → MakeBy kind_in act layer_forms blank (words_of bytes) d → AreAll (λ e. AreListsMade e.1) (layer_of d).specs
+abbrev pub ListsAreClosed : Type 0
+ListsAreClosed = (bytes : List ℕ) (d : Draft) → MakeBy kind_in act layer_forms blank (words_of bytes) d → AreAll (λ e. AreListsMade e.1) (layer_of d).specs

@@ -9,11 +9,7 @@ use Rattle.spec_parts.specs.declared.items.Specifier.TheVariants.{Over}
 use Rattle.spec_parts.specs.declared.items.VariantSet.{VariantSet}
 use Rattle.spec_properties.specs.Properties.{same_name}
 use Rattle.usd_names.specs.Names.{is_identifier}
-
--- this holds of each item
-abbrev pub AreAll : {T : Type 0} → (T → Type 0) → List T → Type 0
-AreAll P [] = Unit {0}
-AreAll P (x ∷ xs) = P x × AreAll P xs
+use Rattle.value_texts.specs.Each.{AreAll}
 
 -- the path of a prim or of a variant, within the limits of paths
 pub record IsPlace (path : List Element) : Type 0 where

@@ -13,7 +13,8 @@ use Rattle.spec_parts.specs.declared.spec.Spec.{Spec}
 use Rattle.spec_properties.specs.Properties.{AreProperties}
 use Rattle.spec_properties.specs.declared.property.Property.{Property}
 use Rattle.spec_tables.specs.Tables.{at_key}
-use Rattle.trees_read.specs.Names.{AreAll, IsPlace, is_among, set_names, AreNamesBelow, AreSetsBelow, AreBelow, IsVariantOf}
+use Rattle.value_texts.specs.Each.{AreAll}
+use Rattle.trees_read.specs.Names.{IsPlace, is_among, set_names, AreNamesBelow, AreSetsBelow, AreBelow, IsVariantOf}
 
 -- ---- layers
 

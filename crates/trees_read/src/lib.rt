@@ -9,4 +9,4 @@
 
 mod laws;
 
-pub use laws::{lists_are_read, trees_are_read};
+pub use laws::{lists_are_closed, trees_are_read};

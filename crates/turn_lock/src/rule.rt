@@ -25,14 +25,16 @@ pub trait Journalled {
     ghost named: { Self → Self.Name };
 }
 
-// What a desk is told when it is made: its first value, which has the desk's name, and how many seats it has.
+/// What a desk is told when it is made: its first value, which has the desk's name, and how many seats it has.
 #[derive(Drop)]
 pub struct Terms<T> {
+    /// The first value.
     pub first: Snapshot<T>,
+    /// How many seats the desk has in all.
     pub seats: u32,
 }
 
-// The rule.
+/// The rule.
 pub struct Turns<T> {
     marker: PhantomData<T>,
 }
@@ -43,7 +45,7 @@ impl<T: Journalled> TableRule<Option<T>, View<T::Entry, T::Name>, Terms<T>> for 
     ghost first = { λ key. first_view (T.entries key.first.value) (T.named key.first.value) key.seats };
 }
 
-// A ticket is drawn.
+/// A ticket is drawn.
 pub struct Draw<T> {
     marker: PhantomData<T>,
 }
@@ -52,7 +54,7 @@ impl<T: Journalled> Play<Option<T>, View<T::Entry, T::Name>> for Draw<T> {
     ghost then = { draws T.bears T.entries T.named };
 }
 
-// The ticket that is served is read, and the value's slot is taken where it is the seat's own.
+/// The ticket that is served is read, and the value's slot is taken where it is the seat's own.
 pub struct Look<T> {
     marker: PhantomData<T>,
 }
@@ -61,7 +63,7 @@ impl<T: Journalled> Play<Option<T>, View<T::Entry, T::Name>> for Look<T> {
     ghost then = { looks T.bears T.entries T.named };
 }
 
-// The value is at home again, and the next ticket is served.
+/// The value is at home again, and the next ticket is served.
 pub struct Advance<T> {
     marker: PhantomData<T>,
 }
@@ -70,7 +72,7 @@ impl<T: Journalled> Play<Option<T>, View<T::Entry, T::Name>> for Advance<T> {
     ghost then = { advances T.bears T.entries T.named };
 }
 
-// What came with a joined seat becomes the seat's own.
+/// What came with a joined seat becomes the seat's own.
 pub struct Settle<T> {
     marker: PhantomData<T>,
 }
@@ -79,7 +81,7 @@ impl<T: Journalled> Play<Option<T>, View<T::Entry, T::Name>> for Settle<T> {
     ghost then = { settles T.bears T.entries T.named };
 }
 
-// The seat learns that nothing it has seen bears a spare number.
+/// The seat learns that nothing it has seen bears a spare number.
 pub struct Unborne<T> {
     marker: PhantomData<T>,
 }
@@ -88,7 +90,7 @@ impl<T: Journalled> Play<Option<T>, View<T::Entry, T::Name>> for Unborne<T> {
     ghost then = { unborne T.bears T.entries T.named };
 }
 
-// A seat is cut off with the least spare number.
+/// A seat is cut off with the least spare number.
 pub struct Cut;
 
 impl<E, N> Split<View<E, N>> for Cut {
@@ -97,7 +99,7 @@ impl<E, N> Split<View<E, N>> for Cut {
     ghost right = { split_off };
 }
 
-// What another seat knows is noted beside what this one does.
+/// What another seat knows is noted beside what this one does.
 pub struct Both;
 
 impl<E, N> Join<View<E, N>> for Both {

@@ -7,6 +7,7 @@ use turn_lock::Journalled;
 /// A list of entries. It stands for that list, and has no name.
 #[derive(Drop)]
 pub struct Book {
+    /// The entries, the earliest first.
     pub entries: Items<Entry>,
 }
 

@@ -12,4 +12,3 @@ pub use book::Book;
 pub use entry::Entry;
 pub use many::write_by_many;
 pub use pair::write_by_two;
-pub use turns::{add, write};

@@ -1,8 +1,8 @@
 -- Statements of a prim or a variant on its properties, and its orders of names.
 use Rattle.std.specs.Prelude.{ℕ, List, Result, Ok, Err}
 use Rattle.sdf_values.specs.declared.refusal.RefusalKind.TheVariants.{Spline}
-use Rattle.usda_grammar.specs.declared.kinds.TokenKind.{TokenKind}
-use Rattle.usda_grammar.specs.declared.kinds.TokenKind.TheVariants as token
+use Rattle.usda_grammar.specs.declared.kinds.WordKind.{WordKind}
+use Rattle.usda_grammar.specs.declared.kinds.WordKind.TheVariants as token
 use Rattle.usda_grammar.specs.declared.kinds.Keyword.TheVariants as word
 use Rattle.usda_lists.specs.Edits.{edit_of}
 use Rattle.usda_lists.specs.declared.edit.ListEdit.TheVariants.{Explicit}
@@ -30,27 +30,27 @@ unfoldable pub type_act : Word → Draft → Acted
 type_act w d = then_with w.start (with_type w.text d.heading) (λ h. headed h d)
 
 -- `rel`, or a type
-unfoldable pub after_variability_act : TokenKind → Word → Draft → Acted
+unfoldable pub after_variability_act : WordKind → Word → Draft → Acted
 after_variability_act (token.Word word.Rel) w d = Ok (headed (as_relationship d.heading) d)
 after_variability_act k w d = type_act w d
 
 -- the same, or `uniform` or `varying`
-unfoldable pub after_custom_act : TokenKind → Word → Draft → Acted
+unfoldable pub after_custom_act : WordKind → Word → Draft → Acted
 after_custom_act (token.Word word.Variability) w d = Ok (headed (with_variability w.text d.heading) d)
 after_custom_act k w d = after_variability_act k w d
 
 -- the same, or `custom`
-unfoldable pub after_edit_act : TokenKind → Word → Draft → Acted
+unfoldable pub after_edit_act : WordKind → Word → Draft → Acted
 after_edit_act (token.Word word.Custom) w d = Ok (headed (with_custom d.heading) d)
 after_edit_act k w d = after_custom_act k w d
 
 -- the same, or a field of names
-unfoldable pub after_reorder_act : TokenKind → Word → Draft → Acted
+unfoldable pub after_reorder_act : WordKind → Word → Draft → Acted
 after_reorder_act (token.Word word.OrderedField) w d = order_act w d
 after_reorder_act k w d = after_edit_act k w d
 
 -- the first word of a statement: of a prim, a variant set, an order or edit of a list, or else of a property
-unfoldable pub statement_act : TokenKind → Word → Draft → Acted
+unfoldable pub statement_act : WordKind → Word → Draft → Acted
 statement_act (token.Word word.Specifier) w d = specifier_act w.text d
 statement_act (token.Word word.VariantSet) w d = Ok d
 statement_act (token.Word word.Edit) w d = Ok (headed (begun (edit_of w.text)) d)
@@ -88,17 +88,17 @@ unfoldable pub list_begun : Draft → Acted
 list_begun d = then_with d.name_at (list_act d.property) (λ p. record (with_property d p) { list = open_list.Property })
 
 -- the `=` of a default; metadata, samples and connections need none
-unfoldable pub tail_act : TokenKind → Draft → Acted
+unfoldable pub tail_act : WordKind → Draft → Acted
 tail_act token.Equals d = default_begun d
 tail_act k d = Ok d
 
 -- the word behind the `.`
-unfoldable pub dot_act : TokenKind → ℕ → Draft → Acted
+unfoldable pub dot_act : WordKind → ℕ → Draft → Acted
 dot_act (token.Word word.TimeSamples) at d = samples_begun d
 dot_act (token.Word word.Connect) at d = list_begun d
 dot_act k at d = Err (refused Spline at)
 
 -- the time of a sample, or the end of the samples
-unfoldable pub sample_act : TokenKind → Word → Draft → Acted
+unfoldable pub sample_act : WordKind → Word → Draft → Acted
 sample_act token.Number w d = time_act w.text w.start d
 sample_act k w d = Ok d

@@ -6,8 +6,8 @@ use Rattle.sdf_values.specs.declared.refusal.RefusalKind.TheVariants.{Syntax}
 use Rattle.usda_fields.specs.Fields as fields
 use Rattle.usda_fields.specs.declared.field.ListField.{ListField}
 use Rattle.usda_fields.specs.declared.field.ListField.TheVariants.{Paths, References, Texts}
-use Rattle.usda_grammar.specs.declared.kinds.TokenKind.{TokenKind}
-use Rattle.usda_grammar.specs.declared.kinds.TokenKind.TheVariants as token
+use Rattle.usda_grammar.specs.declared.kinds.WordKind.{WordKind}
+use Rattle.usda_grammar.specs.declared.kinds.WordKind.TheVariants as token
 use Rattle.usda_lexer.specs.Meanings.{path_text}
 use Rattle.usda_lists.specs.Lists.{amend_last}
 use Rattle.usda_lists.specs.Offsets.{offset_key}
@@ -55,21 +55,21 @@ end_act open_list.Property d = Ok (with_property d (with_list_closed d.property)
 end_act l d = Ok d
 
 -- a list: `None` and the other marks add nothing
-unfoldable pub in_list_act : TokenKind → Word → Draft → Acted
+unfoldable pub in_list_act : WordKind → Word → Draft → Acted
 in_list_act token.Quoted w d = string_act d.list w d
 in_list_act token.Path w d = list_path_act d.list w d
 in_list_act token.CloseBracket w d = end_act d.list d
 in_list_act k w d = Ok d
 
 -- the same of references and payloads
-unfoldable pub in_references_act : TokenKind → Word → Draft → Acted
+unfoldable pub in_references_act : WordKind → Word → Draft → Acted
 in_references_act token.Asset w d = asset_act d.list w d
 in_references_act token.Path w d = lone_path_act d.list w d
 in_references_act token.CloseBracket w d = end_act d.list d
 in_references_act k w d = Ok d
 
 -- a sublayer, or the end of them; repeats stay
-unfoldable pub sublayer_act : TokenKind → Word → Draft → Acted
+unfoldable pub sublayer_act : WordKind → Word → Draft → Acted
 sublayer_act token.Asset w d = Ok (record d { sublayers = d.sublayers ++ sublayer_of w.text ∷ [] })
 sublayer_act k w d = Ok d
 

@@ -12,8 +12,8 @@ use Rattle.usda_fields.specs.declared.field.ListField.TheVariants.{Paths, Refere
 use Rattle.usda_fields.specs.declared.owner.OrderWord.{OrderWord}
 use Rattle.usda_fields.specs.declared.owner.OrderWord.TheVariants.{NameChildren}
 use Rattle.usda_fields.specs.declared.owner.OwnerDraft.{OwnerDraft}
-use Rattle.usda_grammar.specs.declared.kinds.TokenKind.{TokenKind}
-use Rattle.usda_grammar.specs.declared.kinds.TokenKind.TheVariants as token
+use Rattle.usda_grammar.specs.declared.kinds.WordKind.{WordKind}
+use Rattle.usda_grammar.specs.declared.kinds.WordKind.TheVariants as token
 use Rattle.usda_grammar.specs.declared.kinds.Keyword.TheVariants as word
 use Rattle.usda_lists.specs.Edits.{edit_of}
 use Rattle.usda_lists.specs.declared.edit.ListEdit.{ListEdit}
@@ -73,7 +73,7 @@ unfoldable pub edit_act : Word → Draft → Acted
 edit_act w d = Ok (record d { edit = edit_of w.text; word = w.text; word_at = w.start })
 
 -- what stands behind an edit word
-unfoldable pub edited_act : TokenKind → Word → Draft → Acted
+unfoldable pub edited_act : WordKind → Word → Draft → Acted
 edited_act token.Equals w d = key_act d.word d.word_at d
 edited_act (token.Word word.StringField) w d = string_field_act d.edit w d
 edited_act (token.Word word.PathField) w d = path_field_act d.edit w d
@@ -81,7 +81,7 @@ edited_act (token.Word word.ReferenceField) w d = reference_field_act d.edit w d
 edited_act k w d = Ok d
 
 -- metadata of a prim or a variant
-unfoldable pub prim_item_act : TokenKind → Word → Draft → Acted
+unfoldable pub prim_item_act : WordKind → Word → Draft → Acted
 prim_item_act token.Quoted w d = comment_act w d
 prim_item_act (token.Word word.Edit) w d = edit_act w d
 prim_item_act (token.Word word.Reorder) w d = edit_act w d
@@ -98,13 +98,13 @@ unfoldable pub sublayers_act : ℕ → Draft → Acted
 sublayers_act at d = if d.has_sublayers then Err (refused DuplicateSpec at) else Ok (record d { has_sublayers = true; list = open_list.SubLayers })
 
 -- metadata of the layer
-unfoldable pub head_item_act : TokenKind → Word → Draft → Acted
+unfoldable pub head_item_act : WordKind → Word → Draft → Acted
 head_item_act token.Quoted w d = comment_act w d
 head_item_act (token.Word word.SubLayers) w d = sublayers_act w.start d
 head_item_act k w d = key_act w.text w.start d
 
 -- a root prim, or `reorder`
-unfoldable pub root_act : TokenKind → Word → Draft → Acted
+unfoldable pub root_act : WordKind → Word → Draft → Acted
 root_act (token.Word word.Specifier) w d = specifier_act w.text d
 root_act k w d = Ok d
 
@@ -127,7 +127,7 @@ unfoldable pub root_order_act : Word → Draft → Acted
 root_order_act w d = ordered_by NameChildren w.start d
 
 -- a name, or the end of the names
-unfoldable pub order_name_act : TokenKind → Word → Draft → Acted
+unfoldable pub order_name_act : WordKind → Word → Draft → Acted
 order_name_act token.Quoted w d = said_act w.start (owner.ordered_act d.order w.text d.owner.said) d
 order_name_act k w d = Ok d
 
@@ -142,6 +142,6 @@ unfoldable pub property_key_act : Word → Draft → Acted
 property_key_act w d = then_with w.start (property_rule w.text d.property) (λ rule. aimed_at_key goal.PropertyKey w.text rule d)
 
 -- metadata of a property
-unfoldable pub property_item_act : TokenKind → Word → Draft → Acted
+unfoldable pub property_item_act : WordKind → Word → Draft → Acted
 property_item_act token.Quoted w d = then_with w.start (meta_comment_act w.text d.property) (with_property d)
 property_item_act k w d = property_key_act w d

@@ -1,8 +1,8 @@
 -- What a token makes of a draft, or its refusal with the byte at which that stands.
 use Rattle.std.specs.Prelude.{◌≡◌, ℕ, Result, Ok, Err}
 use Rattle.sdf_values.specs.declared.refusal.RefusalKind.{RefusalKind}
-use Rattle.usda_values.specs.declared.fault.ActFault.{ActFault as PartFault}
-use Rattle.usda_values.specs.declared.fault.ActFault.TheVariants as part
+use Rattle.usda_values.specs.declared.fault.PartFault.{PartFault}
+use Rattle.usda_values.specs.declared.fault.PartFault.TheVariants as part
 use Rattle.usda_drafts.specs.declared.draft.Draft.{Draft}
 use Rattle.usda_drafts.specs.declared.fault.Refused.{Refused}
 use Rattle.usda_drafts.specs.declared.fault.ActFault.{ActFault}

@@ -1,13 +1,12 @@
 -- Values: what is expected of one, its tokens, and where it goes when it is complete.
 use Rattle.std.specs.Prelude.{ℕ, ℤ, Bool, true, false, List, [], Option, Some, None, Result, Ok, Err, if◌then◌else◌}
 use Rattle.sdf_values.specs.declared.decimal.Num.{Num}
-use Rattle.sdf_values.specs.declared.decimal.Num.TheVariants.{Finite}
 use Rattle.sdf_values.specs.declared.refusal.RefusalKind.{RefusalKind}
 use Rattle.sdf_values.specs.declared.refusal.RefusalKind.TheVariants.{NumberTooLong, TimeRange}
 use Rattle.sdf_values.specs.declared.type_name.TypeName.{TypeName}
 use Rattle.sdf_values.specs.declared.value.Value.{Value}
 use Rattle.usda_lexer.specs.Meanings.{number_of}
-use Rattle.usda_values.specs.Scalars.{time_of}
+pub use Rattle.usda_values.specs.Scalars.{finite_time}
 use Rattle.usda_values.specs.declared.shape.Shape.{Shape}
 use Rattle.usda_values.specs.declared.shape.Shape.TheVariants.{Untyped, Typed, Dictionary}
 use Rattle.usda_words.specs.Words.{Word}
@@ -53,11 +52,6 @@ aimed_at_sample time d = record d { aim = record d.aim { goal = goal.Sample; sha
 abbrev pub in_range : Option ℤ → Result ℤ RefusalKind
 in_range None = Err TimeRange
 in_range (Some t) = Ok t
-
--- `inf` and `nan` are no times
-unfoldable pub finite_time : Num → Option ℤ
-finite_time (Finite n) = time_of n
-finite_time x = None
 
 -- the time of a number; one that is too long is refused before it is asked whether it is a time
 unfoldable pub time_of_number : Option Num → Result ℤ RefusalKind

@@ -23,7 +23,9 @@ pub enum Goal {
 /// What the next value is for, and what is expected of it.
 #[derive(Debug, Drop)]
 pub struct Aim {
+    /// Where it goes.
     pub goal: Goal,
+    /// What it has to be.
     pub shape: Shape,
     /// The key, where it is one of metadata.
     pub key: Text,

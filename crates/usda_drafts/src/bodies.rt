@@ -9,7 +9,7 @@ use crate::fault::{ActFault, placed, refuse};
 use plain_data::Text;
 use sdf_values::RefusalKind;
 use std::mem;
-use usda_grammar::{Keyword, TokenKind};
+use usda_grammar::{Keyword, WordKind};
 use usda_lists::ListEdit;
 use usda_statements::Heading;
 use usda_words::Word;
@@ -30,13 +30,13 @@ impl Draft {
     #[tactic(auto, unfolding(crate::specs::Bodies::after_variability_act))]
     pub fn take_after_variability(
         &mut self,
-        kind: TokenKind,
+        kind: WordKind,
         word: &Word<'_>,
     ) -> Result<(), ActFault>
         ensures { Does result self.new (after_variability_act kind (word_of word.now) self.old) }
     {
         match kind {
-            TokenKind::Word(Keyword::Rel) => {
+            WordKind::Word(Keyword::Rel) => {
                 self.heading.set_relationship();
                 Ok(())
             }
@@ -46,11 +46,11 @@ impl Draft {
 
     /// A word behind `custom`: the same, or `uniform` or `varying`.
     #[tactic(auto, unfolding(crate::specs::Bodies::after_custom_act))]
-    pub fn take_after_custom(&mut self, kind: TokenKind, word: &Word<'_>) -> Result<(), ActFault>
+    pub fn take_after_custom(&mut self, kind: WordKind, word: &Word<'_>) -> Result<(), ActFault>
         ensures { Does result self.new (after_custom_act kind (word_of word.now) self.old) }
     {
         match kind {
-            TokenKind::Word(Keyword::Variability) => {
+            WordKind::Word(Keyword::Variability) => {
                 self.heading.set_variability(word.text);
                 Ok(())
             }
@@ -60,11 +60,11 @@ impl Draft {
 
     /// A word behind an edit word: the same, or `custom`.
     #[tactic(auto, unfolding(crate::specs::Bodies::after_edit_act))]
-    pub fn take_after_edit(&mut self, kind: TokenKind, word: &Word<'_>) -> Result<(), ActFault>
+    pub fn take_after_edit(&mut self, kind: WordKind, word: &Word<'_>) -> Result<(), ActFault>
         ensures { Does result self.new (after_edit_act kind (word_of word.now) self.old) }
     {
         match kind {
-            TokenKind::Word(Keyword::Custom) => {
+            WordKind::Word(Keyword::Custom) => {
                 self.heading.set_custom();
                 Ok(())
             }
@@ -74,23 +74,23 @@ impl Draft {
 
     /// A word behind `reorder`: the same, or a field of names.
     #[tactic(auto, unfolding(crate::specs::Bodies::after_reorder_act))]
-    pub fn take_after_reorder(&mut self, kind: TokenKind, word: &Word<'_>) -> Result<(), ActFault>
+    pub fn take_after_reorder(&mut self, kind: WordKind, word: &Word<'_>) -> Result<(), ActFault>
         ensures { Does result self.new (after_reorder_act kind (word_of word.now) self.old) }
     {
         match kind {
-            TokenKind::Word(Keyword::OrderedField) => self.take_order(word),
+            WordKind::Word(Keyword::OrderedField) => self.take_order(word),
             _ => self.take_after_edit(kind, word),
         }
     }
 
     #[tactic(auto, unfolding(crate::specs::Bodies::statement_act))]
-    fn take_statement(&mut self, kind: TokenKind, word: &Word<'_>) -> Result<(), ActFault>
+    fn take_statement(&mut self, kind: WordKind, word: &Word<'_>) -> Result<(), ActFault>
         ensures { Does result self.new (statement_act kind (word_of word.now) self.old) }
     {
         match kind {
-            TokenKind::Word(Keyword::Specifier) => self.take_specifier(word.text),
-            TokenKind::Word(Keyword::VariantSet) => Ok(()),
-            TokenKind::Word(Keyword::Edit) | TokenKind::Word(Keyword::Reorder) => {
+            WordKind::Word(Keyword::Specifier) => self.take_specifier(word.text),
+            WordKind::Word(Keyword::VariantSet) => Ok(()),
+            WordKind::Word(Keyword::Edit) | WordKind::Word(Keyword::Reorder) => {
                 self.heading = Heading::new(ListEdit::of_word(word.text));
                 Ok(())
             }
@@ -177,34 +177,34 @@ impl Draft {
 
     /// What stands directly behind the name of an attribute: the `=` of a default, or a mark that adds nothing.
     #[tactic(auto, unfolding(crate::specs::Bodies::tail_act))]
-    pub fn take_tail(&mut self, kind: TokenKind) -> Result<(), ActFault>
+    pub fn take_tail(&mut self, kind: WordKind) -> Result<(), ActFault>
         ensures { Does result self.new (tail_act kind self.old) }
     {
         match kind {
-            TokenKind::Equals => self.start_default(),
+            WordKind::Equals => self.start_default(),
             _ => Ok(()),
         }
     }
 
     /// The word behind the `.` of an attribute.
     #[tactic(auto, unfolding(crate::specs::Bodies::dot_act))]
-    pub fn take_dot(&mut self, kind: TokenKind, at: usize) -> Result<(), ActFault>
+    pub fn take_dot(&mut self, kind: WordKind, at: usize) -> Result<(), ActFault>
         ensures { Does result self.new (dot_act kind at self.old) }
     {
         match kind {
-            TokenKind::Word(Keyword::TimeSamples) => self.start_samples(),
-            TokenKind::Word(Keyword::Connect) => self.start_list(),
+            WordKind::Word(Keyword::TimeSamples) => self.start_samples(),
+            WordKind::Word(Keyword::Connect) => self.start_list(),
             _ => refuse(RefusalKind::Spline, at),
         }
     }
 
     /// The time of a sample, or the end of the samples.
     #[tactic(auto, unfolding(crate::specs::Bodies::sample_act))]
-    pub fn take_sample(&mut self, kind: TokenKind, word: &Word<'_>) -> Result<(), ActFault>
+    pub fn take_sample(&mut self, kind: WordKind, word: &Word<'_>) -> Result<(), ActFault>
         ensures { Does result self.new (sample_act kind (word_of word.now) self.old) }
     {
         match kind {
-            TokenKind::Number => self.take_time(word.text, word.start),
+            WordKind::Number => self.take_time(word.text, word.start),
             _ => Ok(()),
         }
     }

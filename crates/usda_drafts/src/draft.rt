@@ -21,7 +21,9 @@ use usda_values::Shape;
 /// What stands before the name of a prim.
 #[derive(Debug, Drop)]
 pub struct Opening {
+    /// What `def`, `over` or `class` says.
     pub specifier: Specifier,
+    /// The type behind that word, where one stands there.
     pub type_name: Option<Text>,
     /// Whether the prim is inside 64 others, so that its metadata and its body are refused.
     pub is_too_deep: bool,
@@ -47,6 +49,7 @@ pub struct Draft {
     pub owner: Owner,
     /// The owners round it, the outermost first.
     pub outer: Items<Owner>,
+    /// The sublayers that were read, in their order.
     pub sublayers: Items<SubLayer>,
     /// Whether the sublayers were given.
     pub has_sublayers: bool,

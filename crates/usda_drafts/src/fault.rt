@@ -4,12 +4,14 @@ ghost use Rattle.usda_drafts.specs.Refusals.{refused, Places};
 
 use sdf_values::RefusalKind;
 use std::alloc::{AllocError, AllocFailed};
-use usda_values::ActFault as PartFault;
+use usda_values::PartFault;
 
 /// A refusal and the number of the byte, from 0, at which it stands: where the token begins, or the name that is there twice.
 #[derive(Clone, Copy, Debug, PartialEq, Eq)]
 pub struct Refused {
+    /// Why the token is refused.
     pub kind: RefusalKind,
+    /// The number of the byte.
     pub at: usize,
 }
 

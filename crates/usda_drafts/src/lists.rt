@@ -7,7 +7,7 @@ ghost use Rattle.usda_words.specs.Sources.{word_of};
 use crate::draft::{Draft, OpenList};
 use crate::fault::{ActFault, placed};
 use usda_fields::ListField;
-use usda_grammar::TokenKind;
+use usda_grammar::WordKind;
 use usda_lists::{offset_key, push_sublayer, set_sublayer_offset};
 use usda_words::Word;
 
@@ -123,37 +123,37 @@ impl Draft {
 
     /// A token of a list of strings or paths.
     #[tactic(auto, unfolding(crate::specs::Lists::in_list_act))]
-    pub fn take_in_list(&mut self, kind: TokenKind, word: &Word<'_>) -> Result<(), ActFault>
+    pub fn take_in_list(&mut self, kind: WordKind, word: &Word<'_>) -> Result<(), ActFault>
         ensures { Does result self.new (in_list_act kind (word_of word.now) self.old) }
     {
         match kind {
-            TokenKind::Quoted => self.take_string(word),
-            TokenKind::Path => self.take_list_path(word),
-            TokenKind::CloseBracket => self.take_end(),
+            WordKind::Quoted => self.take_string(word),
+            WordKind::Path => self.take_list_path(word),
+            WordKind::CloseBracket => self.take_end(),
             _ => Ok(()),
         }
     }
 
     /// A token of a list of references or payloads.
     #[tactic(auto, unfolding(crate::specs::Lists::in_references_act))]
-    pub fn take_in_references(&mut self, kind: TokenKind, word: &Word<'_>) -> Result<(), ActFault>
+    pub fn take_in_references(&mut self, kind: WordKind, word: &Word<'_>) -> Result<(), ActFault>
         ensures { Does result self.new (in_references_act kind (word_of word.now) self.old) }
     {
         match kind {
-            TokenKind::Asset => self.take_asset(word),
-            TokenKind::Path => self.take_lone_path(word),
-            TokenKind::CloseBracket => self.take_end(),
+            WordKind::Asset => self.take_asset(word),
+            WordKind::Path => self.take_lone_path(word),
+            WordKind::CloseBracket => self.take_end(),
             _ => Ok(()),
         }
     }
 
     /// A sublayer, or the end of them.
     #[tactic(auto, unfolding(crate::specs::Lists::sublayer_act))]
-    pub fn take_sublayer(&mut self, kind: TokenKind, word: &Word<'_>) -> Result<(), ActFault>
+    pub fn take_sublayer(&mut self, kind: WordKind, word: &Word<'_>) -> Result<(), ActFault>
         ensures { Does result self.new (sublayer_act kind (word_of word.now) self.old) }
     {
         match kind {
-            TokenKind::Asset => {
+            WordKind::Asset => {
                 push_sublayer(self.outer.allocator(), &mut self.sublayers, word.text)?;
                 Ok(())
             }

@@ -11,10 +11,10 @@ use crate::fault::{ActFault, placed, refuse};
 use plain_data::{Text, copy};
 use sdf_values::RefusalKind;
 use usda_fields::{KeyRule, ListField, OrderWord, PathField, ReferenceField, TextField};
-use usda_grammar::{Keyword, TokenKind};
+use usda_grammar::{Keyword, WordKind};
 use usda_lists::ListEdit;
 use usda_statements::PropertyDraft;
-use usda_values::{ActFault as PartFault, Shape};
+use usda_values::{PartFault, Shape};
 use usda_words::Word;
 
 // What a key of the property's metadata expects.
@@ -150,34 +150,34 @@ impl Draft {
 
     /// What stands behind an edit word: a field, or the `=` of a key of that name.
     #[tactic(auto, unfolding(crate::specs::Metadata::edited_act))]
-    pub fn take_edited(&mut self, kind: TokenKind, word: &Word<'_>) -> Result<(), ActFault>
+    pub fn take_edited(&mut self, kind: WordKind, word: &Word<'_>) -> Result<(), ActFault>
         ensures { Does result self.new (edited_act kind (word_of word.now) self.old) }
     {
         match kind {
-            TokenKind::Equals => self.take_edit_key(),
-            TokenKind::Word(Keyword::StringField) => self.take_string_field(self.edit, word),
-            TokenKind::Word(Keyword::PathField) => self.take_path_field(self.edit, word),
-            TokenKind::Word(Keyword::ReferenceField) => self.take_reference_field(self.edit, word),
+            WordKind::Equals => self.take_edit_key(),
+            WordKind::Word(Keyword::StringField) => self.take_string_field(self.edit, word),
+            WordKind::Word(Keyword::PathField) => self.take_path_field(self.edit, word),
+            WordKind::Word(Keyword::ReferenceField) => self.take_reference_field(self.edit, word),
             _ => Ok(()),
         }
     }
 
     /// Metadata of a prim or a variant.
     #[tactic(auto, unfolding(crate::specs::Metadata::prim_item_act))]
-    pub fn take_prim_item(&mut self, kind: TokenKind, word: &Word<'_>) -> Result<(), ActFault>
+    pub fn take_prim_item(&mut self, kind: WordKind, word: &Word<'_>) -> Result<(), ActFault>
         ensures { Does result self.new (prim_item_act kind (word_of word.now) self.old) }
     {
         match kind {
-            TokenKind::Quoted => self.take_comment(word),
-            TokenKind::Word(Keyword::Edit) | TokenKind::Word(Keyword::Reorder) => {
+            WordKind::Quoted => self.take_comment(word),
+            WordKind::Word(Keyword::Edit) | WordKind::Word(Keyword::Reorder) => {
                 self.take_edit(word)
             }
-            TokenKind::Word(Keyword::Variants) => self.take_variants(word),
-            TokenKind::Word(Keyword::StringField) => {
+            WordKind::Word(Keyword::Variants) => self.take_variants(word),
+            WordKind::Word(Keyword::StringField) => {
                 self.take_string_field(ListEdit::Explicit, word)
             }
-            TokenKind::Word(Keyword::PathField) => self.take_path_field(ListEdit::Explicit, word),
-            TokenKind::Word(Keyword::ReferenceField) => {
+            WordKind::Word(Keyword::PathField) => self.take_path_field(ListEdit::Explicit, word),
+            WordKind::Word(Keyword::ReferenceField) => {
                 self.take_reference_field(ListEdit::Explicit, word)
             }
             _ => self.take_key_word(word),
@@ -199,23 +199,23 @@ impl Draft {
 
     /// Metadata of the layer.
     #[tactic(auto, unfolding(crate::specs::Metadata::head_item_act))]
-    pub fn take_head_item(&mut self, kind: TokenKind, word: &Word<'_>) -> Result<(), ActFault>
+    pub fn take_head_item(&mut self, kind: WordKind, word: &Word<'_>) -> Result<(), ActFault>
         ensures { Does result self.new (head_item_act kind (word_of word.now) self.old) }
     {
         match kind {
-            TokenKind::Quoted => self.take_comment(word),
-            TokenKind::Word(Keyword::SubLayers) => self.take_sublayers(word.start),
+            WordKind::Quoted => self.take_comment(word),
+            WordKind::Word(Keyword::SubLayers) => self.take_sublayers(word.start),
             _ => self.take_key_word(word),
         }
     }
 
     /// A root prim, or `reorder`.
     #[tactic(auto, unfolding(crate::specs::Metadata::root_act))]
-    pub fn take_root(&mut self, kind: TokenKind, word: &Word<'_>) -> Result<(), ActFault>
+    pub fn take_root(&mut self, kind: WordKind, word: &Word<'_>) -> Result<(), ActFault>
         ensures { Does result self.new (root_act kind (word_of word.now) self.old) }
     {
         match kind {
-            TokenKind::Word(Keyword::Specifier) => self.take_specifier(word.text),
+            WordKind::Word(Keyword::Specifier) => self.take_specifier(word.text),
             _ => Ok(()),
         }
     }
@@ -252,7 +252,7 @@ impl Draft {
 
     #[tactic(auto, unfolding(crate::specs::Metadata::order_name_act))]
     fn push_order_name(&mut self, word: &Word<'_>) -> Result<(), ActFault>
-        ensures { Does result self.new (order_name_act TokenKind.Quoted (word_of word.now) self.old) }
+        ensures { Does result self.new (order_name_act WordKind.Quoted (word_of word.now) self.old) }
     {
         let alloc = self.outer.allocator();
         match self.owner.said.push_ordered(alloc, self.order, word.text) {
@@ -263,18 +263,18 @@ impl Draft {
 
     /// A name of an order, or the end of the names.
     #[tactic(auto, unfolding(crate::specs::Metadata::order_name_act))]
-    pub fn take_order_name(&mut self, kind: TokenKind, word: &Word<'_>) -> Result<(), ActFault>
+    pub fn take_order_name(&mut self, kind: WordKind, word: &Word<'_>) -> Result<(), ActFault>
         ensures { Does result self.new (order_name_act kind (word_of word.now) self.old) }
     {
         match kind {
-            TokenKind::Quoted => self.push_order_name(word),
+            WordKind::Quoted => self.push_order_name(word),
             _ => Ok(()),
         }
     }
 
     #[tactic(auto, unfolding(crate::specs::Metadata::property_item_act))]
     fn take_property_comment(&mut self, word: &Word<'_>) -> Result<(), ActFault>
-        ensures { Does result self.new (property_item_act TokenKind.Quoted (word_of word.now) self.old) }
+        ensures { Does result self.new (property_item_act WordKind.Quoted (word_of word.now) self.old) }
     {
         match self.property.put_comment(self.outer.allocator(), word.text) {
             Ok(()) => Ok(()),
@@ -298,11 +298,11 @@ impl Draft {
 
     /// Metadata of a property.
     #[tactic(auto, unfolding(crate::specs::Metadata::property_item_act))]
-    pub fn take_property_item(&mut self, kind: TokenKind, word: &Word<'_>) -> Result<(), ActFault>
+    pub fn take_property_item(&mut self, kind: WordKind, word: &Word<'_>) -> Result<(), ActFault>
         ensures { Does result self.new (property_item_act kind (word_of word.now) self.old) }
     {
         match kind {
-            TokenKind::Quoted => self.take_property_comment(word),
+            WordKind::Quoted => self.take_property_comment(word),
             _ => self.take_property_key(word),
         }
     }

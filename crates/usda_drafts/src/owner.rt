@@ -14,7 +14,7 @@ use std::alloc::{AllocError, Global};
 use std::mem;
 use usda_fields::OwnerDraft;
 use usda_statements::{Heading, PropertyDraft, PropertyMarks};
-use usda_values::ActFault as PartFault;
+use usda_values::PartFault;
 
 /// A prim, a variant, or the layer itself, to which statements add.
 ///
@@ -27,6 +27,7 @@ pub struct Owner {
     pub type_name: Option<Text>,
     /// The names of the prims below, in their order.
     pub children: Items<Text>,
+    /// Its properties, but for the one in hand.
     pub properties: Properties,
     /// What may be said of each property once, and was.
     pub marks: OrderedTable<Text, PropertyMarks>,

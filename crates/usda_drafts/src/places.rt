@@ -6,11 +6,11 @@ use plain_data::Text;
 use sdf_paths::Path;
 use std::alloc::Global;
 use usda_fields::{prim_below, variant_below};
-use usda_values::ActFault;
+use usda_values::PartFault;
 
 /// The path of a prim below its owner; nothing where it would be the 65th inside each other. `TooLong` where it has more than 4,096 bytes.
 #[tactic(auto, unfolding(crate::specs::Places::prim_place))]
-pub fn prim_place(alloc: Global, owner: &Path, name: &Text) -> Result<Option<Path>, ActFault>
+pub fn prim_place(alloc: Global, owner: &Path, name: &Text) -> Result<Option<Path>, PartFault>
     ensures { Gives result (prim_place owner.now name.now) }
 {
     prim_below(alloc, owner, name.as_str())
@@ -23,7 +23,7 @@ pub fn variant_place(
     owner: &Path,
     set: &Text,
     variant: &Text,
-) -> Result<Path, ActFault>
+) -> Result<Path, PartFault>
     ensures { Gives result (variant_place owner.now set.now variant.now) }
 {
     variant_below(alloc, owner, set.as_str(), variant.as_str())

@@ -17,7 +17,7 @@ use std::alloc::{AllocError, Global};
 use std::mem;
 use usda_fields::{identifier_of, variant_of};
 use usda_statements::PropertyDraft;
-use usda_values::ActFault as PartFault;
+use usda_values::PartFault;
 
 #[tactic(auto, unfolding(crate::specs::Prims::specifier_of))]
 fn specifier_of(word: &str) -> Specifier
@@ -198,7 +198,7 @@ impl Draft {
         }
     }
 
-    // The statement in hand is over.
+    /// The statement in hand is over.
     #[tactic(auto, unfolding(crate::specs::Prims::with_statement_over))]
     pub fn end_statement(&mut self) -> Result<(), AllocError>
         ensures { OnOk result (self.new ≡ with_statement_over self.old) }

@@ -3,19 +3,19 @@ ghost use Rattle.std.specs.Prelude.{◌≡◌};
 ghost use Rattle.usda_lexer.specs.Meanings.{number_of};
 ghost use Rattle.usda_lists.specs.Acts.{Gives as GivesPart};
 ghost use Rattle.usda_drafts.specs.Refusals.{Does};
-ghost use Rattle.usda_drafts.specs.Values.{aimed_at_key, aimed_at_default, shape_of, finite_time, time_of_number, time_act, is_selections, completed, token_act, first_act};
+ghost use Rattle.usda_drafts.specs.Values.{aimed_at_key, aimed_at_default, shape_of, time_of_number, time_act, is_selections, completed, token_act, first_act};
 ghost use Rattle.usda_words.specs.Sources.{word_of};
 
 use crate::aim::Goal;
 use crate::draft::Draft;
 use crate::fault::{ActFault, placed, refuse};
 use plain_data::{Text, copy};
-use sdf_values::{Num, RefusalKind, TimeCode, TypeName, Value};
+use sdf_values::{RefusalKind, TimeCode, TypeName, Value};
 use std::mem;
 use usda_fields::{KeyRule, rule_shape};
 use usda_lexer::number_of;
 use usda_statements::OpenValue;
-use usda_values::{ActFault as PartFault, Shape, time_of};
+use usda_values::{PartFault, Shape, finite_time};
 use usda_words::Word;
 
 #[tactic(auto, unfolding(crate::specs::Values::shape_of))]
@@ -35,17 +35,6 @@ fn is_selections(goal: Goal) -> bool
     match goal {
         Goal::Variants => true,
         _ => false,
-    }
-}
-
-// The time that a number is; `inf` and `nan` are none.
-#[tactic(auto, unfolding(crate::specs::Values::finite_time))]
-fn finite_time(number: Num) -> Option<TimeCode>
-    ensures { result ≡ finite_time number }
-{
-    match number {
-        Num::Finite(number) => time_of(number),
-        _ => None,
     }
 }
 

@@ -8,7 +8,7 @@ use Rattle.sdf_paths.specs.declared.fault.PathFault.{PathFault}
 use Rattle.sdf_paths.specs.declared.fault.PathFault.TheVariants.{Bad, NoMemory}
 use Rattle.sdf_paths.proofs.ParseExact.{read_printed}
 use Rattle.std.specs.List.{list_all}
-use Rattle.std.proofs.lemmas.Bool.{and_parts}
+use Rattle.std.proofs.lemmas.Bool.{and_from, and_parts}
 use Rattle.std.proofs.lemmas.List.Folds.{list_all-append}
 use Rattle.usd_names.specs.Names.{is_identifier, is_variant}
 use Rattle.sdf_paths.specs.Paths.{IsPath, IsReadAs, is_ordered, is_empty, is_property, is_selection, is_well_named, depth, written, written_all, printed, ends_selected}
@@ -27,16 +27,13 @@ pub printed_some : (owner : List Element) → (owner ≡ [] → ⊥) → printed
 printed_some [] some = absurd (some refl)
 printed_some (e ∷ owner) some = refl
 
-both_hold : (a b : Bool) → a ≡ true → b ≡ true → (a && b) ≡ true
-both_hold a b p q = rw (p, q) refl
-
 ordered_selection : (path : List Element) (named : Bool) (s v : List ℕ) → is_ordered named path ≡ true → is_property path ≡ false → (named || not (is_empty path)) ≡ true
     → is_ordered named (path ++ Selection s v ∷ []) ≡ true
 ordered_selection [] true s v h prim some = refl
 ordered_selection [] false s v h prim some = absurd cc
 ordered_selection (Prim n ∷ path) named s v h prim some = ordered_selection path true s v h prim refl
 ordered_selection (Selection t w ∷ path) named s v h prim some =
-    let both = and_parts named (is_ordered true path) h in both_hold _ _ both.0 (ordered_selection path true s v both.1 prim refl)
+    let both = and_parts named (is_ordered true path) h in and_from _ _ both.0 (ordered_selection path true s v both.1 prim refl)
 ordered_selection (Property n ∷ path) named s v h prim some = absurd cc
 
 some_path : (path : List Element) → (path ≡ [] → ⊥) → not (is_empty path) ≡ true
@@ -48,7 +45,7 @@ selection_path : (owner : List Element) (s v : List ℕ) → IsPath owner → is
     → length (printed (owner ++ Selection s v ∷ [])) ≤ 4096 → IsPath (owner ++ Selection s v ∷ [])
 selection_path owner s v h prim some set variant short =
     path_of (owner ++ Selection s v ∷ []) (ordered_selection owner false s v h.well_formed.ordered prim (some_path owner some))
-    (list_all-append is_well_named owner (Selection s v ∷ []) ∙ both_hold _ _ h.well_formed.named (both_hold _ _ (both_hold _ _ set variant) refl))
+    (list_all-append is_well_named owner (Selection s v ∷ []) ∙ and_from _ _ h.well_formed.named (and_from _ _ (and_from _ _ set variant) refl))
     (omega (arith, h.well_formed.few, depth_joined owner (Selection s v ∷ []), depth_selection s v []))
     (omega (arith, short, length_printed (owner ++ Selection s v ∷ [])))
 

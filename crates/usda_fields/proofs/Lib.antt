@@ -1,3 +1,2 @@
 mod Below
 mod Selected
-mod VariantNames

@@ -5,10 +5,8 @@ use Rattle.sdf_paths.specs.declared.element.Element.{Element}
 use Rattle.sdf_paths.specs.declared.element.Element.TheVariants.{Prim, Selection}
 use Rattle.sdf_values.specs.declared.refusal.RefusalKind.{RefusalKind}
 use Rattle.sdf_values.specs.declared.refusal.RefusalKind.TheVariants.{Syntax, NotUtf8, TooLong}
-use Rattle.usd_names.specs.Names.{is_identifier, is_variant, is_variant_character}
+use Rattle.usd_names.specs.Names.{is_identifier, is_variant}
 use Rattle.usda_lexer.specs.Meanings.{string_text}
-use Rattle.usda_fields.specs.declared.names.VariantPart.{VariantPart}
-use Rattle.usda_fields.specs.declared.names.VariantPart.TheVariants.{Start, Dot, Run}
 
 -- a text, where its escapes give UTF-8
 abbrev pub if_utf8 : Option (List ℕ) → Result (List ℕ) RefusalKind
@@ -27,15 +25,6 @@ if_named is_named (Some name) = if is_named name then Ok name else Err Syntax
 -- a string token that has to be the name of a prim or of a variant set
 abbrev pub identifier_of : List ℕ → Result (List ℕ) RefusalKind
 identifier_of token = if_named is_identifier (string_text token)
-
--- a character more of the name of a variant, where it may stand there
-abbrev pub some_run : ℕ → Option VariantPart
-some_run c = if is_variant_character c then Some Run else None
-
--- the name of a variant may begin with one `.`
-abbrev pub next_part : VariantPart → ℕ → Option VariantPart
-next_part Start c = if c == 46 then Some Dot else some_run c
-next_part part c = some_run c
 
 -- a string token that has to be the name of a variant
 abbrev pub variant_of : List ℕ → Result (List ℕ) RefusalKind

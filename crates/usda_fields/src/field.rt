@@ -5,22 +5,29 @@ ghost use Rattle.usda_fields.specs.Fields.{path_field, reference_field, text_fie
 /// A field whose items are paths.
 #[derive(Clone, Copy, Debug, PartialEq, Eq)]
 pub enum PathField {
+    /// `inherits`.
     Inherits,
+    /// `specializes`.
     Specializes,
 }
 
 /// A field whose items are references.
 #[derive(Clone, Copy, Debug, PartialEq, Eq)]
 pub enum ReferenceField {
+    /// `references`.
     References,
+    /// `payload`.
     Payload,
 }
 
 /// A field whose items are texts.
 #[derive(Clone, Copy, Debug, PartialEq, Eq)]
 pub enum TextField {
+    /// `variantSets`.
     VariantSets,
+    /// `apiSchemas`.
     ApiSchemas,
+    /// `clipSets`.
     ClipSets,
 }
 

@@ -22,7 +22,7 @@ use usda_lists::{
     GivenLists, ListEdit, OffsetKey, asset_item, close_items, close_paths, close_texts, open_list,
     path_from, path_item, push_item, set_last_offset, set_last_path,
 };
-use usda_values::ActFault;
+use usda_values::PartFault;
 
 impl OwnerMarks {
     fn given_at(&self, field: ListField) -> GivenLists
@@ -161,7 +161,7 @@ impl OwnerDraft {
         alloc: Global,
         field: ListField,
         edit: ListEdit,
-    ) -> Result<(), ActFault>
+    ) -> Result<(), PartFault>
         ensures answer { Does result self.new (field_act field edit self.old) }
         ensures sure { AsksNoMemory result }
     {
@@ -203,11 +203,11 @@ impl OwnerDraft {
         field: PathField,
         edit: ListEdit,
         token: &str,
-    ) -> Result<(), ActFault>
+    ) -> Result<(), PartFault>
         ensures { Does result self.new (path_act field edit token.now self.old) }
     {
         match path_from(alloc, &self.base, path_text(token))? {
-            None => Err(ActFault::Refused(RefusalKind::Syntax)),
+            None => Err(PartFault::Refused(RefusalKind::Syntax)),
             Some(path) => {
                 self.push_path_item(alloc, field, edit, path)?;
                 Ok(())
@@ -244,7 +244,7 @@ impl OwnerDraft {
         field: TextField,
         edit: ListEdit,
         token: &str,
-    ) -> Result<(), ActFault>
+    ) -> Result<(), PartFault>
         ensures { Does result self.new (text_act field edit token.now self.old) }
     {
         match text_of(alloc, token) {
@@ -299,7 +299,7 @@ impl OwnerDraft {
         field: ReferenceField,
         edit: ListEdit,
         token: &str,
-    ) -> Result<(), ActFault>
+    ) -> Result<(), PartFault>
         ensures { Does result self.new (lone_path_act field edit token.now self.old) }
     {
         match path_item(alloc, &self.base, token) {
@@ -318,7 +318,7 @@ impl OwnerDraft {
         field: ReferenceField,
         edit: ListEdit,
         token: &str,
-    ) -> Result<(), ActFault>
+    ) -> Result<(), PartFault>
         ensures { Does result self.new (item_path_act field edit token.now self.old) }
     {
         let mut op = self.take_items(alloc, field);
@@ -342,7 +342,7 @@ impl OwnerDraft {
         edit: ListEdit,
         key: OffsetKey,
         token: &str,
-    ) -> Result<(), ActFault>
+    ) -> Result<(), PartFault>
         ensures { Does result self.new (item_number_act field edit key token.now self.old) }
     {
         let mut op = self.take_items(alloc, field);

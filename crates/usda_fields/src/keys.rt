@@ -6,13 +6,12 @@ ghost use Rattle.usda_fields.specs.Keys.{is_boolean_key, key_rule, rule_shape, i
 
 use crate::names::text_of;
 use plain_data::Text;
-use sdf_paths::{Element, Path};
+use sdf_paths::{Element, Path, path_of};
 use sdf_values::{ElementType, RefusalKind, TypeName, Value};
 use spec_properties::Meta;
 use std::alloc::{AllocError, Global};
 use usd_names::is_identifier;
-use usda_lists::path_of;
-use usda_values::{ActFault, Shape};
+use usda_values::{PartFault, Shape};
 
 /// What a key of metadata expects.
 #[derive(Clone, Copy, Debug, PartialEq, Eq)]
@@ -57,10 +56,7 @@ impl KeyRule {
 fn plain_shape(element: ElementType) -> Shape
     ensures { result ≡ Shape.Typed (one element) }
 {
-    Shape::Typed(TypeName {
-        element,
-        array: false,
-    })
+    Shape::Typed(TypeName::one(element))
 }
 
 /// What the tokens of the value of a key are to be.
@@ -95,17 +91,17 @@ fn is_default_prim(alloc: Global, text: &str) -> Result<bool, AllocError>
     }
 }
 
-fn judged_prim(alloc: Global, text: Text) -> Result<Value, ActFault>
+fn judged_prim(alloc: Global, text: Text) -> Result<Value, PartFault>
     ensures { Gives result (judged_prim text) }
 {
     if is_default_prim(alloc, text.as_str())? {
         Ok(Value::Text(text))
     } else {
-        Err(ActFault::Refused(RefusalKind::ValueShape))
+        Err(PartFault::Refused(RefusalKind::ValueShape))
     }
 }
 
-fn judged(alloc: Global, rule: KeyRule, value: Value) -> Result<Value, ActFault>
+fn judged(alloc: Global, rule: KeyRule, value: Value) -> Result<Value, PartFault>
     ensures { Gives result (judged rule value) }
 {
     match (rule, value) {
@@ -115,20 +111,20 @@ fn judged(alloc: Global, rule: KeyRule, value: Value) -> Result<Value, ActFault>
         (KeyRule::Free, value) => Ok(value),
         other => {
             drop(other);
-            Err(ActFault::Refused(RefusalKind::ValueShape))
+            Err(PartFault::Refused(RefusalKind::ValueShape))
         }
     }
 }
 
-fn unless_taken(taken: bool, rule: KeyRule) -> Result<KeyRule, ActFault>
+fn unless_taken(taken: bool, rule: KeyRule) -> Result<KeyRule, PartFault>
     ensures answer { Gives result (unless_taken taken rule) }
     ensures sure { AsksNoMemory result }
 {
     match rule {
-        KeyRule::Relocates => Err(ActFault::Refused(RefusalKind::Relocates)),
+        KeyRule::Relocates => Err(PartFault::Refused(RefusalKind::Relocates)),
         _ => {
             if taken {
-                Err(ActFault::Refused(RefusalKind::DuplicateSpec))
+                Err(PartFault::Refused(RefusalKind::DuplicateSpec))
             } else {
                 Ok(rule)
             }
@@ -138,7 +134,7 @@ fn unless_taken(taken: bool, rule: KeyRule) -> Result<KeyRule, ActFault>
 
 /// What a key expects, before its value is read. `DuplicateSpec` where it is there already, `Relocates` for the key of that name. Takes
 /// no memory.
-pub fn judge_key(meta: &Meta, key: &Text) -> Result<KeyRule, ActFault>
+pub fn judge_key(meta: &Meta, key: &Text) -> Result<KeyRule, PartFault>
     ensures answer { Gives result (key_act key.now meta.now) }
     ensures sure { AsksNoMemory result }
 {
@@ -146,7 +142,7 @@ pub fn judge_key(meta: &Meta, key: &Text) -> Result<KeyRule, ActFault>
 }
 
 /// Puts the whole value of a key. `ValueShape` where the key does not take it. After a fault the metadata is as before.
-pub fn put_value(alloc: Global, meta: &mut Meta, key: Text, value: Value) -> Result<(), ActFault>
+pub fn put_value(alloc: Global, meta: &mut Meta, key: Text, value: Value) -> Result<(), PartFault>
     ensures answer { Does result meta.new (value_act key value meta.old) }
     ensures kept { OnErr result (meta.new ≡ meta.old) }
 {
@@ -161,7 +157,7 @@ pub fn put_value(alloc: Global, meta: &mut Meta, key: Text, value: Value) -> Res
 
 /// Puts a string token that stands alone, which is the value of the key `comment`. `NotUtf8` where its escapes make bytes that are not
 /// UTF-8, `DuplicateSpec` where the key is there already. After a fault the metadata is as before.
-pub fn put_comment(alloc: Global, meta: &mut Meta, token: &str) -> Result<(), ActFault>
+pub fn put_comment(alloc: Global, meta: &mut Meta, token: &str) -> Result<(), PartFault>
     ensures answer { Does result meta.new (comment_act token.now meta.old) }
     ensures kept { OnErr result (meta.new ≡ meta.old) }
 {
@@ -171,7 +167,7 @@ pub fn put_comment(alloc: Global, meta: &mut Meta, token: &str) -> Result<(), Ac
     };
     let key = Text::of(alloc, "comment")?;
     if meta.has(&key) {
-        return Err(ActFault::Refused(RefusalKind::DuplicateSpec));
+        return Err(PartFault::Refused(RefusalKind::DuplicateSpec));
     }
     drop(meta.insert(key, Value::Text(text))?);
     Ok(())

@@ -10,6 +10,6 @@ mod variants;
 
 pub use field::{ListField, PathField, ReferenceField, TextField};
 pub use keys::{KeyRule, judge_key, put_comment, put_value, rule_shape};
-pub use names::{identifier_of, prim_below, text_of, variant_below, variant_of};
+pub use names::{identifier_of, prim_below, variant_below, variant_of};
 pub use owner::{OrderWord, OwnerDraft, OwnerMarks};
 pub use variants::give_selection_token;

@@ -1,97 +1,53 @@
 //! Names in quotes, and the paths of prims and variants below their owners.
 ghost use Rattle.std.specs.Prelude.{◌≡◌, ◌++◌, ◌∷◌, [], false, true, IfOk, OnOk};
-ghost use Rattle.std.specs.Str.{chars};
 ghost use Rattle.sdf_paths.specs.Paths.{IsPath, ends_selected, is_property, printed, written, written_all};
-ghost use Rattle.usd_names.specs.Names.{is_identifier, is_variant, spells_variant};
+ghost use Rattle.usd_names.specs.Names.{is_identifier, is_variant};
 ghost use Rattle.usda_lists.specs.Acts.{Gives};
-ghost use Rattle.usda_fields.specs.Names.{text_of, identifier_of, next_part, variant_of, prim_path, prim_below, has_variants, variant_path, variant_below};
+ghost use Rattle.usda_fields.specs.Names.{text_of, identifier_of, variant_of, prim_path, prim_below, has_variants, variant_path, variant_below};
 
 use plain_data::Text;
-use sdf_paths::{Element, MAX_BYTES, MAX_NAMES, Path, PathFault};
+use sdf_paths::{Element, MAX_BYTES, MAX_NAMES, Path, PathFault, is_variant};
 use sdf_values::RefusalKind;
 use std::alloc::{AllocError, Global};
-use usd_names::{is_identifier, is_variant_character};
+use usd_names::is_identifier;
 use usda_lexer::string_text;
-use usda_values::ActFault;
+use usda_values::PartFault;
 
 /// The text of a string token. `NotUtf8` where its escapes make bytes that are not UTF-8.
-pub fn text_of(alloc: Global, token: &str) -> Result<Text, ActFault>
+pub fn text_of(alloc: Global, token: &str) -> Result<Text, PartFault>
     ensures { Gives result (text_of token.now) }
 {
     match string_text(alloc, token)? {
         Some(text) => Ok(text),
-        None => Err(ActFault::Refused(RefusalKind::NotUtf8)),
+        None => Err(PartFault::Refused(RefusalKind::NotUtf8)),
     }
 }
 
 /// The name of a prim or of a variant set that a string token is: an identifier, else `Syntax`.
-pub fn identifier_of(alloc: Global, token: &str) -> Result<Text, ActFault>
+pub fn identifier_of(alloc: Global, token: &str) -> Result<Text, PartFault>
     ensures { Gives result (identifier_of token.now) }
 {
     let Some(name) = string_text(alloc, token)? else {
-        return Err(ActFault::Refused(RefusalKind::Syntax));
+        return Err(PartFault::Refused(RefusalKind::Syntax));
     };
     if is_identifier(name.as_str()) {
         Ok(name)
     } else {
-        Err(ActFault::Refused(RefusalKind::Syntax))
+        Err(PartFault::Refused(RefusalKind::Syntax))
     }
-}
-
-/// How much of the name of a variant is read.
-#[derive(Clone, Copy, Debug, PartialEq, Eq)]
-pub enum VariantPart {
-    /// Nothing.
-    Start,
-    /// The `.` before the name.
-    Dot,
-    /// The name, which may end here.
-    Run,
-}
-
-fn next_part(part: VariantPart, c: char) -> Option<VariantPart>
-    ensures { result ≡ next_part part c }
-{
-    if matches!(part, VariantPart::Start) && c == '.' {
-        Some(VariantPart::Dot)
-    } else if is_variant_character(c) {
-        Some(VariantPart::Run)
-    } else {
-        None
-    }
-}
-
-fn spells_variant(text: &str) -> bool
-    ensures { result ≡ spells_variant (chars text.now) }
-{
-    let mut part = VariantPart::Start;
-    for c in text.chars() {
-        match next_part(part, c) {
-            Some(next) => part = next,
-            None => return false,
-        }
-    }
-    matches!(part, VariantPart::Run)
-}
-
-// Whether the text is the name of a variant.
-fn is_variant(text: &str) -> bool
-    ensures { result ≡ is_variant text.now }
-{
-    spells_variant(text)
 }
 
 /// The name of a variant that a string token is, else `Syntax`.
-pub fn variant_of(alloc: Global, token: &str) -> Result<Text, ActFault>
+pub fn variant_of(alloc: Global, token: &str) -> Result<Text, PartFault>
     ensures { Gives result (variant_of token.now) }
 {
     let Some(name) = string_text(alloc, token)? else {
-        return Err(ActFault::Refused(RefusalKind::Syntax));
+        return Err(PartFault::Refused(RefusalKind::Syntax));
     };
     if is_variant(name.as_str()) {
         Ok(name)
     } else {
-        Err(ActFault::Refused(RefusalKind::Syntax))
+        Err(PartFault::Refused(RefusalKind::Syntax))
     }
 }
 
@@ -150,13 +106,13 @@ fn prim_text(alloc: Global, owner: &Path, name: &str) -> Result<Text, AllocError
     Ok(text)
 }
 
-fn prim_path(alloc: Global, owner: &Path, name: &str) -> Result<Option<Path>, ActFault>
+fn prim_path(alloc: Global, owner: &Path, name: &str) -> Result<Option<Path>, PartFault>
     requires owner { is_property owner.now ≡ false }
     requires name { is_identifier name.now ≡ true }
     ensures { Gives result (prim_path owner.now name.now) }
 {
     if prim_text(alloc, owner, name)?.len() > MAX_BYTES {
-        return Err(ActFault::Refused(RefusalKind::TooLong));
+        return Err(PartFault::Refused(RefusalKind::TooLong));
     }
     if owner.depth() >= MAX_NAMES {
         return Ok(None);
@@ -164,17 +120,17 @@ fn prim_path(alloc: Global, owner: &Path, name: &str) -> Result<Option<Path>, Ac
     match owner.append(name) {
         Ok(path) => Ok(Some(path)),
         Err(PathFault::Bad { .. }) => unreachable!(),
-        Err(PathFault::NoMemory) => Err(ActFault::NoMemory),
+        Err(PathFault::NoMemory) => Err(PartFault::NoMemory),
     }
 }
 
 /// The path of a prim below its owner; nothing where it would be a 65th prim inside each other. `TooLong` where it has more than 4,096
 /// bytes in print, `Syntax` where the name is no identifier or the owner a property.
-pub fn prim_below(alloc: Global, owner: &Path, name: &str) -> Result<Option<Path>, ActFault>
+pub fn prim_below(alloc: Global, owner: &Path, name: &str) -> Result<Option<Path>, PartFault>
     ensures { Gives result (prim_below owner.now name.now) }
 {
     if owner.is_property() || !is_identifier(name) {
-        return Err(ActFault::Refused(RefusalKind::Syntax));
+        return Err(PartFault::Refused(RefusalKind::Syntax));
     }
     prim_path(alloc, owner, name)
 }
@@ -191,7 +147,7 @@ fn variant_text(alloc: Global, owner: &Path, set: &str, variant: &str) -> Result
     Ok(text)
 }
 
-fn variant_path(alloc: Global, owner: &Path, set: &str, variant: &str) -> Result<Path, ActFault>
+fn variant_path(alloc: Global, owner: &Path, set: &str, variant: &str) -> Result<Path, PartFault>
     requires owner { has_variants owner.now ≡ true }
     requires set { is_identifier set.now ≡ true }
     requires variant { is_variant variant.now ≡ true }
@@ -199,12 +155,12 @@ fn variant_path(alloc: Global, owner: &Path, set: &str, variant: &str) -> Result
 {
     let text = variant_text(alloc, owner, set, variant)?;
     if text.len() > MAX_BYTES {
-        return Err(ActFault::Refused(RefusalKind::TooLong));
+        return Err(PartFault::Refused(RefusalKind::TooLong));
     }
     match Path::parse(alloc, text.as_str()) {
         Ok(path) => Ok(path),
         Err(PathFault::Bad { .. }) => unreachable!(),
-        Err(PathFault::NoMemory) => Err(ActFault::NoMemory),
+        Err(PathFault::NoMemory) => Err(PartFault::NoMemory),
     }
 }
 
@@ -221,12 +177,12 @@ pub fn variant_below(
     owner: &Path,
     set: &str,
     variant: &str,
-) -> Result<Path, ActFault>
+) -> Result<Path, PartFault>
     ensures { Gives result (variant_below owner.now set.now variant.now) }
 {
     if has_variants(owner) && is_identifier(set) && is_variant(variant) {
         variant_path(alloc, owner, set, variant)
     } else {
-        Err(ActFault::Refused(RefusalKind::Syntax))
+        Err(PartFault::Refused(RefusalKind::Syntax))
     }
 }

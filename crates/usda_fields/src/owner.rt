@@ -14,17 +14,24 @@ use spec_parts::{Spec, Specifier};
 use std::alloc::{AllocError, Global};
 use std::mem;
 use usda_lists::GivenLists;
-use usda_values::ActFault;
+use usda_values::PartFault;
 
 /// Which statements of an owner were given that it has once.
 #[derive(Clone, Copy, Debug, PartialEq, Eq)]
 pub struct OwnerMarks {
+    /// The lists of `inherits`.
     pub inherits: GivenLists,
+    /// The lists of `specializes`.
     pub specializes: GivenLists,
+    /// The lists of `references`.
     pub references: GivenLists,
+    /// The lists of `payload`.
     pub payloads: GivenLists,
+    /// The lists of `variantSets`.
     pub variant_sets: GivenLists,
+    /// The lists of `apiSchemas`.
     pub api_schemas: GivenLists,
+    /// The lists of `clipSets`.
     pub clip_sets: GivenLists,
     /// The dictionary of selected variants.
     pub variants: bool,
@@ -104,7 +111,7 @@ impl OwnerDraft {
 
     /// What a key of metadata expects, before its value is read. `DuplicateSpec` where it is there already, `Relocates` for the key of
     /// that name.
-    pub fn judge_key(&self, key: &Text) -> Result<KeyRule, ActFault>
+    pub fn judge_key(&self, key: &Text) -> Result<KeyRule, PartFault>
         ensures answer { Gives result (key_act key.now self.now) }
         ensures sure { AsksNoMemory result }
     {
@@ -112,7 +119,7 @@ impl OwnerDraft {
     }
 
     /// Puts the whole value of a key. `ValueShape` where the key does not take it.
-    pub fn put_value(&mut self, alloc: Global, key: Text, value: Value) -> Result<(), ActFault>
+    pub fn put_value(&mut self, alloc: Global, key: Text, value: Value) -> Result<(), PartFault>
         ensures { Does result self.new (value_act key value self.old) }
     {
         if let Err(fault) = put_value(alloc, &mut self.spec.body.meta, key, value) {
@@ -123,7 +130,7 @@ impl OwnerDraft {
 
     /// Puts a string that stands alone among the metadata. `NotUtf8` where its escapes make bytes that are not UTF-8, `DuplicateSpec`
     /// where there is a comment already.
-    pub fn put_comment(&mut self, alloc: Global, token: &str) -> Result<(), ActFault>
+    pub fn put_comment(&mut self, alloc: Global, token: &str) -> Result<(), PartFault>
         ensures { Does result self.new (comment_act token.now self.old) }
     {
         if let Err(fault) = put_comment(alloc, &mut self.spec.body.meta, token) {
@@ -133,20 +140,20 @@ impl OwnerDraft {
     }
 
     /// Takes the word of an order of names. `DuplicateSpec` where there was a statement of this word before.
-    pub fn give_order(&mut self, word: OrderWord) -> Result<(), ActFault>
+    pub fn give_order(&mut self, word: OrderWord) -> Result<(), PartFault>
         ensures answer { Does result self.new (order_act word self.old) }
         ensures sure { AsksNoMemory result }
     {
         match word {
             OrderWord::NameChildren => {
                 if self.given.child_order {
-                    return Err(ActFault::Refused(RefusalKind::DuplicateSpec));
+                    return Err(PartFault::Refused(RefusalKind::DuplicateSpec));
                 }
                 self.given.child_order = true;
             }
             OrderWord::PropertyNames => {
                 if self.given.property_order {
-                    return Err(ActFault::Refused(RefusalKind::DuplicateSpec));
+                    return Err(PartFault::Refused(RefusalKind::DuplicateSpec));
                 }
                 self.given.property_order = true;
             }
@@ -170,7 +177,7 @@ impl OwnerDraft {
         alloc: Global,
         word: OrderWord,
         token: &str,
-    ) -> Result<(), ActFault>
+    ) -> Result<(), PartFault>
         ensures { Does result self.new (ordered_act word token.now self.old) }
     {
         match text_of(alloc, token) {
@@ -183,12 +190,12 @@ impl OwnerDraft {
     }
 
     /// Takes the word `variants`. `DuplicateSpec` where it stood before.
-    pub fn give_variants(&mut self) -> Result<(), ActFault>
+    pub fn give_variants(&mut self) -> Result<(), PartFault>
         ensures answer { Does result self.new (variants_act self.old) }
         ensures sure { AsksNoMemory result }
     {
         if self.given.variants {
-            return Err(ActFault::Refused(RefusalKind::DuplicateSpec));
+            return Err(PartFault::Refused(RefusalKind::DuplicateSpec));
         }
         self.given.variants = true;
         Ok(())

@@ -8,7 +8,7 @@ use sdf_values::{DictItem, DictType, ElementType, RefusalKind, Value};
 use spec_properties::Selections;
 use std::alloc::{AllocError, Global};
 use usda_lexer::TokenKind;
-use usda_values::{ActFault, Place, ValueDraft};
+use usda_values::{PartFault, Place, ValueDraft};
 
 fn is_behind_type(place: Place) -> bool
     ensures { result ≡ is_behind_type place }
@@ -34,14 +34,14 @@ pub fn give_selection_token(
     draft: &mut ValueDraft,
     kind: TokenKind,
     text: &str,
-) -> Result<(), ActFault>
+) -> Result<(), PartFault>
     ensures { Does result draft.new (token_act kind text.now draft.old) }
 {
     if let Err(fault) = draft.give(kind, text) {
         return Err(fault);
     }
     if is_behind_type(draft.place) && !is_string(draft.level.ty) {
-        return Err(ActFault::Refused(RefusalKind::ValueShape));
+        return Err(PartFault::Refused(RefusalKind::ValueShape));
     }
     Ok(())
 }

@@ -1,14 +1,14 @@
 -- What holds of each kind of token holds of all. Written by tools/grammar.py.
 use Rattle.std.proofs.Common.{◌≡◌, ℕ, zero, suc, Bool, true, false, ◌&&◌, List, [], ◌∷◌, Option, Some, None, refl, ap, sym, ◌∙◌}
-use Rattle.usda_grammar.specs.declared.kinds.TokenKind.{TokenKind}
-use Rattle.usda_grammar.specs.declared.kinds.TokenKind.TheVariants as token
+use Rattle.usda_grammar.specs.declared.kinds.WordKind.{WordKind}
+use Rattle.usda_grammar.specs.declared.kinds.WordKind.TheVariants as token
 use Rattle.usda_grammar.specs.declared.kinds.Keyword.TheVariants as word
 
-abbrev pub kinds : List TokenKind
+abbrev pub kinds : List WordKind
 kinds =
     (token.Word word.Specifier) ∷ (token.Word word.StringField) ∷ (token.Word word.PathField) ∷ (token.Word word.ReferenceField) ∷ (token.Word word.Edit) ∷ (token.Word word.Reorder) ∷ (token.Word word.Variants) ∷ (token.Word word.VariantSet) ∷ (token.Word word.SubLayers) ∷ (token.Word word.RootPrims) ∷ (token.Word word.OrderedField) ∷ (token.Word word.Custom) ∷ (token.Word word.Variability) ∷ (token.Word word.Rel) ∷ (token.Word word.TimeSamples) ∷ (token.Word word.Connect) ∷ (token.Word word.Spline) ∷ (token.Word word.NoneWord) ∷ (token.Word word.Dictionary) ∷ (token.Word word.Other) ∷ token.Number ∷ token.Quoted ∷ token.Asset ∷ token.Path ∷ token.OpenParen ∷ token.CloseParen ∷ token.OpenBrace ∷ token.CloseBrace ∷ token.OpenBracket ∷ token.CloseBracket ∷ token.Equals ∷ token.Comma ∷ token.Semicolon ∷ token.Colon ∷ token.Dot ∷ token.Fault ∷ []
 
-abbrev pub all : (TokenKind → Bool) → List TokenKind → Bool
+abbrev pub all : (WordKind → Bool) → List WordKind → Bool
 all p [] = true
 all p (k ∷ ks) = p k && all p ks
 
@@ -20,18 +20,18 @@ pub back : (a b : Bool) → (a && b) ≡ true → b ≡ true
 back true b e = e
 back false b e = absurd cc
 
-abbrev at : List TokenKind → ℕ → Option TokenKind
+abbrev at : List WordKind → ℕ → Option WordKind
 at [] n = None
 at (k ∷ ks) zero = Some k
 at (k ∷ ks) (suc n) = at ks n
 
-all-at : (p : TokenKind → Bool) (ks : List TokenKind) → all p ks ≡ true → (n : ℕ) (k : TokenKind) → at ks n ≡ Some k → p k ≡ true
+all-at : (p : WordKind → Bool) (ks : List WordKind) → all p ks ≡ true → (n : ℕ) (k : WordKind) → at ks n ≡ Some k → p k ≡ true
 all-at p [] e n k same = absurd cc
 all-at p (x ∷ ks) e zero k same = let f : x ≡ k = cc in ap p (sym f) ∙ front (p x) (all p ks) e
 all-at p (x ∷ ks) e (suc n) k same = all-at p ks (back (p x) (all p ks) e) n k same
 
 -- a test that each kind passes
-pub all_kinds-at : (p : TokenKind → Bool) → all p kinds ≡ true → (k : TokenKind) → p k ≡ true
+pub all_kinds-at : (p : WordKind → Bool) → all p kinds ≡ true → (k : WordKind) → p k ≡ true
 all_kinds-at p e (token.Word word.Specifier) = all-at p kinds e 0 (token.Word word.Specifier) refl
 all_kinds-at p e (token.Word word.StringField) = all-at p kinds e 1 (token.Word word.StringField) refl
 all_kinds-at p e (token.Word word.PathField) = all-at p kinds e 2 (token.Word word.PathField) refl
@@ -70,7 +70,7 @@ all_kinds-at p e token.Dot = all-at p kinds e 34 token.Dot refl
 all_kinds-at p e token.Fault = all-at p kinds e 35 token.Fault refl
 
 -- a fact that each kind has
-pub by_kind : (P : TokenKind → Type 0) → P (token.Word word.Specifier) → P (token.Word word.StringField) → P (token.Word word.PathField) → P (token.Word word.ReferenceField) → P (token.Word word.Edit) → P (token.Word word.Reorder) → P (token.Word word.Variants) → P (token.Word word.VariantSet) → P (token.Word word.SubLayers) → P (token.Word word.RootPrims) → P (token.Word word.OrderedField) → P (token.Word word.Custom) → P (token.Word word.Variability) → P (token.Word word.Rel) → P (token.Word word.TimeSamples) → P (token.Word word.Connect) → P (token.Word word.Spline) → P (token.Word word.NoneWord) → P (token.Word word.Dictionary) → P (token.Word word.Other) → P token.Number → P token.Quoted → P token.Asset → P token.Path → P token.OpenParen → P token.CloseParen → P token.OpenBrace → P token.CloseBrace → P token.OpenBracket → P token.CloseBracket → P token.Equals → P token.Comma → P token.Semicolon → P token.Colon → P token.Dot → P token.Fault → (k : TokenKind) → P k
+pub by_kind : (P : WordKind → Type 0) → P (token.Word word.Specifier) → P (token.Word word.StringField) → P (token.Word word.PathField) → P (token.Word word.ReferenceField) → P (token.Word word.Edit) → P (token.Word word.Reorder) → P (token.Word word.Variants) → P (token.Word word.VariantSet) → P (token.Word word.SubLayers) → P (token.Word word.RootPrims) → P (token.Word word.OrderedField) → P (token.Word word.Custom) → P (token.Word word.Variability) → P (token.Word word.Rel) → P (token.Word word.TimeSamples) → P (token.Word word.Connect) → P (token.Word word.Spline) → P (token.Word word.NoneWord) → P (token.Word word.Dictionary) → P (token.Word word.Other) → P token.Number → P token.Quoted → P token.Asset → P token.Path → P token.OpenParen → P token.CloseParen → P token.OpenBrace → P token.CloseBrace → P token.OpenBracket → P token.CloseBracket → P token.Equals → P token.Comma → P token.Semicolon → P token.Colon → P token.Dot → P token.Fault → (k : WordKind) → P k
 by_kind P h0 h1 h2 h3 h4 h5 h6 h7 h8 h9 h10 h11 h12 h13 h14 h15 h16 h17 h18 h19 h20 h21 h22 h23 h24 h25 h26 h27 h28 h29 h30 h31 h32 h33 h34 h35 (token.Word word.Specifier) = h0
 by_kind P h0 h1 h2 h3 h4 h5 h6 h7 h8 h9 h10 h11 h12 h13 h14 h15 h16 h17 h18 h19 h20 h21 h22 h23 h24 h25 h26 h27 h28 h29 h30 h31 h32 h33 h34 h35 (token.Word word.StringField) = h1
 by_kind P h0 h1 h2 h3 h4 h5 h6 h7 h8 h9 h10 h11 h12 h13 h14 h15 h16 h17 h18 h19 h20 h21 h22 h23 h24 h25 h26 h27 h28 h29 h30 h31 h32 h33 h34 h35 (token.Word word.PathField) = h2

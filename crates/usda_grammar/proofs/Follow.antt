@@ -1,12 +1,12 @@
 -- The tokens that may follow a symbol that may be absent, or at whose end one stands; any token, where it does not matter. Written by tools/grammar.py.
 use Rattle.std.specs.Prelude.{Bool, true, false}
-use Rattle.usda_grammar.specs.declared.kinds.TokenKind.{TokenKind}
-use Rattle.usda_grammar.specs.declared.kinds.TokenKind.TheVariants as token
+use Rattle.usda_grammar.specs.declared.kinds.WordKind.{WordKind}
+use Rattle.usda_grammar.specs.declared.kinds.WordKind.TheVariants as token
 use Rattle.usda_grammar.specs.declared.kinds.Keyword.TheVariants as word
 use Rattle.usda_grammar.specs.declared.symbols.Symbol.{Symbol}
 use Rattle.usda_grammar.specs.declared.symbols.Symbol.TheVariants as symbol
 
-abbrev pub may_follow : Symbol → TokenKind → Bool
+abbrev pub may_follow : Symbol → WordKind → Bool
 may_follow symbol.MaybeSemicolon (token.Word w) = true
 may_follow symbol.MaybeSemicolon token.Quoted = true
 may_follow symbol.MaybeSemicolon token.CloseParen = true

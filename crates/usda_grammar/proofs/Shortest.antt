@@ -1,13 +1,13 @@
 -- Some text of each symbol. Written by tools/grammar.py.
 use Rattle.std.proofs.Common.{List, [], ◌∷◌, ◌++◌, refl}
-use Rattle.usda_grammar.specs.declared.kinds.TokenKind.{TokenKind}
-use Rattle.usda_grammar.specs.declared.kinds.TokenKind.TheVariants as token
+use Rattle.usda_grammar.specs.declared.kinds.WordKind.{WordKind}
+use Rattle.usda_grammar.specs.declared.kinds.WordKind.TheVariants as token
 use Rattle.usda_grammar.specs.declared.kinds.Keyword.TheVariants as word
 use Rattle.usda_grammar.specs.declared.symbols.Symbol.{Symbol}
 use Rattle.usda_grammar.specs.declared.symbols.Symbol.TheVariants as symbol
 use Rattle.usda_grammar.specs.Derivations.{skips, takes, AreText}
 
-abbrev pub shortest : Symbol → List TokenKind
+abbrev pub shortest : Symbol → List WordKind
 shortest symbol.Equals = token.Equals ∷ []
 shortest symbol.Colon = token.Colon ∷ []
 shortest symbol.Dot = token.Dot ∷ []
@@ -57,7 +57,7 @@ shortest symbol.MoreNames = token.CloseBracket ∷ []
 shortest s = []
 
 -- what stands behind a symbol, with the symbol's text before it
-pub with_shortest : (s : Symbol) (stack : List Symbol) (ks : List TokenKind) → AreText stack ks → AreText (s ∷ stack) (shortest s ++ ks)
+pub with_shortest : (s : Symbol) (stack : List Symbol) (ks : List WordKind) → AreText stack ks → AreText (s ∷ stack) (shortest s ++ ks)
 with_shortest symbol.Equals stack ks (d, h) = ((takes d), ([], refl, h))
 with_shortest symbol.Colon stack ks (d, h) = ((takes d), ([], refl, h))
 with_shortest symbol.Dot stack ks (d, h) = ((takes d), ([], refl, h))

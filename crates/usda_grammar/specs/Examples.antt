@@ -1,35 +1,35 @@
 -- Texts of tokens in the grammar and out of it.
 use Rattle.std.specs.Prelude.{◌≡◌, ℕ, ◌+◌, true, false, List, [], ◌∷◌, ◌++◌, codes, Option, Some, None}
-use Rattle.usda_grammar.specs.declared.kinds.TokenKind.{TokenKind}
-use Rattle.usda_grammar.specs.declared.kinds.TokenKind.TheVariants.{Number, Quoted, Asset, Path, OpenParen, CloseParen, OpenBrace, CloseBrace, OpenBracket, CloseBracket, Equals, Comma, Semicolon, Colon, Dot, Fault}
+use Rattle.usda_grammar.specs.declared.kinds.WordKind.{WordKind}
+use Rattle.usda_grammar.specs.declared.kinds.WordKind.TheVariants.{Number, Quoted, Asset, Path, OpenParen, CloseParen, OpenBrace, CloseBrace, OpenBracket, CloseBracket, Equals, Comma, Semicolon, Colon, Dot, Fault}
 use Rattle.usda_grammar.specs.declared.symbols.Symbol.{Symbol}
 use Rattle.usda_grammar.specs.Table.{layer}
 use Rattle.usda_grammar.specs.Machine.{step, is_done}
 use Rattle.usda_grammar.specs.Words.{kind_of_word}
 
 -- the place of the first token that is not taken, counted from 0; that of the end, where the text may not end there
-abbrev pub failing : List Symbol → ℕ → List TokenKind → Option ℕ
+abbrev pub failing : List Symbol → ℕ → List WordKind → Option ℕ
 failing stack n [] = elim (is_done stack) [ true ↦ None | false ↦ Some n ]
 failing stack n (k ∷ ks) = elim (step stack k) [ None ↦ Some n | Some next ↦ failing next.1 (n + 1) ks ]
 
 -- the tokens are a text of the grammar
-abbrev pub IsText : List TokenKind → Type 0
+abbrev pub IsText : List WordKind → Type 0
 IsText ks = failing layer 0 ks ≡ None
 
 -- the token at this place, or the end, is the first with which no text of the grammar goes on
-abbrev pub FailsAt : ℕ → List TokenKind → Type 0
+abbrev pub FailsAt : ℕ → List WordKind → Type 0
 FailsAt n ks = failing layer 0 ks ≡ Some n
 
 -- a name as a token of the grammar
-abbrev pub w : List ℕ → TokenKind
+abbrev pub w : List ℕ → WordKind
 w t = kind_of_word t
 
 -- a root prim with this body
-abbrev pub with_body : List TokenKind → List TokenKind
+abbrev pub with_body : List WordKind → List WordKind
 with_body ks = w (codes "def") ∷ Quoted ∷ OpenBrace ∷ ks ++ CloseBrace ∷ []
 
 -- a root prim with this metadata
-abbrev pub with_metadata : List TokenKind → List TokenKind
+abbrev pub with_metadata : List WordKind → List WordKind
 with_metadata ks = w (codes "over") ∷ Quoted ∷ OpenParen ∷ ks ++ CloseParen ∷ OpenBrace ∷ CloseBrace ∷ []
 
 -- texts of the grammar, and where others leave it

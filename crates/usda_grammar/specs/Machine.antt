@@ -1,6 +1,6 @@
 -- The machine that takes a text token by token.
 use Rattle.std.specs.Prelude.{Bool, true, false, ◌&&◌, List, [], ◌∷◌, ◌++◌, Option, Some, None}
-use Rattle.usda_grammar.specs.declared.kinds.TokenKind.{TokenKind}
+use Rattle.usda_grammar.specs.declared.kinds.WordKind.{WordKind}
 use Rattle.usda_grammar.specs.declared.symbols.Symbol.{Symbol}
 use Rattle.usda_grammar.specs.Table.{starts, may_be_absent}
 
@@ -11,7 +11,7 @@ choose s stack None true below = below
 choose s stack None false below = None
 
 -- the symbol that takes the token, and the symbols that are left
-abbrev pub step : List Symbol → TokenKind → Option (Symbol × List Symbol)
+abbrev pub step : List Symbol → WordKind → Option (Symbol × List Symbol)
 step [] k = None
 step (s ∷ stack) k = choose s stack (starts s k) (may_be_absent s) (step stack k)
 
@@ -21,7 +21,7 @@ left_behind None f = None
 left_behind (Some next) f = f next.1
 
 -- the symbols that are left behind these tokens
-abbrev pub steps : List Symbol → List TokenKind → Option (List Symbol)
+abbrev pub steps : List Symbol → List WordKind → Option (List Symbol)
 steps stack [] = Some stack
 steps stack (k ∷ ks) = left_behind (step stack k) (λ next. steps next ks)
 

@@ -1,6 +1,6 @@
 -- The table: what each symbol may begin with, and which symbols may be absent. Written by tools/grammar.py.
 use Rattle.std.specs.Prelude.{Bool, true, false, List, [], ◌∷◌, Option, Some, None}
-use Rattle.usda_grammar.specs.declared.kinds.TokenKind.{TokenKind}
+use Rattle.usda_grammar.specs.declared.kinds.WordKind.{WordKind}
 use Rattle.usda_grammar.specs.declared.symbols.Symbol.{Symbol}
 use Rattle.usda_grammar.specs.declared.symbols.Symbol.TheVariants as symbol
 use Rattle.usda_grammar.specs.Layers.{layers_starts}
@@ -18,7 +18,7 @@ some_of (Some after) rest = Some after
 some_of None rest = rest
 
 -- what follows a token that is the first of a symbol, where it may be the first
-abbrev pub starts : Symbol → TokenKind → Option (List Symbol)
+abbrev pub starts : Symbol → WordKind → Option (List Symbol)
 starts s k = some_of (layers_starts s k) (some_of (prims_starts s k) (some_of (properties_starts s k) (values_starts s k)))
 
 -- nothing may stand for the symbol

@@ -1,13 +1,13 @@
 -- What may come next: values, dictionaries and lists of names. Written by tools/grammar.py.
 use Rattle.std.specs.Prelude.{List, [], ◌∷◌, Option, Some, None}
-use Rattle.usda_grammar.specs.declared.kinds.TokenKind.{TokenKind}
-use Rattle.usda_grammar.specs.declared.kinds.TokenKind.TheVariants as token
+use Rattle.usda_grammar.specs.declared.kinds.WordKind.{WordKind}
+use Rattle.usda_grammar.specs.declared.kinds.WordKind.TheVariants as token
 use Rattle.usda_grammar.specs.declared.kinds.Keyword.TheVariants as word
 use Rattle.usda_grammar.specs.declared.symbols.Symbol.{Symbol}
 use Rattle.usda_grammar.specs.declared.symbols.Symbol.TheVariants as symbol
 
 -- a value
-abbrev pub value : TokenKind → Option (List Symbol)
+abbrev pub value : WordKind → Option (List Symbol)
 value (token.Word w) = Some ([])
 value token.Number = Some ([])
 value token.Quoted = Some ([])
@@ -19,7 +19,7 @@ value token.OpenBrace = Some (symbol.DictionaryEntries ∷ symbol.CloseBrace ∷
 value k = None
 
 -- the next of the members of a tuple, or the end of them
-abbrev pub members_or_end : TokenKind → Option (List Symbol)
+abbrev pub members_or_end : WordKind → Option (List Symbol)
 members_or_end (token.Word w) = Some (symbol.MoreMembers ∷ [])
 members_or_end token.CloseParen = Some ([])
 members_or_end token.Number = Some (symbol.MoreMembers ∷ [])
@@ -32,13 +32,13 @@ members_or_end token.OpenBrace = Some (symbol.DictionaryEntries ∷ symbol.Close
 members_or_end k = None
 
 -- what follows one of the members of a tuple
-abbrev pub more_members : TokenKind → Option (List Symbol)
+abbrev pub more_members : WordKind → Option (List Symbol)
 more_members token.Comma = Some (symbol.MembersOrEnd ∷ [])
 more_members token.CloseParen = Some ([])
 more_members k = None
 
 -- the next of the elements of an array, or the end of them
-abbrev pub elements_or_end : TokenKind → Option (List Symbol)
+abbrev pub elements_or_end : WordKind → Option (List Symbol)
 elements_or_end (token.Word w) = Some (symbol.MoreElements ∷ [])
 elements_or_end token.CloseBracket = Some ([])
 elements_or_end token.Number = Some (symbol.MoreElements ∷ [])
@@ -51,53 +51,53 @@ elements_or_end token.OpenBrace = Some (symbol.DictionaryEntries ∷ symbol.Clos
 elements_or_end k = None
 
 -- what follows one of the elements of an array
-abbrev pub more_elements : TokenKind → Option (List Symbol)
+abbrev pub more_elements : WordKind → Option (List Symbol)
 more_elements token.Comma = Some (symbol.ElementsOrEnd ∷ [])
 more_elements token.CloseBracket = Some ([])
 more_elements k = None
 
 -- a dictionary
-abbrev pub dictionary : TokenKind → Option (List Symbol)
+abbrev pub dictionary : WordKind → Option (List Symbol)
 dictionary token.OpenBrace = Some (symbol.DictionaryEntries ∷ symbol.CloseBrace ∷ [])
 dictionary k = None
 
 -- the entries of a dictionary
-abbrev pub dictionary_entries : TokenKind → Option (List Symbol)
+abbrev pub dictionary_entries : WordKind → Option (List Symbol)
 dictionary_entries (token.Word word.Dictionary) = Some (symbol.EntryKey ∷ symbol.Equals ∷ symbol.Value ∷ symbol.MaybeSeparator ∷ symbol.DictionaryEntries ∷ [])
 dictionary_entries (token.Word w) = Some (symbol.MaybeBrackets ∷ symbol.EntryKey ∷ symbol.Equals ∷ symbol.Value ∷ symbol.MaybeSeparator ∷ symbol.DictionaryEntries ∷ [])
 dictionary_entries k = None
 
 -- the key of an entry
-abbrev pub entry_key : TokenKind → Option (List Symbol)
+abbrev pub entry_key : WordKind → Option (List Symbol)
 entry_key (token.Word w) = Some ([])
 entry_key token.Quoted = Some ([])
 entry_key k = None
 
 -- `;` or `,`, or nothing
-abbrev pub maybe_separator : TokenKind → Option (List Symbol)
+abbrev pub maybe_separator : WordKind → Option (List Symbol)
 maybe_separator token.Semicolon = Some ([])
 maybe_separator token.Comma = Some ([])
 maybe_separator k = None
 
 -- a list of names in quotes
-abbrev pub name_list : TokenKind → Option (List Symbol)
+abbrev pub name_list : WordKind → Option (List Symbol)
 name_list token.OpenBracket = Some (symbol.NamesOrEnd ∷ [])
 name_list k = None
 
 -- the next of the names, or the end of them
-abbrev pub names_or_end : TokenKind → Option (List Symbol)
+abbrev pub names_or_end : WordKind → Option (List Symbol)
 names_or_end token.CloseBracket = Some ([])
 names_or_end token.Quoted = Some (symbol.MoreNames ∷ [])
 names_or_end k = None
 
 -- what follows one of the names
-abbrev pub more_names : TokenKind → Option (List Symbol)
+abbrev pub more_names : WordKind → Option (List Symbol)
 more_names token.Comma = Some (symbol.NamesOrEnd ∷ [])
 more_names token.CloseBracket = Some ([])
 more_names k = None
 
 -- the symbols of this part
-abbrev pub values_starts : Symbol → TokenKind → Option (List Symbol)
+abbrev pub values_starts : Symbol → WordKind → Option (List Symbol)
 values_starts symbol.Value k = value k
 values_starts symbol.MembersOrEnd k = members_or_end k
 values_starts symbol.MoreMembers k = more_members k

@@ -3,8 +3,8 @@ use Rattle.std.specs.Prelude.{ℕ, Bool, ◌||◌, ◌==◌, if◌then◌else◌
 use Rattle.std.specs.Cmp.Lexicographic.{pointwise}
 use Rattle.usda_grammar.specs.declared.kinds.Keyword.{Keyword}
 use Rattle.usda_grammar.specs.declared.kinds.Keyword.TheVariants as word
-use Rattle.usda_grammar.specs.declared.kinds.TokenKind.{TokenKind}
-use Rattle.usda_grammar.specs.declared.kinds.TokenKind.TheVariants as token
+use Rattle.usda_grammar.specs.declared.kinds.WordKind.{WordKind}
+use Rattle.usda_grammar.specs.declared.kinds.WordKind.TheVariants as token
 
 -- the name is this word, byte by byte
 abbrev pub is : List ℕ → List ℕ → Bool
@@ -58,5 +58,5 @@ abbrev pub keyword_of : List ℕ → Keyword
 keyword_of t = or_else (prim_word t) (or_else (property_word t) (or_else (field_word t) (or_else (layer_word t) word.Other)))
 
 -- a name as a token of the grammar
-abbrev pub kind_of_word : List ℕ → TokenKind
+abbrev pub kind_of_word : List ℕ → WordKind
 kind_of_word t = token.Word (keyword_of t)

@@ -1,4 +1,4 @@
-// What a token is, as far as the grammar cares.
+// What a word is to the grammar.
 ghost use Rattle.std.specs.Prelude.{◌≡◌};
 ghost use Rattle.usda_grammar.specs.Words.{keyword_of, kind_of_word, layer_word, prim_word, field_word, property_word};
 
@@ -45,28 +45,44 @@ pub enum Keyword {
     NoneWord,
     /// `dictionary`.
     Dictionary,
+    /// Any other name.
     Other,
 }
 
-/// What a token is.
+/// What a word is to the grammar: the kind of its token, and of a name which word it is.
 #[derive(Clone, Copy, Debug, PartialEq, Eq)]
-pub enum TokenKind {
+pub enum WordKind {
+    /// A name, by the word that it is.
     Word(Keyword),
+    /// A number.
     Number,
     /// A string in quotes.
     Quoted,
+    /// An asset between `@`.
     Asset,
+    /// A path between `<` and `>`.
     Path,
+    /// `(`.
     OpenParen,
+    /// `)`.
     CloseParen,
+    /// `{`.
     OpenBrace,
+    /// `}`.
     CloseBrace,
+    /// `[`.
     OpenBracket,
+    /// `]`.
     CloseBracket,
+    /// `=`.
     Equals,
+    /// `,`.
     Comma,
+    /// `;`.
     Semicolon,
+    /// `:`.
     Colon,
+    /// `.`.
     Dot,
     /// What no text goes on with wherever it stands: what is no token, and a `.` with a blank beside it, or the word
     /// behind that blank.
@@ -74,10 +90,10 @@ pub enum TokenKind {
 }
 
 /// The kind of a token that is a name.
-pub fn kind_of_word(text: &str) -> TokenKind
+pub fn kind_of_word(text: &str) -> WordKind
     ensures { result ≡ kind_of_word text.now }
 {
-    TokenKind::Word(keyword_of(text))
+    WordKind::Word(keyword_of(text))
 }
 
 /// The word that a name is.

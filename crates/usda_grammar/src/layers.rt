@@ -3,221 +3,221 @@ ghost use Rattle.std.specs.Option.{option_map};
 ghost use Rattle.std.specs.Prelude.{◌≡◌, List};
 ghost use Rattle.usda_grammar.specs.Layers.{equals, colon, dot, close_paren, open_brace, close_brace, close_bracket, root_prims, offset_number, body_end, prim_name, set_name, maybe_semicolon, maybe_head, head_items, sub_layer_list, sub_layers_or_end, more_sub_layers, maybe_offsets, offset_items, root_statements, layers_starts};
 
-use crate::kinds::{Keyword, TokenKind};
+use crate::kinds::{Keyword, WordKind};
 use crate::symbols::Symbol;
 
 const NONE: &[Symbol] = &[];
 
 /// `=`.
-fn equals(kind: TokenKind) -> Option<&'static [Symbol]>
+fn equals(kind: WordKind) -> Option<&'static [Symbol]>
     ensures { option_map (λ s. s.now) result ≡ equals kind }
 {
     match kind {
-        TokenKind::Equals => Some(NONE),
+        WordKind::Equals => Some(NONE),
         _ => None,
     }
 }
 
 /// `:`.
-fn colon(kind: TokenKind) -> Option<&'static [Symbol]>
+fn colon(kind: WordKind) -> Option<&'static [Symbol]>
     ensures { option_map (λ s. s.now) result ≡ colon kind }
 {
     match kind {
-        TokenKind::Colon => Some(NONE),
+        WordKind::Colon => Some(NONE),
         _ => None,
     }
 }
 
 /// `.`.
-fn dot(kind: TokenKind) -> Option<&'static [Symbol]>
+fn dot(kind: WordKind) -> Option<&'static [Symbol]>
     ensures { option_map (λ s. s.now) result ≡ dot kind }
 {
     match kind {
-        TokenKind::Dot => Some(NONE),
+        WordKind::Dot => Some(NONE),
         _ => None,
     }
 }
 
 /// `)`.
-fn close_paren(kind: TokenKind) -> Option<&'static [Symbol]>
+fn close_paren(kind: WordKind) -> Option<&'static [Symbol]>
     ensures { option_map (λ s. s.now) result ≡ close_paren kind }
 {
     match kind {
-        TokenKind::CloseParen => Some(NONE),
+        WordKind::CloseParen => Some(NONE),
         _ => None,
     }
 }
 
 /// `{`.
-fn open_brace(kind: TokenKind) -> Option<&'static [Symbol]>
+fn open_brace(kind: WordKind) -> Option<&'static [Symbol]>
     ensures { option_map (λ s. s.now) result ≡ open_brace kind }
 {
     match kind {
-        TokenKind::OpenBrace => Some(NONE),
+        WordKind::OpenBrace => Some(NONE),
         _ => None,
     }
 }
 
 /// `}`.
-fn close_brace(kind: TokenKind) -> Option<&'static [Symbol]>
+fn close_brace(kind: WordKind) -> Option<&'static [Symbol]>
     ensures { option_map (λ s. s.now) result ≡ close_brace kind }
 {
     match kind {
-        TokenKind::CloseBrace => Some(NONE),
+        WordKind::CloseBrace => Some(NONE),
         _ => None,
     }
 }
 
 /// `]`.
-fn close_bracket(kind: TokenKind) -> Option<&'static [Symbol]>
+fn close_bracket(kind: WordKind) -> Option<&'static [Symbol]>
     ensures { option_map (λ s. s.now) result ≡ close_bracket kind }
 {
     match kind {
-        TokenKind::CloseBracket => Some(NONE),
+        WordKind::CloseBracket => Some(NONE),
         _ => None,
     }
 }
 
 /// The word `rootPrims`.
-fn root_prims(kind: TokenKind) -> Option<&'static [Symbol]>
+fn root_prims(kind: WordKind) -> Option<&'static [Symbol]>
     ensures { option_map (λ s. s.now) result ≡ root_prims kind }
 {
     match kind {
-        TokenKind::Word(Keyword::RootPrims) => Some(NONE),
+        WordKind::Word(Keyword::RootPrims) => Some(NONE),
         _ => None,
     }
 }
 
 /// The number of an offset or a scale.
-fn offset_number(kind: TokenKind) -> Option<&'static [Symbol]>
+fn offset_number(kind: WordKind) -> Option<&'static [Symbol]>
     ensures { option_map (λ s. s.now) result ≡ offset_number kind }
 {
     match kind {
-        TokenKind::Number => Some(NONE),
+        WordKind::Number => Some(NONE),
         _ => None,
     }
 }
 
 /// The `}` behind the statements of a prim or a variant.
-fn body_end(kind: TokenKind) -> Option<&'static [Symbol]>
+fn body_end(kind: WordKind) -> Option<&'static [Symbol]>
     ensures { option_map (λ s. s.now) result ≡ body_end kind }
 {
     match kind {
-        TokenKind::CloseBrace => Some(NONE),
+        WordKind::CloseBrace => Some(NONE),
         _ => None,
     }
 }
 
 /// The name of a prim, in quotes.
-fn prim_name(kind: TokenKind) -> Option<&'static [Symbol]>
+fn prim_name(kind: WordKind) -> Option<&'static [Symbol]>
     ensures { option_map (λ s. s.now) result ≡ prim_name kind }
 {
     match kind {
-        TokenKind::Quoted => Some(NONE),
+        WordKind::Quoted => Some(NONE),
         _ => None,
     }
 }
 
 /// The name of a variant set, in quotes.
-fn set_name(kind: TokenKind) -> Option<&'static [Symbol]>
+fn set_name(kind: WordKind) -> Option<&'static [Symbol]>
     ensures { option_map (λ s. s.now) result ≡ set_name kind }
 {
     match kind {
-        TokenKind::Quoted => Some(NONE),
+        WordKind::Quoted => Some(NONE),
         _ => None,
     }
 }
 
 /// `;`, or nothing.
-fn maybe_semicolon(kind: TokenKind) -> Option<&'static [Symbol]>
+fn maybe_semicolon(kind: WordKind) -> Option<&'static [Symbol]>
     ensures { option_map (λ s. s.now) result ≡ maybe_semicolon kind }
 {
     match kind {
-        TokenKind::Semicolon => Some(NONE),
+        WordKind::Semicolon => Some(NONE),
         _ => None,
     }
 }
 
 /// The metadata of the layer in brackets, or nothing.
-fn maybe_head(kind: TokenKind) -> Option<&'static [Symbol]>
+fn maybe_head(kind: WordKind) -> Option<&'static [Symbol]>
     ensures { option_map (λ s. s.now) result ≡ maybe_head kind }
 {
     match kind {
-        TokenKind::OpenParen => Some(&[Symbol::HeadItems, Symbol::CloseParen]),
+        WordKind::OpenParen => Some(&[Symbol::HeadItems, Symbol::CloseParen]),
         _ => None,
     }
 }
 
 /// The metadata of the layer.
-fn head_items(kind: TokenKind) -> Option<&'static [Symbol]>
+fn head_items(kind: WordKind) -> Option<&'static [Symbol]>
     ensures { option_map (λ s. s.now) result ≡ head_items kind }
 {
     match kind {
-        TokenKind::Word(Keyword::SubLayers) => Some(&[
+        WordKind::Word(Keyword::SubLayers) => Some(&[
             Symbol::Equals,
             Symbol::SubLayerList,
             Symbol::MaybeSemicolon,
             Symbol::HeadItems,
         ]),
-        TokenKind::Word(_) => Some(&[
+        WordKind::Word(_) => Some(&[
             Symbol::Equals,
             Symbol::Value,
             Symbol::MaybeSemicolon,
             Symbol::HeadItems,
         ]),
-        TokenKind::Quoted => Some(&[Symbol::MaybeSemicolon, Symbol::HeadItems]),
+        WordKind::Quoted => Some(&[Symbol::MaybeSemicolon, Symbol::HeadItems]),
         _ => None,
     }
 }
 
 /// The list of sublayers.
-fn sub_layer_list(kind: TokenKind) -> Option<&'static [Symbol]>
+fn sub_layer_list(kind: WordKind) -> Option<&'static [Symbol]>
     ensures { option_map (λ s. s.now) result ≡ sub_layer_list kind }
 {
     match kind {
-        TokenKind::OpenBracket => Some(&[Symbol::SubLayersOrEnd]),
+        WordKind::OpenBracket => Some(&[Symbol::SubLayersOrEnd]),
         _ => None,
     }
 }
 
 /// The next of the sublayers, or the end of them.
-fn sub_layers_or_end(kind: TokenKind) -> Option<&'static [Symbol]>
+fn sub_layers_or_end(kind: WordKind) -> Option<&'static [Symbol]>
     ensures { option_map (λ s. s.now) result ≡ sub_layers_or_end kind }
 {
     match kind {
-        TokenKind::CloseBracket => Some(NONE),
-        TokenKind::Asset => Some(&[Symbol::MaybeOffsets, Symbol::MoreSubLayers]),
+        WordKind::CloseBracket => Some(NONE),
+        WordKind::Asset => Some(&[Symbol::MaybeOffsets, Symbol::MoreSubLayers]),
         _ => None,
     }
 }
 
 /// What follows one of the sublayers.
-fn more_sub_layers(kind: TokenKind) -> Option<&'static [Symbol]>
+fn more_sub_layers(kind: WordKind) -> Option<&'static [Symbol]>
     ensures { option_map (λ s. s.now) result ≡ more_sub_layers kind }
 {
     match kind {
-        TokenKind::Comma => Some(&[Symbol::SubLayersOrEnd]),
-        TokenKind::CloseBracket => Some(NONE),
+        WordKind::Comma => Some(&[Symbol::SubLayersOrEnd]),
+        WordKind::CloseBracket => Some(NONE),
         _ => None,
     }
 }
 
 /// Offset and scale in brackets, or nothing.
-fn maybe_offsets(kind: TokenKind) -> Option<&'static [Symbol]>
+fn maybe_offsets(kind: WordKind) -> Option<&'static [Symbol]>
     ensures { option_map (λ s. s.now) result ≡ maybe_offsets kind }
 {
     match kind {
-        TokenKind::OpenParen => Some(&[Symbol::OffsetItems, Symbol::CloseParen]),
+        WordKind::OpenParen => Some(&[Symbol::OffsetItems, Symbol::CloseParen]),
         _ => None,
     }
 }
 
 /// Offset and scale.
-fn offset_items(kind: TokenKind) -> Option<&'static [Symbol]>
+fn offset_items(kind: WordKind) -> Option<&'static [Symbol]>
     ensures { option_map (λ s. s.now) result ≡ offset_items kind }
 {
     match kind {
-        TokenKind::Word(_) => Some(&[
+        WordKind::Word(_) => Some(&[
             Symbol::Equals,
             Symbol::OffsetNumber,
             Symbol::MaybeSemicolon,
@@ -228,11 +228,11 @@ fn offset_items(kind: TokenKind) -> Option<&'static [Symbol]>
 }
 
 /// The root prims, and the orders of them.
-fn root_statements(kind: TokenKind) -> Option<&'static [Symbol]>
+fn root_statements(kind: WordKind) -> Option<&'static [Symbol]>
     ensures { option_map (λ s. s.now) result ≡ root_statements kind }
 {
     match kind {
-        TokenKind::Word(Keyword::Specifier) => Some(&[
+        WordKind::Word(Keyword::Specifier) => Some(&[
             Symbol::MaybeTypeName,
             Symbol::PrimName,
             Symbol::MaybePrimMetadata,
@@ -242,7 +242,7 @@ fn root_statements(kind: TokenKind) -> Option<&'static [Symbol]>
             Symbol::MaybeSemicolon,
             Symbol::RootStatements,
         ]),
-        TokenKind::Word(Keyword::Reorder) => Some(&[
+        WordKind::Word(Keyword::Reorder) => Some(&[
             Symbol::RootPrims,
             Symbol::Equals,
             Symbol::NameList,
@@ -254,7 +254,7 @@ fn root_statements(kind: TokenKind) -> Option<&'static [Symbol]>
 }
 
 /// What follows a token that is the first of a symbol of this part, where it may be the first.
-pub fn starts(symbol: Symbol, kind: TokenKind) -> Option<&'static [Symbol]>
+pub fn starts(symbol: Symbol, kind: WordKind) -> Option<&'static [Symbol]>
     ensures { option_map (λ s. s.now) result ≡ layers_starts symbol kind }
 {
     match symbol {

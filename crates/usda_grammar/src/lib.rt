@@ -14,7 +14,7 @@ mod symbols;
 mod table;
 mod values;
 
-pub use kinds::{Keyword, TokenKind, keyword_of, kind_of_word};
+pub use kinds::{Keyword, WordKind, keyword_of, kind_of_word};
 pub use laws::{
     accepted_is_text, examples_are_told, refused_has_no_text, taken_has_text,
     text_has_one_derivation,

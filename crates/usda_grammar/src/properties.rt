@@ -3,17 +3,17 @@ ghost use Rattle.std.specs.Option.{option_map};
 ghost use Rattle.std.specs.Prelude.{◌≡◌, List};
 ghost use Rattle.usda_grammar.specs.Properties.{prim_body, after_custom, after_variability, after_edit, after_reorder, after_edited_custom, after_edited_variability, maybe_brackets, property_name, maybe_attribute_tail, after_dot, connect_word, samples_or_end, more_samples, maybe_targets, maybe_property_metadata, property_metadata, properties_starts};
 
-use crate::kinds::{Keyword, TokenKind};
+use crate::kinds::{Keyword, WordKind};
 use crate::symbols::Symbol;
 
 const NONE: &[Symbol] = &[];
 
 /// The statements of a prim or a variant.
-fn prim_body(kind: TokenKind) -> Option<&'static [Symbol]>
+fn prim_body(kind: WordKind) -> Option<&'static [Symbol]>
     ensures { option_map (λ s. s.now) result ≡ prim_body kind }
 {
     match kind {
-        TokenKind::Word(Keyword::Specifier) => Some(&[
+        WordKind::Word(Keyword::Specifier) => Some(&[
             Symbol::MaybeTypeName,
             Symbol::PrimName,
             Symbol::MaybePrimMetadata,
@@ -23,17 +23,17 @@ fn prim_body(kind: TokenKind) -> Option<&'static [Symbol]>
             Symbol::MaybeSemicolon,
             Symbol::PrimBody,
         ]),
-        TokenKind::Word(Keyword::Edit) => Some(&[
+        WordKind::Word(Keyword::Edit) => Some(&[
             Symbol::AfterEdit,
             Symbol::MaybeSemicolon,
             Symbol::PrimBody,
         ]),
-        TokenKind::Word(Keyword::Reorder) => Some(&[
+        WordKind::Word(Keyword::Reorder) => Some(&[
             Symbol::AfterReorder,
             Symbol::MaybeSemicolon,
             Symbol::PrimBody,
         ]),
-        TokenKind::Word(Keyword::VariantSet) => Some(&[
+        WordKind::Word(Keyword::VariantSet) => Some(&[
             Symbol::SetName,
             Symbol::Equals,
             Symbol::OpenBrace,
@@ -42,24 +42,24 @@ fn prim_body(kind: TokenKind) -> Option<&'static [Symbol]>
             Symbol::MaybeSemicolon,
             Symbol::PrimBody,
         ]),
-        TokenKind::Word(Keyword::Custom) => Some(&[
+        WordKind::Word(Keyword::Custom) => Some(&[
             Symbol::AfterCustom,
             Symbol::MaybeSemicolon,
             Symbol::PrimBody,
         ]),
-        TokenKind::Word(Keyword::Variability) => Some(&[
+        WordKind::Word(Keyword::Variability) => Some(&[
             Symbol::AfterVariability,
             Symbol::MaybeSemicolon,
             Symbol::PrimBody,
         ]),
-        TokenKind::Word(Keyword::Rel) => Some(&[
+        WordKind::Word(Keyword::Rel) => Some(&[
             Symbol::PropertyName,
             Symbol::MaybeTargets,
             Symbol::MaybePropertyMetadata,
             Symbol::MaybeSemicolon,
             Symbol::PrimBody,
         ]),
-        TokenKind::Word(_) => Some(&[
+        WordKind::Word(_) => Some(&[
             Symbol::MaybeBrackets,
             Symbol::PropertyName,
             Symbol::MaybeAttributeTail,
@@ -71,17 +71,17 @@ fn prim_body(kind: TokenKind) -> Option<&'static [Symbol]>
 }
 
 /// What follows `custom`.
-fn after_custom(kind: TokenKind) -> Option<&'static [Symbol]>
+fn after_custom(kind: WordKind) -> Option<&'static [Symbol]>
     ensures { option_map (λ s. s.now) result ≡ after_custom kind }
 {
     match kind {
-        TokenKind::Word(Keyword::Variability) => Some(&[Symbol::AfterVariability]),
-        TokenKind::Word(Keyword::Rel) => Some(&[
+        WordKind::Word(Keyword::Variability) => Some(&[Symbol::AfterVariability]),
+        WordKind::Word(Keyword::Rel) => Some(&[
             Symbol::PropertyName,
             Symbol::MaybeTargets,
             Symbol::MaybePropertyMetadata,
         ]),
-        TokenKind::Word(_) => Some(&[
+        WordKind::Word(_) => Some(&[
             Symbol::MaybeBrackets,
             Symbol::PropertyName,
             Symbol::MaybeAttributeTail,
@@ -91,16 +91,16 @@ fn after_custom(kind: TokenKind) -> Option<&'static [Symbol]>
 }
 
 /// What follows `uniform` or `varying`.
-fn after_variability(kind: TokenKind) -> Option<&'static [Symbol]>
+fn after_variability(kind: WordKind) -> Option<&'static [Symbol]>
     ensures { option_map (λ s. s.now) result ≡ after_variability kind }
 {
     match kind {
-        TokenKind::Word(Keyword::Rel) => Some(&[
+        WordKind::Word(Keyword::Rel) => Some(&[
             Symbol::PropertyName,
             Symbol::MaybeTargets,
             Symbol::MaybePropertyMetadata,
         ]),
-        TokenKind::Word(_) => Some(&[
+        WordKind::Word(_) => Some(&[
             Symbol::MaybeBrackets,
             Symbol::PropertyName,
             Symbol::MaybeAttributeTail,
@@ -110,18 +110,18 @@ fn after_variability(kind: TokenKind) -> Option<&'static [Symbol]>
 }
 
 /// What follows an edit word.
-fn after_edit(kind: TokenKind) -> Option<&'static [Symbol]>
+fn after_edit(kind: WordKind) -> Option<&'static [Symbol]>
     ensures { option_map (λ s. s.now) result ≡ after_edit kind }
 {
     match kind {
-        TokenKind::Word(Keyword::Custom) => Some(&[Symbol::AfterEditedCustom]),
-        TokenKind::Word(Keyword::Variability) => Some(&[Symbol::AfterEditedVariability]),
-        TokenKind::Word(Keyword::Rel) => Some(&[
+        WordKind::Word(Keyword::Custom) => Some(&[Symbol::AfterEditedCustom]),
+        WordKind::Word(Keyword::Variability) => Some(&[Symbol::AfterEditedVariability]),
+        WordKind::Word(Keyword::Rel) => Some(&[
             Symbol::PropertyName,
             Symbol::MaybeTargets,
             Symbol::MaybePropertyMetadata,
         ]),
-        TokenKind::Word(_) => Some(&[
+        WordKind::Word(_) => Some(&[
             Symbol::MaybeBrackets,
             Symbol::PropertyName,
             Symbol::Dot,
@@ -132,19 +132,19 @@ fn after_edit(kind: TokenKind) -> Option<&'static [Symbol]>
 }
 
 /// What follows `reorder`.
-fn after_reorder(kind: TokenKind) -> Option<&'static [Symbol]>
+fn after_reorder(kind: WordKind) -> Option<&'static [Symbol]>
     ensures { option_map (λ s. s.now) result ≡ after_reorder kind }
 {
     match kind {
-        TokenKind::Word(Keyword::OrderedField) => Some(&[Symbol::Equals, Symbol::NameList]),
-        TokenKind::Word(Keyword::Custom) => Some(&[Symbol::AfterEditedCustom]),
-        TokenKind::Word(Keyword::Variability) => Some(&[Symbol::AfterEditedVariability]),
-        TokenKind::Word(Keyword::Rel) => Some(&[
+        WordKind::Word(Keyword::OrderedField) => Some(&[Symbol::Equals, Symbol::NameList]),
+        WordKind::Word(Keyword::Custom) => Some(&[Symbol::AfterEditedCustom]),
+        WordKind::Word(Keyword::Variability) => Some(&[Symbol::AfterEditedVariability]),
+        WordKind::Word(Keyword::Rel) => Some(&[
             Symbol::PropertyName,
             Symbol::MaybeTargets,
             Symbol::MaybePropertyMetadata,
         ]),
-        TokenKind::Word(_) => Some(&[
+        WordKind::Word(_) => Some(&[
             Symbol::MaybeBrackets,
             Symbol::PropertyName,
             Symbol::Dot,
@@ -155,17 +155,17 @@ fn after_reorder(kind: TokenKind) -> Option<&'static [Symbol]>
 }
 
 /// What follows an edit word and `custom`.
-fn after_edited_custom(kind: TokenKind) -> Option<&'static [Symbol]>
+fn after_edited_custom(kind: WordKind) -> Option<&'static [Symbol]>
     ensures { option_map (λ s. s.now) result ≡ after_edited_custom kind }
 {
     match kind {
-        TokenKind::Word(Keyword::Variability) => Some(&[Symbol::AfterEditedVariability]),
-        TokenKind::Word(Keyword::Rel) => Some(&[
+        WordKind::Word(Keyword::Variability) => Some(&[Symbol::AfterEditedVariability]),
+        WordKind::Word(Keyword::Rel) => Some(&[
             Symbol::PropertyName,
             Symbol::MaybeTargets,
             Symbol::MaybePropertyMetadata,
         ]),
-        TokenKind::Word(_) => Some(&[
+        WordKind::Word(_) => Some(&[
             Symbol::MaybeBrackets,
             Symbol::PropertyName,
             Symbol::Dot,
@@ -176,16 +176,16 @@ fn after_edited_custom(kind: TokenKind) -> Option<&'static [Symbol]>
 }
 
 /// What follows an edit word and `uniform` or `varying`.
-fn after_edited_variability(kind: TokenKind) -> Option<&'static [Symbol]>
+fn after_edited_variability(kind: WordKind) -> Option<&'static [Symbol]>
     ensures { option_map (λ s. s.now) result ≡ after_edited_variability kind }
 {
     match kind {
-        TokenKind::Word(Keyword::Rel) => Some(&[
+        WordKind::Word(Keyword::Rel) => Some(&[
             Symbol::PropertyName,
             Symbol::MaybeTargets,
             Symbol::MaybePropertyMetadata,
         ]),
-        TokenKind::Word(_) => Some(&[
+        WordKind::Word(_) => Some(&[
             Symbol::MaybeBrackets,
             Symbol::PropertyName,
             Symbol::Dot,
@@ -196,124 +196,124 @@ fn after_edited_variability(kind: TokenKind) -> Option<&'static [Symbol]>
 }
 
 /// `[` and `]`, which make the type that of an array, or nothing.
-fn maybe_brackets(kind: TokenKind) -> Option<&'static [Symbol]>
+fn maybe_brackets(kind: WordKind) -> Option<&'static [Symbol]>
     ensures { option_map (λ s. s.now) result ≡ maybe_brackets kind }
 {
     match kind {
-        TokenKind::OpenBracket => Some(&[Symbol::CloseBracket]),
+        WordKind::OpenBracket => Some(&[Symbol::CloseBracket]),
         _ => None,
     }
 }
 
 /// The name of a property.
-fn property_name(kind: TokenKind) -> Option<&'static [Symbol]>
+fn property_name(kind: WordKind) -> Option<&'static [Symbol]>
     ensures { option_map (λ s. s.now) result ≡ property_name kind }
 {
     match kind {
-        TokenKind::Word(_) => Some(NONE),
+        WordKind::Word(_) => Some(NONE),
         _ => None,
     }
 }
 
 /// The value of an attribute and its metadata, or its samples or connections, or nothing.
-fn maybe_attribute_tail(kind: TokenKind) -> Option<&'static [Symbol]>
+fn maybe_attribute_tail(kind: WordKind) -> Option<&'static [Symbol]>
     ensures { option_map (λ s. s.now) result ≡ maybe_attribute_tail kind }
 {
     match kind {
-        TokenKind::Equals => Some(&[Symbol::Value, Symbol::MaybePropertyMetadata]),
-        TokenKind::OpenParen => Some(&[Symbol::PropertyMetadata, Symbol::CloseParen]),
-        TokenKind::Dot => Some(&[Symbol::AfterDot]),
+        WordKind::Equals => Some(&[Symbol::Value, Symbol::MaybePropertyMetadata]),
+        WordKind::OpenParen => Some(&[Symbol::PropertyMetadata, Symbol::CloseParen]),
+        WordKind::Dot => Some(&[Symbol::AfterDot]),
         _ => None,
     }
 }
 
 /// What follows the `.` behind an attribute's name.
-fn after_dot(kind: TokenKind) -> Option<&'static [Symbol]>
+fn after_dot(kind: WordKind) -> Option<&'static [Symbol]>
     ensures { option_map (λ s. s.now) result ≡ after_dot kind }
 {
     match kind {
-        TokenKind::Word(Keyword::TimeSamples) => Some(&[
+        WordKind::Word(Keyword::TimeSamples) => Some(&[
             Symbol::Equals,
             Symbol::OpenBrace,
             Symbol::SamplesOrEnd,
         ]),
-        TokenKind::Word(Keyword::Connect) => Some(&[Symbol::Equals, Symbol::PathList]),
-        TokenKind::Word(Keyword::Spline) => Some(NONE),
+        WordKind::Word(Keyword::Connect) => Some(&[Symbol::Equals, Symbol::PathList]),
+        WordKind::Word(Keyword::Spline) => Some(NONE),
         _ => None,
     }
 }
 
 /// What follows the `.` behind the name of an attribute that is edited.
-fn connect_word(kind: TokenKind) -> Option<&'static [Symbol]>
+fn connect_word(kind: WordKind) -> Option<&'static [Symbol]>
     ensures { option_map (λ s. s.now) result ≡ connect_word kind }
 {
     match kind {
-        TokenKind::Word(Keyword::Connect) => Some(&[Symbol::Equals, Symbol::PathList]),
-        TokenKind::Word(Keyword::Spline) => Some(NONE),
+        WordKind::Word(Keyword::Connect) => Some(&[Symbol::Equals, Symbol::PathList]),
+        WordKind::Word(Keyword::Spline) => Some(NONE),
         _ => None,
     }
 }
 
 /// The next of the samples, or the end of them.
-fn samples_or_end(kind: TokenKind) -> Option<&'static [Symbol]>
+fn samples_or_end(kind: WordKind) -> Option<&'static [Symbol]>
     ensures { option_map (λ s. s.now) result ≡ samples_or_end kind }
 {
     match kind {
-        TokenKind::CloseBrace => Some(NONE),
-        TokenKind::Number => Some(&[Symbol::Colon, Symbol::Value, Symbol::MoreSamples]),
+        WordKind::CloseBrace => Some(NONE),
+        WordKind::Number => Some(&[Symbol::Colon, Symbol::Value, Symbol::MoreSamples]),
         _ => None,
     }
 }
 
 /// What follows one of the samples.
-fn more_samples(kind: TokenKind) -> Option<&'static [Symbol]>
+fn more_samples(kind: WordKind) -> Option<&'static [Symbol]>
     ensures { option_map (λ s. s.now) result ≡ more_samples kind }
 {
     match kind {
-        TokenKind::Comma => Some(&[Symbol::SamplesOrEnd]),
-        TokenKind::CloseBrace => Some(NONE),
+        WordKind::Comma => Some(&[Symbol::SamplesOrEnd]),
+        WordKind::CloseBrace => Some(NONE),
         _ => None,
     }
 }
 
 /// The targets of a relationship, or nothing.
-fn maybe_targets(kind: TokenKind) -> Option<&'static [Symbol]>
+fn maybe_targets(kind: WordKind) -> Option<&'static [Symbol]>
     ensures { option_map (λ s. s.now) result ≡ maybe_targets kind }
 {
     match kind {
-        TokenKind::Equals => Some(&[Symbol::PathList]),
+        WordKind::Equals => Some(&[Symbol::PathList]),
         _ => None,
     }
 }
 
 /// The metadata of a property in brackets, or nothing.
-fn maybe_property_metadata(kind: TokenKind) -> Option<&'static [Symbol]>
+fn maybe_property_metadata(kind: WordKind) -> Option<&'static [Symbol]>
     ensures { option_map (λ s. s.now) result ≡ maybe_property_metadata kind }
 {
     match kind {
-        TokenKind::OpenParen => Some(&[Symbol::PropertyMetadata, Symbol::CloseParen]),
+        WordKind::OpenParen => Some(&[Symbol::PropertyMetadata, Symbol::CloseParen]),
         _ => None,
     }
 }
 
 /// The metadata of a property.
-fn property_metadata(kind: TokenKind) -> Option<&'static [Symbol]>
+fn property_metadata(kind: WordKind) -> Option<&'static [Symbol]>
     ensures { option_map (λ s. s.now) result ≡ property_metadata kind }
 {
     match kind {
-        TokenKind::Word(_) => Some(&[
+        WordKind::Word(_) => Some(&[
             Symbol::Equals,
             Symbol::Value,
             Symbol::MaybeSemicolon,
             Symbol::PropertyMetadata,
         ]),
-        TokenKind::Quoted => Some(&[Symbol::MaybeSemicolon, Symbol::PropertyMetadata]),
+        WordKind::Quoted => Some(&[Symbol::MaybeSemicolon, Symbol::PropertyMetadata]),
         _ => None,
     }
 }
 
 /// What follows a token that is the first of a symbol of this part, where it may be the first.
-pub fn starts(symbol: Symbol, kind: TokenKind) -> Option<&'static [Symbol]>
+pub fn starts(symbol: Symbol, kind: WordKind) -> Option<&'static [Symbol]>
     ensures { option_map (λ s. s.now) result ≡ properties_starts symbol kind }
 {
     match symbol {

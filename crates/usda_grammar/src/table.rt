@@ -3,7 +3,7 @@ ghost use Rattle.std.specs.Option.{option_map};
 ghost use Rattle.std.specs.Prelude.{◌≡◌, List};
 ghost use Rattle.usda_grammar.specs.Table.{starts, may_be_absent, layer};
 
-use crate::kinds::TokenKind;
+use crate::kinds::WordKind;
 use crate::symbols::Symbol;
 use crate::{layers, prims, properties, values};
 
@@ -15,7 +15,7 @@ pub fn layer() -> &'static [Symbol]
 }
 
 /// What follows a token that is the first of a symbol, where it may be the first.
-pub fn starts(symbol: Symbol, kind: TokenKind) -> Option<&'static [Symbol]>
+pub fn starts(symbol: Symbol, kind: WordKind) -> Option<&'static [Symbol]>
     ensures { option_map (λ s. s.now) result ≡ starts symbol kind }
 {
     if let Some(after) = layers::starts(symbol, kind) {

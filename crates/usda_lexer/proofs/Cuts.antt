@@ -1,14 +1,15 @@
 -- Where a text may be cut between its tokens.
-use Rattle.std.proofs.Common.{◌≡◌, ◌∙◌, ℕ, ◌<◌, ◌+◌, ◌-◌, ◌||◌, ◌&&◌, ◌==◌, Bool, true, false, List, [], ◌∷◌, length, drop, get_or, Option, Some, None, Result, Ok, Err, ap, sym, refl, subst, arith, eqb-true}
+use Rattle.std.proofs.Common.{◌≡◌, ◌∙◌, ℕ, ◌<◌, ◌+◌, ◌-◌, ◌&&◌, ◌==◌, Bool, true, false, List, [], ◌∷◌, length, drop, get_or, Some, None, Ok, Err, ap, sym, refl, subst, arith, eqb-true}
 use Rattle.std.specs.Result.{IfOk}
 use Rattle.std.specs.Prelude.{if◌then◌else◌}
 use Rattle.std.specs.Str.{IsCharBoundary, IsUtf8, is_utf8}
 use Rattle.std.proofs.lemmas.Bool.Decides.{nat_tests}
+use Rattle.std.proofs.lemmas.Bool.{and_parts}
 use Rattle.std.proofs.lemmas.List.{drop_more, get_or-drop}
 use Rattle.std.proofs.lemmas.Str.{IsCharBoundary-after_ascii, IsUtf8-from_is_utf8}
 use Rattle.usda_lexer.specs.declared.blanks.Between.{Between}
 use Rattle.usda_lexer.specs.declared.blanks.Between.TheVariants.{Blank, Slash, Line, Opening, Block, Closing}
-use Rattle.usda_lexer.specs.Blanks.{is_blank, begins, between_from, between_after, opened_at, gap}
+use Rattle.usda_lexer.specs.Blanks.{is_blank, begins, between_after, opened_at, gap}
 use Rattle.usda_lexer.specs.Forms.{EndsIn}
 use Rattle.usda_lexer.specs.Words.{Found}
 
@@ -46,7 +47,7 @@ leads_to_closing false false true b4 e = cc
 leads_to_closing false false false true e = cc
 leads_to_closing false false false false e = cc
 
-blank_ascii : (c : ℕ) → is_blank c ≡ true → c < 128
+pub blank_ascii : (c : ℕ) → is_blank c ≡ true → c < 128
 blank_ascii c e = grind (arith, nat_tests)
 
 line_ends : (c : ℕ) (b : Bool) → (c == 10) ≡ b → Some (if b then Blank else Line) ≡ Some Blank → c < 128
@@ -66,10 +67,6 @@ ascii_before_blank Opening c cs bytes i is cut e = absurd cc
 ascii_before_blank Block c cs bytes i is cut e = absurd (block_goes (c == 42 && begins 47 cs) e)
 ascii_before_blank Closing c cs bytes i is cut e = omega (arith, is, cut)
 
-both : (a b : Bool) → (a && b) ≡ true → (a ≡ true) × (b ≡ true)
-both true b e = (refl, e)
-both false b e = absurd cc
-
 begins_at : (d : ℕ) (cs : List ℕ) → begins d cs ≡ true → get_or cs 0 0 ≡ d
 begins_at d [] e = absurd cc
 begins_at d (c ∷ cs) e = eqb-true c d e
@@ -79,7 +76,7 @@ line_closes true e = cc
 line_closes false e = cc
 
 block_closes : (c : ℕ) (cs : List ℕ) (b : Bool) → (c == 42 && begins 47 cs) ≡ b → Some (if b then Closing else Block) ≡ Some Closing → get_or cs 0 0 ≡ 47
-block_closes c cs true e h = begins_at 47 cs (both _ _ e).1
+block_closes c cs true e h = begins_at 47 cs (and_parts _ _ e).1
 block_closes c cs false e h = absurd cc
 
 slash_behind : (s : Between) (c : ℕ) (cs : List ℕ) → between_after s c cs ≡ Some Closing → get_or cs 0 0 ≡ 47

@@ -1,25 +1,22 @@
 -- The decimal that is computed of a text is the one that the text writes.
-use Rattle.std.proofs.Common.{ℕ, zero, suc, ◌≡◌, ◌≢◌, ◌+◌, ◌*◌, ◌/◌, ◌%◌, ◌^◌, ◌<◌, ◌≤◌, ◌∙◌, sym, ap, subst, refl, arith, Bool, true, false, ◌&&◌, ◌==◌, nat_lt, eqb, eqb-true, Option, Some, None, List, IsTrue}
+use Rattle.std.proofs.Common.{ℕ, zero, suc, ◌≡◌, ◌≢◌, ◌*◌, ◌/◌, ◌%◌, ◌^◌, ◌<◌, ◌≤◌, ◌∙◌, sym, ap, subst, refl, arith, Bool, true, false, ◌&&◌, ◌==◌, nat_lt, eqb-true, Option, Some, None, List}
 use Rattle.std.specs.Prelude.{ℤ, pos, negsuc, ◌+ℤ◌, ◌≤ℤ◌, unsigned_abs, ◌↔◌}
 use Rattle.std.proofs.lemmas.Bool.Decides.{nat_tests}
+use Rattle.std.proofs.lemmas.Bool.{and_parts}
 use Rattle.std.proofs.lemmas.Int.{ints}
-use Rattle.sdf_values.specs.Numbers.{DecimalNumber, IsDecimal, SameNumber, zero_number}
+use Rattle.sdf_values.specs.Numbers.{DecimalNumber, IsDecimal, zero_number}
 use Rattle.sdf_values.specs.NumberTexts.{Writes, signed, is_number, is_negative, digits_number, before_mark, written_exponent}
 use Rattle.sdf_values.specs.Places.{IsNumberOf}
 use Rattle.sdf_values.proofs.Powers.{IsForm, only_form, only_zero, zero_same, IsDecimal-zero, moved_zeros, same_parts, abs_signed, ten_suc}
 use Rattle.usda_lexer.specs.Decimals.{is_exponent_in_range, if_decimal, reduced, decimal_from, decimal_of}
 
-in_range : (e : ℤ) → is_exponent_in_range e ≡ true → (negsuc 399 ≤ℤ e) × (e ≤ℤ pos 400)
+pub in_range : (e : ℤ) → is_exponent_in_range e ≡ true → (negsuc 399 ≤ℤ e) × (e ≤ℤ pos 400)
 in_range (pos n) h = let lt : n < 401 = grind (arith, nat_tests) in (omega (arith, ints), omega (arith, ints))
 in_range (negsuc n) h = let lt : n < 400 = grind (arith, nat_tests) in (omega (arith, ints), omega (arith, ints))
 
-range_in : (e : ℤ) → negsuc 399 ≤ℤ e → e ≤ℤ pos 400 → is_exponent_in_range e ≡ true
+pub range_in : (e : ℤ) → negsuc 399 ≤ℤ e → e ≤ℤ pos 400 → is_exponent_in_range e ≡ true
 range_in (pos n) low high = let lt : n < 401 = omega (arith, ints) in grind (arith, nat_tests)
 range_in (negsuc n) low high = let lt : n < 400 = omega (arith, ints) in grind (arith, nat_tests)
-
-both_true : (a b : Bool) → (a && b) ≡ true → (a ≡ true) × (b ≡ true)
-both_true true b h = (refl, h)
-both_true false b h = absurd cc
 
 if_decimal_true : (negative : Bool) (m : ℕ) (e : ℤ) → (nat_lt m (10 ^ 34) && is_exponent_in_range e) ≡ true → if_decimal negative m e ≡ Some (record { digits = signed negative m; exp = e })
 if_decimal_true negative m e h = rw (h, if_decimal) refl
@@ -34,7 +31,7 @@ made negative n m z e d true form test h =
     let f : DecimalNumber = record { digits = signed negative m; exp = e +ℤ pos z } in
     let is : Some f ≡ Some d = sym (if_decimal_true negative m (e +ℤ pos z) test) ∙ h in
     let same : f ≡ d = cc is in
-    let parts = both_true (nat_lt m (10 ^ 34)) (is_exponent_in_range (e +ℤ pos z)) test in
+    let parts = and_parts (nat_lt m (10 ^ 34)) (is_exponent_in_range (e +ℤ pos z)) test in
     let few : m < 10 ^ 34 = grind (arith, nat_tests, parts.0) in
     let range = in_range (e +ℤ pos z) parts.1 in
     let abs : unsigned_abs (signed negative m) ≡ m = abs_signed negative m in

@@ -1,6 +1,8 @@
 -- What the scan of blanks and comments goes over is blanks and comments.
 use Rattle.std.proofs.Common.{◌≡◌, ◌∙◌, ℕ, zero, suc, ◌+◌, ◌<◌, ◌≤◌, Bool, true, false, ◌&&◌, ◌==◌, List, [], ◌∷◌, ◌++◌, take, drop, length, Option, Some, None, Result, Ok, Err, ap, sym, refl, subst, arith, ◌⊎◌, inl, inr, eqb-true, append_assoc}
 use Rattle.std.specs.Prelude.{if◌then◌else◌}
+use Rattle.std.proofs.lemmas.Bool.{and_parts}
+pub use Rattle.std.proofs.lemmas.Bool.{and_parts as both}
 use Rattle.usda_lexer.specs.declared.blanks.Between.{Between}
 use Rattle.usda_lexer.specs.declared.blanks.Between.TheVariants.{Blank, Slash, Line, Opening, Block, Closing}
 use Rattle.usda_lexer.specs.Blanks.{is_blank, begins, between_after, opened_at, ended_between, gap, IsGap, Piece, blank, hash, slashes, block, is_one_line, has_no_end, at_line_end, is_piece, piece_bytes, are_pieces}
@@ -47,10 +49,6 @@ IsKnown Opening cs = begins 42 cs ≡ true
 IsKnown Closing cs = begins 47 cs ≡ true
 IsKnown state cs = Unit {0}
 
-pub both : (a b : Bool) → (a && b) ≡ true → (a ≡ true) × (b ≡ true)
-both true b e = (refl, e)
-both false b e = absurd cc
-
 -- a rest, along an equation of places
 moved : (s next : Between) (g b : List ℕ) → Some s ≡ Some next → IsRest next g b → IsRest s g b
 moved s next g b e r = let f : s ≡ next = cc e in subst (λ (x : Between). IsRest x g b) (sym f) r
@@ -64,12 +62,12 @@ from_blank next c cs g b false true b3 b4 e1 e2 e3 e4 h r =
 from_blank next c cs g b false false true b4 e1 e2 e3 e4 h r =
     let s : (t : List ℕ) × IsLineRest t b × (g ≡ 47 ∷ t) = moved Slash next g b h r in
     one_more (slashes s.1.text) (c ∷ g) s.1.rest b s.1.good
-    (ap (λ t. 47 ∷ 47 ∷ t) s.1.all ∙ ap (λ t. 47 ∷ t) (sym s.2) ∙ ap (λ x. x ∷ g) (sym (eqb-true c 47 (both _ _ e3).0))) s.1.gap
+    (ap (λ t. 47 ∷ 47 ∷ t) s.1.all ∙ ap (λ t. 47 ∷ t) (sym s.2) ∙ ap (λ x. x ∷ g) (sym (eqb-true c 47 (and_parts _ _ e3).0))) s.1.gap
 from_blank next c cs g b false false false true e1 e2 e3 e4 h r =
     let s : (t : List ℕ) × IsBlockRest t b × (g ≡ 42 ∷ t) = moved Opening next g b h r in
     one_more (block s.1.text) (c ∷ g) s.1.rest b s.1.no_end
     (ap (λ t. 47 ∷ 42 ∷ t) (append_assoc s.1.text (42 ∷ 47 ∷ []) s.1.rest) ∙ ap (λ t. 47 ∷ 42 ∷ t) s.1.all ∙ ap (λ t. 47 ∷ t) (sym s.2)
-    ∙ ap (λ x. x ∷ g) (sym (eqb-true c 47 (both _ _ e4).0))) s.1.gap
+    ∙ ap (λ x. x ∷ g) (sym (eqb-true c 47 (and_parts _ _ e4).0))) s.1.gap
 from_blank next c cs g b false false false false e1 e2 e3 e4 h r = absurd cc
 
 in_line : (next : Between) (c : ℕ) (g b : List ℕ) (ends : Bool) → (c == 10) ≡ ends → Some (if ends then Blank else Line) ≡ Some next → IsRest next g b → IsLineRest (c ∷ g) b
@@ -114,7 +112,7 @@ in_block next c k cs g b true front e h r =
       rest = s.0;
       no_end = refl;
       gap = s.1;
-      all = ap (λ t. 42 ∷ t) (sym s.2) ∙ ap (λ x. x ∷ g) (sym (eqb-true c 42 (both _ _ e).0));
+      all = ap (λ t. 42 ∷ t) (sym s.2) ∙ ap (λ x. x ∷ g) (sym (eqb-true c 42 (and_parts _ _ e).0));
     }
 in_block next c k cs g b false front e h r =
     let l : IsBlockRest g b = moved Block next g b h r in
@@ -142,8 +140,8 @@ known_from_blank : (next : Between) (c : ℕ) (cs : List ℕ) (b1 b2 b3 b4 : Boo
     → (if b1 then Some Blank else if b2 then Some Line else if b3 then Some Slash else if b4 then Some Opening else None) ≡ Some next → IsKnown next cs
 known_from_blank next c cs true b2 b3 b4 e3 e4 h = known_moved Blank next cs h tt
 known_from_blank next c cs false true b3 b4 e3 e4 h = known_moved Line next cs h tt
-known_from_blank next c cs false false true b4 e3 e4 h = known_moved Slash next cs h (both _ _ e3).1
-known_from_blank next c cs false false false true e3 e4 h = known_moved Opening next cs h (both _ _ e4).1
+known_from_blank next c cs false false true b4 e3 e4 h = known_moved Slash next cs h (and_parts _ _ e3).1
+known_from_blank next c cs false false false true e3 e4 h = known_moved Opening next cs h (and_parts _ _ e4).1
 known_from_blank next c cs false false false false e3 e4 h = absurd cc
 
 known_line : (next : Between) (cs : List ℕ) (b : Bool) → Some (if b then Blank else Line) ≡ Some next → IsKnown next cs
@@ -151,7 +149,7 @@ known_line next cs true e = known_moved Blank next cs e tt
 known_line next cs false e = known_moved Line next cs e tt
 
 known_block : (next : Between) (c : ℕ) (cs : List ℕ) (b : Bool) → (c == 42 && begins 47 cs) ≡ b → Some (if b then Closing else Block) ≡ Some next → IsKnown next cs
-known_block next c cs true e h = known_moved Closing next cs h (both _ _ e).1
+known_block next c cs true e h = known_moved Closing next cs h (and_parts _ _ e).1
 known_block next c cs false e h = known_moved Block next cs h tt
 
 step_known : (s next : Between) (c : ℕ) (cs : List ℕ) → between_after s c cs ≡ Some next → IsKnown next cs

@@ -6,7 +6,7 @@ use Rattle.usda_lexer.specs.declared.blanks.Between.{Between}
 use Rattle.usda_lexer.specs.declared.blanks.Between.TheVariants.{Blank, Slash, Line, Opening, Block, Closing}
 use Rattle.usda_lexer.specs.Blanks.{begins, opened_at, gap, IsGap, Piece, blank, hash, slashes, block, is_one_line, has_no_end, at_line_end, is_piece, piece_bytes, pieces_bytes, are_pieces}
 use Rattle.usda_lexer.specs.Laws.{first_between}
-use Rattle.usda_lexer.proofs.Gaps.{both}
+use Rattle.std.proofs.lemmas.Bool.{and_parts}
 
 -- n bytes on
 at_place : (s : Between) (o n m : ℕ) (rest : List ℕ) → n ≡ m → gap s o n rest ≡ gap s o m rest
@@ -31,7 +31,7 @@ line_ends o n (c ∷ cs) e = subst (λ (x : ℕ). gap Line o n (x ∷ cs) ≡ ga
 
 whole_line : (o n m : ℕ) (text rest : List ℕ) → (is_one_line text && at_line_end rest) ≡ true → n + length text ≡ m → gap Line o n (text ++ rest) ≡ gap Blank o m rest
 whole_line o n m text rest e is =
-    let t : (is_one_line text ≡ true) × (at_line_end rest ≡ true) = both (is_one_line text) (at_line_end rest) e in
+    let t : (is_one_line text ≡ true) × (at_line_end rest ≡ true) = and_parts (is_one_line text) (at_line_end rest) e in
     scan_line o n text rest t.0 ∙ line_ends o (n + length text) rest t.1 ∙ at_place Blank o (n + length text) m rest is
 
 begins_behind : (text rest : List ℕ) → begins 47 (text ++ 42 ∷ rest) ≡ begins 47 text
@@ -76,7 +76,7 @@ stops_before o n (c ∷ cs) e = ap (λ (x : Option Between). elim x [ None ↦ O
 scan_pieces : (o n : ℕ) (ps : List Piece) (behind : List ℕ) → are_pieces ps behind ≡ true → first_between behind ≡ None → gap Blank o n (pieces_bytes ps ++ behind) ≡ Ok (n + length (pieces_bytes ps))
 scan_pieces o n [] behind e none = stops_before o n behind none ∙ ap Ok (let k : n ≡ n + 0 = omega arith in k)
 scan_pieces o n (p ∷ ps) behind e none =
-    let t : (is_piece p (pieces_bytes ps ++ behind) ≡ true) × (are_pieces ps behind ≡ true) = both (is_piece p (pieces_bytes ps ++ behind)) (are_pieces ps behind) e in
+    let t : (is_piece p (pieces_bytes ps ++ behind) ≡ true) × (are_pieces ps behind ≡ true) = and_parts (is_piece p (pieces_bytes ps ++ behind)) (are_pieces ps behind) e in
     let first = scan_piece o n p (pieces_bytes ps ++ behind) t.0 in
     ap (gap Blank o n) (append_assoc (piece_bytes p) (pieces_bytes ps) behind) ∙ first.1 ∙ scan_pieces first.0 (n + length (piece_bytes p)) ps behind t.1 none
     ∙ ap Ok (let k : n + length (piece_bytes p) + length (pieces_bytes ps) ≡ n + length (piece_bytes p ++ pieces_bytes ps) = omega (arith, length-append (piece_bytes p) (pieces_bytes ps)) in k)

@@ -5,7 +5,7 @@ ghost use Rattle.usda_lexer.specs.Blanks.{is_blank, begins, between_from, betwee
 ghost use Rattle.usda_lexer.specs.declared.blanks.Between.TheVariants.{Blank};
 
 /// Where a reader of blanks and comments stands.
-#[derive(Clone, Copy, Debug, PartialEq, Eq)]
+#[derive(Clone, Copy, PartialEq, Eq)]
 pub enum Between {
     /// In no comment.
     Blank,
@@ -21,8 +21,8 @@ pub enum Between {
     Closing,
 }
 
-// A space, a tab, a carriage return or a line feed.
-fn is_blank(c: u8) -> bool
+/// Whether the byte is a space, a tab, a carriage return or a line feed.
+pub fn is_blank(c: u8) -> bool
     ensures { result ≡ is_blank c }
 {
     c == b' ' || c == b'\t' || c == b'\r' || c == b'\n'

@@ -13,9 +13,11 @@ use sdf_values::{Decimal, Num};
 use std::alloc::{AllocError, Global};
 
 /// What an escape stands for, and how many bytes behind the backslash it takes.
-#[derive(Clone, Copy, Debug)]
+#[derive(Clone, Copy)]
 pub struct Escape {
+    /// The byte that it stands for.
     pub byte: u8,
+    /// How many bytes behind the backslash it takes, at least one.
     pub len: usize,
 }
 
@@ -122,10 +124,13 @@ fn escape_at(c: u8, rest: &[u8]) -> Escape
 }
 
 /// What one byte of a text with escapes adds, and where it leads.
-#[derive(Clone, Copy, Debug)]
+#[derive(Clone, Copy)]
 pub struct Decoded {
+    /// The byte that is added, if one is.
     pub byte: Option<u8>,
+    /// How many of the bytes that follow belong to the escape.
     pub taken: usize,
+    /// Whether the byte is a backslash that begins an escape.
     pub after: bool,
 }
 

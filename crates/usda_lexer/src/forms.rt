@@ -1,27 +1,9 @@
 //! How far numbers, strings, assets and paths go.
 ghost use Rattle.std.specs.Prelude.{◌≡◌, ℕ, ◌<◌, ◌≤◌, ◌+◌, ◌^◌, IfSome, List, ◌∷◌, length, false};
-ghost use Rattle.sdf_values.specs.NumberTexts.{is_digit, is_sign, is_mark};
 ghost use Rattle.usda_lexer.specs.Forms.{digits_len, sign_len, with_digits, exponent_len, pointed_len, mantissa_len, scaled_len, behind_sign_len, number_len, closed_line, closed_string, closed_tripled, more_ats, closed_asset, begins_twice, string_len, asset_len, EndsIn};
 
 use crate::blanks::begins;
-
-fn is_digit(c: u8) -> bool
-    ensures { result ≡ is_digit c }
-{
-    b'0' <= c && c <= b'9'
-}
-
-fn is_sign(c: u8) -> bool
-    ensures { result ≡ is_sign c }
-{
-    c == b'+' || c == b'-'
-}
-
-fn is_mark(c: u8) -> bool
-    ensures { result ≡ is_mark c }
-{
-    c == b'e' || c == b'E'
-}
+use sdf_values::{is_digit, is_mark, is_sign};
 
 // How many digits stand in front.
 fn digits_len(bytes: &[u8]) -> usize

@@ -13,6 +13,7 @@ mod place;
 mod token;
 mod tokens;
 
+pub use blanks::{begins, is_blank};
 pub use escapes::{asset_text, decimal_of, number_of, path_text, string_text};
 pub use laws::{comments_end_with_their_line, gaps_are_gone_over};
 pub use place::{Place, place_of};

@@ -5,16 +5,27 @@ ghost use Rattle.usda_lexer.specs.Words.{mark_of};
 /// A mark of one byte.
 #[derive(Clone, Copy, Debug, PartialEq, Eq)]
 pub enum Mark {
+    /// `(`.
     OpenParen,
+    /// `)`.
     CloseParen,
+    /// `{`.
     OpenBrace,
+    /// `}`.
     CloseBrace,
+    /// `[`.
     OpenBracket,
+    /// `]`.
     CloseBracket,
+    /// `=`.
     Equals,
+    /// `,`.
     Comma,
+    /// `;`.
     Semicolon,
+    /// `:`.
     Colon,
+    /// `.`.
     Dot,
 }
 

@@ -2,6 +2,7 @@
 use Rattle.std.specs.Prelude.{ℕ, ◌==◌, nat_le, int_le, ◌&&◌, if◌then◌else◌, ℤ, pos, unsigned_abs, List, codes, Option, Some, None, Result, Ok, Err}
 use Rattle.std.specs.Cmp.Lexicographic.{pointwise}
 use Rattle.sdf_values.specs.Scales.{Offset}
+pub use Rattle.sdf_values.specs.Scales.{identity}
 use Rattle.sdf_values.specs.declared.decimal.Num.{Num}
 use Rattle.sdf_values.specs.declared.decimal.Num.TheVariants.{Finite}
 use Rattle.sdf_values.specs.declared.refusal.RefusalKind.{RefusalKind}
@@ -10,10 +11,6 @@ use Rattle.usda_lexer.specs.Meanings.{number_of}
 use Rattle.usda_values.specs.Scalars.{whole_of}
 use Rattle.usda_lists.specs.declared.offset.OffsetKey.{OffsetKey}
 use Rattle.usda_lists.specs.declared.offset.OffsetKey.TheVariants as key
-
--- times as they are
-abbrev pub identity : Offset
-identity = record { offset = pos 0; scale = pos 1 }
 
 -- `offset` or `scale`; any other key is refused
 abbrev pub offset_key : List ℕ → Result OffsetKey RefusalKind

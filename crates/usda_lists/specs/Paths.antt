@@ -1,23 +1,12 @@
 -- Paths between `<` and `>` in a layer. One that does not begin with `/` is taken from the plain path of a prim, or from `/` in the head of
 -- a layer: each `../` in front goes up one prim, and `.name` is a property of that prim.
-use Rattle.std.specs.Prelude.{ℕ, zero, suc, Bool, true, false, ◌||◌, nat_le, if◌then◌else◌, List, [], ◌∷◌, ◌++◌, length, Option, Some, None}
+use Rattle.std.specs.Prelude.{ℕ, zero, suc, Bool, true, false, ◌||◌, if◌then◌else◌, List, [], ◌∷◌, ◌++◌, Option, Some, None}
 use Rattle.std.specs.Option.{option_map}
-use Rattle.std.specs.Str.{chars}
 use Rattle.sdf_paths.specs.Paths.{is_empty, parent, plain, printed}
-use Rattle.sdf_paths.specs.Reader.{after, finish}
+pub use Rattle.sdf_paths.specs.Reader.{finished, path_of}
 use Rattle.sdf_paths.specs.declared.element.Element.{Element}
-use Rattle.sdf_paths.specs.declared.reader.Reader.{Reader}
 use Rattle.usda_lexer.specs.Blanks.{begins}
 use Rattle.usda_values.specs.PathTexts.{begins_up}
-
--- the path that has been read, where the text may end there
-abbrev pub finished : Option Reader → Option (List Element)
-finished None = None
-finished (Some r) = finish r
-
--- the path of a text from the root down, if it is one and passes no limit
-unfoldable pub path_of : List ℕ → Option (List Element)
-path_of text = if nat_le (length text) 4096 then finished (after (chars text)) else None
 
 -- no `/` stands between the path of a prim and this text: `/` is the path, or `.` begins a property
 abbrev pub joins_directly : List Element → List ℕ → Bool

@@ -5,14 +5,14 @@ use Rattle.std.specs.Ordering.{int_eq}
 use Rattle.std.specs.Cmp.Lexicographic.{pointwise}
 use Rattle.sdf_paths.specs.Paths.{same_element}
 use Rattle.sdf_paths.specs.declared.element.Element.{Element}
-use Rattle.sdf_values.specs.Scales.{Offset}
+use Rattle.sdf_values.specs.Scales.{Offset, identity}
 use Rattle.sdf_values.specs.declared.refusal.RefusalKind.{RefusalKind}
 use Rattle.sdf_values.specs.declared.refusal.RefusalKind.TheVariants.{Syntax}
 use Rattle.spec_parts.specs.declared.items.RefItem.{RefItem}
 use Rattle.spec_parts.specs.declared.items.SubLayer.{SubLayer}
 use Rattle.usda_lexer.specs.Meanings.{asset_text, path_text}
 use Rattle.usda_lists.specs.Acts.{and_then}
-use Rattle.usda_lists.specs.Offsets.{identity, offset_act}
+use Rattle.usda_lists.specs.Offsets.{offset_act}
 use Rattle.usda_lists.specs.Paths.{path_from}
 use Rattle.usda_lists.specs.declared.offset.OffsetKey.{OffsetKey}
 

@@ -1,17 +1,14 @@
--- The derived comparisons of paths and of items of references are the readable ones, and tell values apart.
-use Rattle.std.specs.Prelude.{◌≡◌, ◌&&◌, Bool, true, List, refl}
+-- The derived comparisons of items of references are the readable ones, and tell values apart.
+use Rattle.std.specs.Prelude.{◌≡◌, ◌&&◌, Bool, true, List}
 use Rattle.std.proofs.Common.{ap, rules}
-use Rattle.std.specs.Cmp.Lexicographic.{pointwise}
 use Rattle.std.specs.Option.{option_eq, option_cmp}
 use Rattle.std.specs.Ordering.{ordering_then}
 use Rattle.std.specs.declared.cmp.Ordering.TheVariants.{Equal}
 use Rattle.std.proofs.lemmas.Map.Lookups.{exact_bytes}
-use Rattle.sdf_paths.specs.Paths.{same_element}
-use Rattle.sdf_paths.specs.contracts.element.ElementPartialEq.TheImpl.{ghosts as element_eq}
 use Rattle.sdf_paths.specs.contracts.path.PathPartialEq.TheImpl.{ghosts as path_eq}
 use Rattle.sdf_paths.specs.declared.element.Element.{Element}
-use Rattle.sdf_paths.specs.declared.element.Element.TheVariants.{Prim, Property, Selection}
 use Rattle.sdf_paths.specs.PathOrder.{path_equal, path_tie}
+pub use Rattle.sdf_paths.specs.PathOrder.{path_is}
 use Rattle.plain_data.specs.Exact.{both_true, option_same, option_tie, text_same, then_both}
 use Rattle.sdf_paths.specs.Order.{text_cmp}
 use Rattle.sdf_paths.specs.contracts.path.PathOrd.TheImpl.{ghosts as path_order}
@@ -21,25 +18,6 @@ use Rattle.spec_parts.specs.declared.items.RefItem.{RefItem}
 use Rattle.usda_lists.specs.References.{same_text, same_path, same_offset, same_item}
 use Rattle.usda_lists.specs.contracts.repeats.OrderedItemPartialEq.TheImpl.{ghosts as item_eq}
 use Rattle.usda_lists.specs.contracts.repeats.OrderedItemOrd.TheImpl.{ghosts as item_order}
-
--- the derived equality of elements is the readable one
-pub element_is : (x y : Element) → element_eq.eq x y ≡ same_element x y
-element_is (Prim a) (Prim b) = refl
-element_is (Prim a) (Property b) = refl
-element_is (Prim a) (Selection t w) = refl
-element_is (Property a) (Prim b) = refl
-element_is (Property a) (Property b) = refl
-element_is (Property a) (Selection t w) = refl
-element_is (Selection s v) (Prim b) = refl
-element_is (Selection s v) (Property b) = refl
-element_is (Selection s v) (Selection t w) = refl
-
-element_fun : ◌≡◌ {A = Element → Element → Bool} element_eq.eq same_element
-element_fun = λ i x y. element_is x y i
-
--- the derived equality of paths is the readable one
-pub path_is : ◌≡◌ {A = List Element → List Element → Bool} path_eq.eq same_path
-path_is = ap pointwise element_fun
 
 -- the derived equality of items of references is the readable one
 pub item_is : ◌≡◌ {A = RefItem → RefItem → Bool} item_eq.eq same_item

@@ -4,7 +4,7 @@ ghost use Rattle.usda_lists.specs.Acts.{AsksNoMemory, Does};
 ghost use Rattle.usda_lists.specs.Edits.{edit_of, none_given, has_edits, clashes, is_given, with_given, give};
 
 use sdf_values::RefusalKind;
-use usda_values::ActFault;
+use usda_values::PartFault;
 
 /// What a list does to the lists of weaker opinions.
 #[derive(Clone, Copy, Debug, PartialEq, Eq)]
@@ -26,11 +26,17 @@ pub enum ListEdit {
 /// Which lists of one field were given.
 #[derive(Clone, Copy, Debug, PartialEq, Eq)]
 pub struct GivenLists {
+    /// A list with no edit word before it.
     pub explicit: bool,
+    /// One behind `delete`.
     pub deleted: bool,
+    /// One behind `add`.
     pub added: bool,
+    /// One behind `prepend`.
     pub prepended: bool,
+    /// One behind `append`.
     pub appended: bool,
+    /// One behind `reorder`.
     pub ordered: bool,
 }
 
@@ -67,16 +73,16 @@ impl GivenLists {
 
     /// Notes that a list is given, which may be empty. `Syntax` where an explicit list and edits meet, `DuplicateSpec` where
     /// this list was given before; then nothing is noted. Takes no memory.
-    pub fn give(&mut self, edit: ListEdit) -> Result<(), ActFault>
+    pub fn give(&mut self, edit: ListEdit) -> Result<(), PartFault>
         ensures answer { Does result self.new (give edit self.old) }
         ensures kept { OnErr result (self.new ≡ self.old) }
         ensures sure { AsksNoMemory result }
     {
         if self.clashes(edit) {
-            return Err(ActFault::Refused(RefusalKind::Syntax));
+            return Err(PartFault::Refused(RefusalKind::Syntax));
         }
         if self.is_given(edit) {
-            return Err(ActFault::Refused(RefusalKind::DuplicateSpec));
+            return Err(PartFault::Refused(RefusalKind::DuplicateSpec));
         }
         self.note(edit);
         Ok(())

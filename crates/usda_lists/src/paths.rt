@@ -1,36 +1,11 @@
 //! Paths between `<` and `>` in a layer, of which some go on from a prim.
-ghost use Rattle.std.specs.Prelude.{◌≡◌, ◌↔◌, List, IfOk, Some};
-ghost use Rattle.sdf_paths.specs.Paths.{IsReadAs};
-ghost use Rattle.sdf_paths.specs.declared.element.Element.{Element};
-ghost use Rattle.usda_values.specs.PathTexts.{begins_up};
-ghost use Rattle.usda_lists.specs.Paths.{path_of, joins_directly, text_below, path_below, path_from, target_from, absolute_token, absolute_from};
+ghost use Rattle.std.specs.Prelude.{◌≡◌, IfOk, Some};
+ghost use Rattle.usda_lists.specs.Paths.{joins_directly, text_below, path_below, path_from, target_from, absolute_token, absolute_from};
 
 use plain_data::{Text, copy};
-use sdf_paths::{Path, PathFault};
+use sdf_paths::{Path, path_of, push_path_text};
 use std::alloc::{AllocError, Global};
-
-/// The path of a text from the root down; nothing where it is none or passes a limit.
-pub fn path_of(alloc: Global, text: &str) -> Result<Option<Path>, AllocError>
-    ensures path { IfOk result (λ path. path ≡ path_of text.now) }
-    // The path that is computed is the one that the text is read as.
-    ensures read { (path : List Element) → (path_of text.now ≡ Some path) ↔ IsReadAs text.now path }
-{
-    match Path::parse(alloc, text) {
-        Ok(path) => Ok(Some(path)),
-        Err(PathFault::Bad { at: _ }) => Ok(None),
-        Err(PathFault::NoMemory) => Err(AllocError),
-    }
-}
-
-// Whether `../` stands in front.
-fn begins_up(bytes: &[u8]) -> bool
-    ensures { result ≡ begins_up bytes.now }
-{
-    match bytes {
-        [first, second, third, ..] => *first == b'.' && *second == b'.' && *third == b'/',
-        _ => false,
-    }
-}
+use usda_values::begins_up;
 
 // Whether no `/` stands between the path of a prim and this text.
 fn joins_directly(prim: &Path, text: &str) -> bool
@@ -97,11 +72,9 @@ pub fn target_from(alloc: Global, base: &Path, text: &str) -> Result<Option<Path
 fn token_of(alloc: Global, path: &Path) -> Result<Text, AllocError>
     ensures { IfOk result (λ token. token ≡ absolute_token path.now) }
 {
-    let text = path.print()?;
-    let mut token = Text::of(alloc, "<")?;
-    token.push_str(text.as_str())?;
-    token.push('>')?;
-    Ok(token)
+    let mut token = String::new(alloc);
+    push_path_text(&mut token, path)?;
+    Ok(Text::from_string(token))
 }
 
 /// The path token that means the same path wherever it stands.

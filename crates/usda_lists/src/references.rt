@@ -6,16 +6,16 @@ ghost use Rattle.usda_lists.specs.References.{asset_or_none, asset_item, path_or
 
 use crate::edit::ListEdit;
 use crate::lists::{put_list, take_list};
-use crate::offset::{OffsetKey, identity, set_offset};
+use crate::offset::{OffsetKey, set_offset};
 use crate::paths::path_from;
 use list_ops::ListOp;
 use plain_data::{Items, Text};
 use sdf_paths::Path;
-use sdf_values::RefusalKind;
+use sdf_values::{LayerOffset, RefusalKind};
 use spec_parts::{RefItem, SubLayer};
 use std::alloc::{AllocError, Global};
 use usda_lexer::{asset_text, path_text};
-use usda_values::ActFault;
+use usda_values::PartFault;
 
 /// The item of an asset token, without a path; the empty asset is none.
 pub fn asset_item(alloc: Global, text: &str) -> Result<RefItem, AllocError>
@@ -29,11 +29,11 @@ pub fn asset_item(alloc: Global, text: &str) -> Result<RefItem, AllocError>
             Some(Text::of(alloc, asset)?)
         },
         path: None,
-        offset: identity(),
+        offset: LayerOffset::identity(),
     })
 }
 
-fn path_or_none(alloc: Global, base: &Path, text: &str) -> Result<Option<Path>, ActFault>
+fn path_or_none(alloc: Global, base: &Path, text: &str) -> Result<Option<Path>, PartFault>
     ensures { Gives result (path_or_none base.now text.now) }
 {
     if text.is_empty() {
@@ -41,25 +41,25 @@ fn path_or_none(alloc: Global, base: &Path, text: &str) -> Result<Option<Path>, 
     }
     match path_from(alloc, base, text)? {
         Some(path) => Ok(Some(path)),
-        None => Err(ActFault::Refused(RefusalKind::Syntax)),
+        None => Err(PartFault::Refused(RefusalKind::Syntax)),
     }
 }
 
 /// The item of a path token that stands alone; `<>` is no path. `Syntax` where the token is no path.
-pub fn path_item(alloc: Global, base: &Path, text: &str) -> Result<RefItem, ActFault>
+pub fn path_item(alloc: Global, base: &Path, text: &str) -> Result<RefItem, PartFault>
     ensures { Gives result (path_item base.now text.now) }
 {
     match path_or_none(alloc, base, path_text(text)) {
         Ok(path) => Ok(RefItem {
             asset: None,
             path,
-            offset: identity(),
+            offset: LayerOffset::identity(),
         }),
         Err(fault) => Err(fault),
     }
 }
 
-fn with_path(alloc: Global, base: &Path, text: &str, item: RefItem) -> Result<RefItem, ActFault>
+fn with_path(alloc: Global, base: &Path, text: &str, item: RefItem) -> Result<RefItem, PartFault>
     ensures { Gives result (with_path base.now text.now item) }
 {
     let RefItem { asset, offset, .. } = item;
@@ -73,7 +73,7 @@ fn with_path(alloc: Global, base: &Path, text: &str, item: RefItem) -> Result<Re
     }
 }
 
-fn with_number_of(key: OffsetKey, text: &str, item: RefItem) -> Result<RefItem, ActFault>
+fn with_number_of(key: OffsetKey, text: &str, item: RefItem) -> Result<RefItem, PartFault>
     ensures { Gives result (with_number_of key text.now item) }
 {
     let RefItem {
@@ -96,7 +96,7 @@ fn amend_path(
     base: &Path,
     text: &str,
     items: &mut Items<RefItem>,
-) -> Result<(), ActFault>
+) -> Result<(), PartFault>
     ensures { Does result items.new (amend_last (with_path base.now text.now) items.old) }
 {
     let Some(item) = items.pop() else {
@@ -111,7 +111,7 @@ fn amend_path(
     }
 }
 
-fn amend_offset(key: OffsetKey, text: &str, items: &mut Items<RefItem>) -> Result<(), ActFault>
+fn amend_offset(key: OffsetKey, text: &str, items: &mut Items<RefItem>) -> Result<(), PartFault>
     ensures { Does result items.new (amend_last (with_number_of key text.now) items.old) }
 {
     let Some(item) = items.pop() else {
@@ -134,7 +134,7 @@ pub fn set_last_path(
     edit: ListEdit,
     base: &Path,
     text: &str,
-) -> Result<(), ActFault>
+) -> Result<(), PartFault>
     ensures { Does result op.new (amend_list edit (amend_last (with_path base.now text.now)) op.old) }
 {
     let mut items = take_list(op, edit);
@@ -157,7 +157,7 @@ pub fn set_last_offset(
     edit: ListEdit,
     key: OffsetKey,
     text: &str,
-) -> Result<(), ActFault>
+) -> Result<(), PartFault>
     ensures { Does result op.new (amend_list edit (amend_last (with_number_of key text.now)) op.old) }
 {
     let mut items = take_list(op, edit);
@@ -183,11 +183,11 @@ pub fn push_sublayer(
 {
     sublayers.push(SubLayer {
         asset: Text::of(alloc, asset_text(text))?,
-        offset: identity(),
+        offset: LayerOffset::identity(),
     })
 }
 
-fn sublayer_number(key: OffsetKey, text: &str, sublayer: SubLayer) -> Result<SubLayer, ActFault>
+fn sublayer_number(key: OffsetKey, text: &str, sublayer: SubLayer) -> Result<SubLayer, PartFault>
     ensures { Gives result (sublayer_number key text.now sublayer) }
 {
     let SubLayer { asset, offset } = sublayer;
@@ -203,7 +203,7 @@ pub fn set_sublayer_offset(
     sublayers: &mut Items<SubLayer>,
     key: OffsetKey,
     text: &str,
-) -> Result<(), ActFault>
+) -> Result<(), PartFault>
     ensures { Does result sublayers.new (amend_last (sublayer_number key text.now) sublayers.old) }
 {
     let Some(sublayer) = sublayers.pop() else {

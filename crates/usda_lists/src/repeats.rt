@@ -7,42 +7,20 @@ ghost use Rattle.usda_lists.specs.References.{same_text, same_path, same_item};
 
 use crate::edit::ListEdit;
 use crate::lists::{put_list, take_list};
-use list_ops::ListOp;
+use list_ops::{ListOp, firsts_ordered};
 use plain_data::{ExactClone, ExactEq, ExactOrd, Items, Text};
 use sdf_paths::Path;
 use sdf_values::LayerOffset;
 use spec_parts::RefItem;
 use std::alloc::{AllocError, Global};
 use std::marker::Model;
-use std::mem;
-
-/// The first of each item. With `n` items it makes `n log n` comparisons.
-fn firsts<T: ExactEq + ExactOrd + ExactClone + Drop>(
-    alloc: Global,
-    items: Items<T>,
-) -> Result<Items<T>, AllocError>
-    ensures { IfOk result (λ kept. kept ≡ firsts T.eq items) }
-{
-    let mut kept = Vec::new(alloc);
-    let mut op = ListOp::new(alloc);
-    drop(mem::replace(&mut op.explicit, Some(items)));
-    let applied = op.apply_ordered(&mut kept);
-    drop(op);
-    match applied {
-        Ok(()) => Ok(Items::from_vec(kept)),
-        Err(error) => {
-            drop(kept);
-            Err(error)
-        }
-    }
-}
 
 /// Ends the list of texts of an edit: repeats after the first are dropped. With `n` items it makes `n log n` comparisons.
 pub fn close_texts(alloc: Global, op: &mut ListOp<Text>, edit: ListEdit) -> Result<(), AllocError>
     ensures { OnOk result (op.new ≡ close_list same_text edit op.old) }
 {
     let items = take_list(op, edit);
-    let kept = firsts(alloc, items)?;
+    let kept = first_texts(alloc, items)?;
     put_list(op, edit, kept);
     Ok(())
 }
@@ -57,14 +35,22 @@ pub fn close_paths(alloc: Global, op: &mut ListOp<Path>, edit: ListEdit) -> Resu
     Ok(())
 }
 
-fn first_paths(alloc: Global, items: Items<Path>) -> Result<Items<Path>, AllocError>
+/// The first of each text.
+pub fn first_texts(alloc: Global, items: Items<Text>) -> Result<Items<Text>, AllocError>
+    ensures { IfOk result (λ kept. kept ≡ firsts same_text items) }
+{
+    firsts_ordered(alloc, items.as_slice())
+}
+
+/// The first of each path.
+pub fn first_paths(alloc: Global, items: Items<Path>) -> Result<Items<Path>, AllocError>
     ensures { IfOk result (λ kept. kept ≡ firsts same_path items) }
 {
-    firsts(alloc, items)
+    firsts_ordered(alloc, items.as_slice())
 }
 
 /// An item of references in an order.
-#[derive(Clone, Debug, Drop, PartialEq, Eq, PartialOrd, Ord)]
+#[derive(Clone, Drop, PartialEq, Eq, PartialOrd, Ord)]
 struct OrderedItem {
     asset: Option<Text>,
     path: Option<Path>,
@@ -140,7 +126,8 @@ fn unordered(alloc: Global, items: Items<OrderedItem>) -> Result<Items<RefItem>,
 fn first_items(alloc: Global, items: Items<RefItem>) -> Result<Items<RefItem>, AllocError>
     ensures { IfOk result (λ kept. kept ≡ firsts same_item items) }
 {
-    let kept = firsts(alloc, ordered(alloc, items)?)?;
+    let all = ordered(alloc, items)?;
+    let kept = firsts_ordered(alloc, all.as_slice())?;
     unordered(alloc, kept)
 }
 

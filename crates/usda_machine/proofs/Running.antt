@@ -1,7 +1,7 @@
 -- The run of the machine gives exactly what the grammar makes of a text, and its first refusal.
 use Rattle.std.proofs.Common.{◌≡◌, ◌⊎◌, inl, inr, Bool, true, false, ◌&&◌, List, [], ◌∷◌, ◌++◌, Option, Some, None, Result, Ok, Err, refl, ap, sym, subst, ◌∙◌, append_assoc}
 use Rattle.std.proofs.lemmas.List.{append-nil}
-use Rattle.usda_grammar.specs.declared.kinds.TokenKind.{TokenKind}
+use Rattle.usda_grammar.specs.declared.kinds.WordKind.{WordKind}
 use Rattle.usda_grammar.specs.declared.symbols.Symbol.{Symbol}
 use Rattle.usda_grammar.specs.Table.{layer, starts, may_be_absent}
 use Rattle.usda_grammar.specs.Derivations.{Derivation, ends, skips, takes, AreText}
@@ -12,7 +12,7 @@ use Rattle.usda_grammar.proofs.Parsing.{step_sound, done_text, completed, shorte
 use Rattle.usda_machine.specs.Reading.{after_act as after_act_by, after_step as after_step_by, at_end as at_end_by, run as run_by}
 use Rattle.usda_machine.specs.Texts.{Makes as MakesBy, Make as MakeBy, kinds as kinds_by, HasRead as HasReadBy, IsSyntax as IsSyntaxBy, IsRefusedAct as IsRefusedActBy, IsAtWord as IsAtWordBy, IsAtEnd as IsAtEndBy, HaveFirstRefusal as HaveFirstRefusalBy, HaveOneAnswer as HaveOneAnswerBy}
 
-module _ {Word Draft Refusal : Type 0} (kind : Word → TokenKind) (act : Symbol → Word → Draft → Result Draft Refusal) (refused_as : Option Word → Refusal) (blank : Draft) where
+module _ {Word Draft Refusal : Type 0} (kind : Word → WordKind) (act : Symbol → Word → Draft → Result Draft Refusal) (refused_as : Option Word → Refusal) (blank : Draft) where
   abbrev start : List Symbol
   start = layer
 
@@ -34,7 +34,7 @@ module _ {Word Draft Refusal : Type 0} (kind : Word → TokenKind) (act : Symbol
   abbrev Makes : Derivation → List Symbol → Draft → List Word → List Symbol → Draft → Type 0
   Makes = MakesBy kind act refused_as
 
-  abbrev kinds : List Word → List TokenKind
+  abbrev kinds : List Word → List WordKind
   kinds = kinds_by kind act refused_as
 
   abbrev Make : List Word → Draft → Type 0
@@ -75,7 +75,7 @@ module _ {Word Draft Refusal : Type 0} (kind : Word → TokenKind) (act : Symbol
     pub made : Makes by next draft ws left out
 
   -- a symbol that may be absent does not hide what takes the token below it
-  below_it : (s : Symbol) (stack : List Symbol) (k : TokenKind) (next : Symbol × List Symbol) → IsClear (s ∷ stack) → may_be_absent s ≡ true → step stack k ≡ Some next → step (s ∷ stack) k ≡ Some next
+  below_it : (s : Symbol) (stack : List Symbol) (k : WordKind) (next : Symbol × List Symbol) → IsClear (s ∷ stack) → may_be_absent s ≡ true → step stack k ≡ Some next → step (s ∷ stack) k ≡ Some next
   below_it s stack k next clear absent took = from (starts s k) (may_follow s k) refl refl
     where
       from : (o : Option (List Symbol)) (b : Bool) → starts s k ≡ o → may_follow s k ≡ b → step (s ∷ stack) k ≡ Some next
@@ -94,7 +94,7 @@ module _ {Word Draft Refusal : Type 0} (kind : Word → TokenKind) (act : Symbol
       record { symbol = s; next = after ++ stack; draft = next; took = rw at refl; acted = acted; clear = clear-after s stack (kind w) after clear at; by = t; made = h }
 
   -- from symbols that are absent the machine gets to the same
-  skipped : (t : Derivation) (stack : List Symbol) (d : Draft) (s : Symbol) (below : List Symbol) (out : Draft) (k : TokenKind) (after : List Symbol) → IsClear stack → Makes t stack d [] (s ∷ below) out → starts s k ≡ Some after → step stack k ≡ Some (s, after ++ below)
+  skipped : (t : Derivation) (stack : List Symbol) (d : Draft) (s : Symbol) (below : List Symbol) (out : Draft) (k : WordKind) (after : List Symbol) → IsClear stack → Makes t stack d [] (s ∷ below) out → starts s k ≡ Some after → step stack k ≡ Some (s, after ++ below)
   skipped ends stack d s below out k after clear h at = ap (λ (x : List Symbol). step x k) h.0 ∙ rw at refl
   skipped (skips t) [] d s below out k after clear h at = absurd h
   skipped (skips t) (u ∷ stack) d s below out k after clear h at = below_it u stack k (s, after ++ below) clear h.0 (skipped t stack d s below out k after clear.1 h.1 at)
@@ -198,7 +198,7 @@ module _ {Word Draft Refusal : Type 0} (kind : Word → TokenKind) (act : Symbol
   makes_append (takes t) (s ∷ stack) d [] mid d_mid u ws left out h g = absurd h
   makes_append (takes t) (s ∷ stack) d (w ∷ front) mid d_mid u ws left out (after, next, at, acted, h) g = let v = makes_append t (after ++ stack) next front mid d_mid u ws left out h g in (takes v.0, (after, next, at, acted, v.1))
 
-  pub makes_text : (t : Derivation) (stack : List Symbol) (d : Draft) (front : List Word) (left : List Symbol) (out : Draft) (rest : List TokenKind) → Makes t stack d front left out → AreText left rest → AreText stack (kinds front ++ rest)
+  pub makes_text : (t : Derivation) (stack : List Symbol) (d : Draft) (front : List Word) (left : List Symbol) (out : Draft) (rest : List WordKind) → Makes t stack d front left out → AreText left rest → AreText stack (kinds front ++ rest)
   makes_text ends stack d [] left out rest h g = subst (λ (x : List Symbol). AreText x rest) (sym h.0) g
   makes_text ends stack d (w ∷ front) left out rest h g = absurd h
   makes_text (skips t) [] d front left out rest h g = absurd h
@@ -208,7 +208,7 @@ module _ {Word Draft Refusal : Type 0} (kind : Word → TokenKind) (act : Symbol
   makes_text (takes t) (s ∷ stack) d (w ∷ front) left out rest (after, next, at, acted, h) g = let v = makes_text t (after ++ stack) next front left out rest h g in (takes v.0, (after, at, v.1))
 
   -- the symbol that takes the word is on top once those before it are absent
-  record Tops (stack : List Symbol) (d : Draft) (k : TokenKind) (s : Symbol) (next : List Symbol) : Type 0 where
+  record Tops (stack : List Symbol) (d : Draft) (k : WordKind) (s : Symbol) (next : List Symbol) : Type 0 where
     pub below : List Symbol
     pub after : List Symbol
     pub by : Derivation
@@ -216,7 +216,7 @@ module _ {Word Draft Refusal : Type 0} (kind : Word → TokenKind) (act : Symbol
     pub starts_it : starts s k ≡ Some after
     pub same : next ≡ after ++ below
 
-  tops : (stack : List Symbol) (d : Draft) (k : TokenKind) (s : Symbol) (next : List Symbol) → step stack k ≡ Some (s, next) → Tops stack d k s next
+  tops : (stack : List Symbol) (d : Draft) (k : WordKind) (s : Symbol) (next : List Symbol) → step stack k ≡ Some (s, next) → Tops stack d k s next
   tops [] d k s next e = absurd cc
   tops (u ∷ stack) d k s next e = from (λ same. tops stack d k s next same) (starts u k) (may_be_absent u) refl refl e
     where

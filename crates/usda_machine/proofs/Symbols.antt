@@ -1,7 +1,7 @@
 -- The symbols of the code, the innermost last, and those of the machine.
 use Rattle.std.proofs.Common.{◌≡◌, ◌<◌, true, false, length, arith, List, [], ◌∷◌, ◌++◌, Some, None, refl, ap, sym, ◌∙◌}
 use Rattle.usda_grammar.specs.declared.symbols.Symbol.{Symbol}
-use Rattle.usda_grammar.specs.declared.kinds.TokenKind.{TokenKind}
+use Rattle.usda_grammar.specs.declared.kinds.WordKind.{WordKind}
 use Rattle.usda_grammar.specs.Table.{starts, may_be_absent}
 use Rattle.usda_grammar.specs.Machine.{step, is_done}
 use Rattle.plain_data.specs.Ends.{last, front}
@@ -50,14 +50,14 @@ done_none ss e = ap is_done (stack_of-none ss e)
 
 -- ---- a token
 
-pub step_taken : (ss : List Symbol) (s : Symbol) (k : TokenKind) (after : List Symbol) → Some s ≡ last ss → Some after ≡ starts s k → step (stack_of ss) k ≡ Some (s, after ++ stack_of (front ss))
+pub step_taken : (ss : List Symbol) (s : Symbol) (k : WordKind) (after : List Symbol) → Some s ≡ last ss → Some after ≡ starts s k → step (stack_of ss) k ≡ Some (s, after ++ stack_of (front ss))
 step_taken ss s k after e at = let f : starts s k ≡ Some after = sym at in ap (λ (l : List Symbol). step l k) (stack_of-pop ss s e) ∙ rw f refl
 
-pub step_refused : (ss : List Symbol) (s : Symbol) (k : TokenKind) → Some s ≡ last ss → None ≡ starts s k → may_be_absent s ≡ false → step (stack_of ss) k ≡ None
+pub step_refused : (ss : List Symbol) (s : Symbol) (k : WordKind) → Some s ≡ last ss → None ≡ starts s k → may_be_absent s ≡ false → step (stack_of ss) k ≡ None
 step_refused ss s k e at firm = let f : starts s k ≡ None = sym at in ap (λ (l : List Symbol). step l k) (stack_of-pop ss s e) ∙ rw (f, firm) refl
 
-pub step_goes : (ss : List Symbol) (s : Symbol) (k : TokenKind) → Some s ≡ last ss → None ≡ starts s k → may_be_absent s ≡ true → step (stack_of ss) k ≡ step (stack_of (front ss)) k
+pub step_goes : (ss : List Symbol) (s : Symbol) (k : WordKind) → Some s ≡ last ss → None ≡ starts s k → may_be_absent s ≡ true → step (stack_of ss) k ≡ step (stack_of (front ss)) k
 step_goes ss s k e at absent = let f : starts s k ≡ None = sym at in ap (λ (l : List Symbol). step l k) (stack_of-pop ss s e) ∙ rw (f, absent) refl
 
-pub step_none : (ss : List Symbol) (k : TokenKind) → None ≡ last ss → step (stack_of ss) k ≡ None
+pub step_none : (ss : List Symbol) (k : WordKind) → None ≡ last ss → step (stack_of ss) k ≡ None
 step_none ss k e = ap (λ (l : List Symbol). step l k) (stack_of-none ss e)

@@ -3,11 +3,11 @@
 -- A word has a kind, which decides by which symbol it is taken; an act says what the word adds to a draft, or refuses it.
 -- A word that no symbol takes, or the end where the text may not end, is refused by `refused_as`.
 use Rattle.std.specs.Prelude.{Bool, true, false, List, [], ◌∷◌, Option, Some, None, Result, Ok, Err}
-use Rattle.usda_grammar.specs.declared.kinds.TokenKind.{TokenKind}
+use Rattle.usda_grammar.specs.declared.kinds.WordKind.{WordKind}
 use Rattle.usda_grammar.specs.declared.symbols.Symbol.{Symbol}
 use Rattle.usda_grammar.specs.Machine.{step, is_done}
 
-module _ {Word Draft Refusal : Type 0} (kind : Word → TokenKind) (act : Symbol → Word → Draft → Result Draft Refusal) (refused_as : Option Word → Refusal) where
+module _ {Word Draft Refusal : Type 0} (kind : Word → WordKind) (act : Symbol → Word → Draft → Result Draft Refusal) (refused_as : Option Word → Refusal) where
   -- the first refusal ends the reading
   abbrev pub after_act : Result Draft Refusal → (Draft → Result Draft Refusal) → Result Draft Refusal
   after_act (Ok d) go = go d

@@ -1,11 +1,11 @@
 -- What a text makes of a draft, and the first refusal of a text, in the words of the grammar: no machine stands in them.
 use Rattle.std.specs.Prelude.{◌≡◌, List, [], ◌∷◌, ◌++◌, ◌⊎◌, map, Option, Some, None, Result, Ok, Err, true}
-use Rattle.usda_grammar.specs.declared.kinds.TokenKind.{TokenKind}
+use Rattle.usda_grammar.specs.declared.kinds.WordKind.{WordKind}
 use Rattle.usda_grammar.specs.declared.symbols.Symbol.{Symbol}
 use Rattle.usda_grammar.specs.Table.{layer, starts, may_be_absent}
 use Rattle.usda_grammar.specs.Derivations.{Derivation, ends, skips, takes, AreText}
 
-module _ {Word Draft Refusal : Type 0} (kind : Word → TokenKind) (act : Symbol → Word → Draft → Result Draft Refusal) (refused_as : Option Word → Refusal) where
+module _ {Word Draft Refusal : Type 0} (kind : Word → WordKind) (act : Symbol → Word → Draft → Result Draft Refusal) (refused_as : Option Word → Refusal) where
   -- The words stand for these symbols up to those that are left, and each adds to the draft what it does: by this
   -- derivation the first draft becomes the other.
   abbrev pub Makes : Derivation → List Symbol → Draft → List Word → List Symbol → Draft → Type 0
@@ -18,7 +18,7 @@ module _ {Word Draft Refusal : Type 0} (kind : Word → TokenKind) (act : Symbol
   Makes (takes t) (s ∷ stack) d (w ∷ ws) left out = (after : List Symbol) × (next : Draft) × (starts s (kind w) ≡ Some after) × (act s w d ≡ Ok next) × Makes t (after ++ stack) next ws left out
 
   -- what the words are to the grammar
-  abbrev pub kinds : List Word → List TokenKind
+  abbrev pub kinds : List Word → List WordKind
   kinds ws = map kind ws
 
   -- the draft before the first word
@@ -35,7 +35,7 @@ module _ {Word Draft Refusal : Type 0} (kind : Word → TokenKind) (act : Symbol
     -- no text of the grammar goes on with the word
     pub record IsSyntax (front : List Word) (w : Word) (r : Refusal) : Type 0 where
       pub refusal : r ≡ refused_as (Some w)
-      pub none : (rest : List TokenKind) → AreText layer (kinds front ++ kind w ∷ rest) → ⊥
+      pub none : (rest : List WordKind) → AreText layer (kinds front ++ kind w ∷ rest) → ⊥
 
     -- a text goes on with the word, and what the word adds there is refused
     pub record IsRefusedAct (stack : List Symbol) (d : Draft) (w : Word) (r : Refusal) : Type 0 where
@@ -44,7 +44,7 @@ module _ {Word Draft Refusal : Type 0} (kind : Word → TokenKind) (act : Symbol
       pub after : List Symbol
       pub top : stack ≡ symbol ∷ below
       pub starts_it : starts symbol (kind w) ≡ Some after
-      pub rest : List TokenKind
+      pub rest : List WordKind
       pub text : AreText (after ++ below) rest
       pub refused : act symbol w d ≡ Err r
 

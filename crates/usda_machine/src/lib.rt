@@ -11,10 +11,10 @@ ghost use Rattle.usda_machine.specs.Stacks.{stack_of, Steps};
 
 use plain_data::Items;
 use std::alloc::AllocError;
-use usda_grammar::{Symbol, TokenKind, may_be_absent, starts};
+use usda_grammar::{Symbol, WordKind, may_be_absent, starts};
 
 /// Puts symbols in front of those still to come. After want of memory a part of them may be there.
-pub fn push_all(stack: &mut Items<Symbol>, after: &[Symbol]) -> Result<(), AllocError>
+pub fn push_front(stack: &mut Items<Symbol>, after: &[Symbol]) -> Result<(), AllocError>
     ensures { OnOk result (stack_of stack.new ≡ after.now ++ stack_of stack.old) }
 {
     let count = after.len();
@@ -26,12 +26,12 @@ pub fn push_all(stack: &mut Items<Symbol>, after: &[Symbol]) -> Result<(), Alloc
 
 /// The symbol that takes the token, if one does; behind it the stack has what then follows. Where none does, or memory runs
 /// out, the reading is at its end.
-pub fn step(stack: &mut Items<Symbol>, kind: TokenKind) -> Result<Option<Symbol>, AllocError>
+pub fn step(stack: &mut Items<Symbol>, kind: WordKind) -> Result<Option<Symbol>, AllocError>
     ensures { Steps result (stack_of stack.new) (step (stack_of stack.old) kind) }
 {
     while let Some(symbol) = stack.pop() {
         if let Some(after) = starts(symbol, kind) {
-            push_all(stack, after)?;
+            push_front(stack, after)?;
             return Ok(Some(symbol));
         }
         if !may_be_absent(symbol) {

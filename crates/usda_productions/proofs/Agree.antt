@@ -1,6 +1,6 @@
 -- Each row of the table is the one way on of what its symbol stands for. Written by tools/grammar.py.
 use Rattle.std.proofs.Common.{◌≡◌, refl}
-use Rattle.usda_grammar.specs.declared.kinds.TokenKind.{TokenKind}
+use Rattle.usda_grammar.specs.declared.kinds.WordKind.{WordKind}
 use Rattle.usda_grammar.specs.declared.symbols.Symbol.{Symbol}
 use Rattle.usda_grammar.specs.declared.symbols.Symbol.TheVariants as symbol
 use Rattle.usda_grammar.specs.Table.{may_be_absent}
@@ -8,7 +8,7 @@ use Rattle.usda_grammar.proofs.AllKinds.{by_kind}
 use Rattle.usda_productions.proofs.Shapes.{form}
 use Rattle.usda_productions.proofs.Ways.{absent, Agrees}
 
-pub table : (s : Symbol) (k : TokenKind) → Agrees s k
+pub table : (s : Symbol) (k : WordKind) → Agrees s k
 table symbol.Equals = by_kind (Agrees symbol.Equals) refl refl refl refl refl refl refl refl refl refl refl refl refl refl refl refl refl refl refl refl refl refl refl refl refl refl refl refl refl refl refl refl refl refl refl refl
 table symbol.Colon = by_kind (Agrees symbol.Colon) refl refl refl refl refl refl refl refl refl refl refl refl refl refl refl refl refl refl refl refl refl refl refl refl refl refl refl refl refl refl refl refl refl refl refl refl
 table symbol.Dot = by_kind (Agrees symbol.Dot) refl refl refl refl refl refl refl refl refl refl refl refl refl refl refl refl refl refl refl refl refl refl refl refl refl refl refl refl refl refl refl refl refl refl refl refl

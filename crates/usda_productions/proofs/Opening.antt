@@ -1,7 +1,8 @@
 -- Forms opened by choices, up to the word that takes a token.
 use Rattle.std.proofs.Common.{◌≡◌, ℕ, zero, suc, ◌≤◌, ◌⊎◌, inl, inr, Bool, true, false, ◌&&◌, ◌||◌, List, [], ◌∷◌, ◌++◌, length, Option, Some, None, refl, ap, sym, subst, ◌∙◌, append_assoc, arith}
-use Rattle.usda_grammar.specs.declared.kinds.TokenKind.{TokenKind}
-use Rattle.usda_grammar.specs.declared.kinds.TokenKind.TheVariants as token
+use Rattle.std.proofs.lemmas.Bool.{and_parts}
+use Rattle.usda_grammar.specs.declared.kinds.WordKind.{WordKind}
+use Rattle.usda_grammar.specs.declared.kinds.WordKind.TheVariants as token
 use Rattle.usda_grammar.specs.declared.symbols.Symbol.{Symbol}
 use Rattle.usda_productions.specs.Tokens.{is}
 use Rattle.usda_productions.specs.Forms.{Rule, root_statement, head_item, sublayer_list, sublayer, offset_item, prim, prim_item, edited_field, field, string_list, path_list, reference_list, reference, statement, variant_set, variant, relationship, after_reorder, after_edit, after_edited_custom, after_edited_variability, after_custom, after_variability, after_dot, edited_dot, sample, property_item, value, dictionary, entry, name_list, Form, one, rule, either, maybe, many, more, commas, Seq, nil, then, list_of, just}
@@ -17,11 +18,6 @@ Opens (c ∷ cs) (f ∷ fs) to = (gs : List Form) × (opened c f ≡ Some gs) ×
 
 abbrev pub OpenTo : List Form → List Form → Type 0
 OpenTo fs to = (cs : List Choice) × Opens cs fs to
-
-pub both : (a b : Bool) → (a && b) ≡ true → (a ≡ true) × (b ≡ true)
-both true true e = (refl, refl)
-both true false e = absurd cc
-both false b e = absurd cc
 
 one_of : (a b : Bool) → (a || b) ≡ true → (a ≡ true) ⊎ (b ≡ true)
 one_of true b e = inl refl
@@ -52,7 +48,7 @@ mutual
 
   absent_seq_opens : (s : Seq) → absent_seq s ≡ true → (gs to : List Form) → OpenTo gs to → OpenTo (list_of s ++ gs) to
   absent_seq_opens nil e gs to h = h
-  absent_seq_opens (then f s) e gs to h = let b = both (absent f) (absent_seq s) e in absent_opens f b.0 (list_of s ++ gs) to (absent_seq_opens s b.1 gs to h)
+  absent_seq_opens (then f s) e gs to h = let b = and_parts (absent f) (absent_seq s) e in absent_opens f b.0 (list_of s ++ gs) to (absent_seq_opens s b.1 gs to h)
 
 pub skipped : (f : Form) → absent f ≡ true → (gs : List Form) → OpenTo (f ∷ gs) gs
 skipped f e gs = absent_opens f e gs gs ([], refl)
@@ -104,7 +100,7 @@ opened_absent right (more next behind a k) gs e all = let g : one behind (is tok
 
 all_both : (gs fs : List Form) → absent_all (gs ++ fs) ≡ true → (absent_all gs ≡ true) × (absent_all fs ≡ true)
 all_both [] fs e = (refl, e)
-all_both (g ∷ gs) fs e = let b = both (absent g) (absent_all (gs ++ fs)) e in let d = all_both gs fs b.1 in (ap (λ (x : Bool). x && absent_all gs) b.0 ∙ d.0, d.1)
+all_both (g ∷ gs) fs e = let b = and_parts (absent g) (absent_all (gs ++ fs)) e in let d = all_both gs fs b.1 in (ap (λ (x : Bool). x && absent_all gs) b.0 ∙ d.0, d.1)
 
 -- what is opened to nothing may be absent
 pub nothing_left : (cs : List Choice) (fs : List Form) → Opens cs fs [] → absent_all fs ≡ true
@@ -162,22 +158,22 @@ before_parts fs None rs e = absurd cc
 before_parts fs (Some xs) rs e = (xs, refl, cc)
 
 -- a form that is opened is no word
-opened_ways : (w : Form → TokenKind → Ways) (c : Choice) (f : Form) (fs : List Form) (k : TokenKind) → opened c f ≡ Some fs → ways_by w f k ≡ both_ways (ways_opened w (opened left f) k) (ways_opened w (opened right f) k)
+opened_ways : (w : Form → WordKind → Ways) (c : Choice) (f : Form) (fs : List Form) (k : WordKind) → opened c f ≡ Some fs → ways_by w f k ≡ both_ways (ways_opened w (opened left f) k) (ways_opened w (opened right f) k)
 opened_ways w c (one s test) fs k e = absurd cc
 opened_ways w c f fs k e = refl
 
 -- ---- by a way of a form it is opened to a word that takes the token
 
-abbrev pub Reaches : List Form → TokenKind → Symbol → List Form → Type 0
-Reaches fs k s behind = (test : TokenKind → Bool) × (test k ≡ true) × OpenTo fs (one s test ∷ behind)
+abbrev pub Reaches : List Form → WordKind → Symbol → List Form → Type 0
+Reaches fs k s behind = (test : WordKind → Bool) × (test k ≡ true) × OpenTo fs (one s test ∷ behind)
 
-abbrev WaysReach : (Form → TokenKind → Ways) → Type 0
-WaysReach w = (f : Form) (k : TokenKind) (rs : List Way) → w f k ≡ Some rs → (r : Way) → IsIn r rs → (gs : List Form) → Reaches (f ∷ gs) k r.0 (r.1 ++ gs)
+abbrev WaysReach : (Form → WordKind → Ways) → Type 0
+WaysReach w = (f : Form) (k : WordKind) (rs : List Way) → w f k ≡ Some rs → (r : Way) → IsIn r rs → (gs : List Form) → Reaches (f ∷ gs) k r.0 (r.1 ++ gs)
 
 none_in : (r : Way) (rs : List Way) → if_absent false None ≡ Some rs → IsIn r rs → ⊥
 none_in r rs e is_in = let f : [] ≡ rs = cc in subst (IsIn r) (sym f) is_in
 
-ways_in_reach : (w : Form → TokenKind → Ways) → WaysReach w → (fs : List Form) (k : TokenKind) (rs : List Way) → ways_in w fs k ≡ Some rs → (r : Way) → IsIn r rs → (gs : List Form) → Reaches (fs ++ gs) k r.0 (r.1 ++ gs)
+ways_in_reach : (w : Form → WordKind → Ways) → WaysReach w → (fs : List Form) (k : WordKind) (rs : List Way) → ways_in w fs k ≡ Some rs → (r : Way) → IsIn r rs → (gs : List Form) → Reaches (fs ++ gs) k r.0 (r.1 ++ gs)
 ways_in_reach w at [] k rs e r is_in gs = absurd (none_in r rs e is_in)
 ways_in_reach w at (f ∷ fs) k rs e r is_in gs =
     let p = parts (before fs (w f k)) (if_absent (absent f) (ways_in w fs k)) rs e in
@@ -198,7 +194,7 @@ ways_in_reach w at (f ∷ fs) k rs e r is_in gs =
     later deeper true absent_f ys e is_in = let t = deeper ys e is_in in (t.0, t.1, absent_opens f absent_f (fs ++ gs) (one r.0 t.0 ∷ r.1 ++ gs) t.2)
     later deeper false absent_f ys e is_in = absurd (none_in r ys e is_in)
 
-word_reaches : (s : Symbol) (test : TokenKind → Bool) (k : TokenKind) (b : Bool) → test k ≡ b → (rs : List Way) → if_same s b ≡ Some rs → (r : Way) → IsIn r rs → (gs : List Form) → Reaches (one s test ∷ gs) k r.0 (r.1 ++ gs)
+word_reaches : (s : Symbol) (test : WordKind → Bool) (k : WordKind) (b : Bool) → test k ≡ b → (rs : List Way) → if_same s b ≡ Some rs → (r : Way) → IsIn r rs → (gs : List Form) → Reaches (one s test ∷ gs) k r.0 (r.1 ++ gs)
 word_reaches s test k false eq rs e r is_in gs = absurd (none_in r rs e is_in)
 word_reaches s test k true eq rs e r is_in gs =
     let g : (s, []) ∷ [] ≡ rs = cc in
@@ -207,11 +203,11 @@ word_reaches s test k true eq rs e r is_in gs =
       | inr x ↦ absurd x
     ]
 
-opened_reaches : (w : Form → TokenKind → Ways) → WaysReach w → (c : Choice) (f : Form) (k : TokenKind) (o : Option (List Form)) → opened c f ≡ o → (rs : List Way) → ways_opened w o k ≡ Some rs → (r : Way) → IsIn r rs → (gs : List Form) → Reaches (f ∷ gs) k r.0 (r.1 ++ gs)
+opened_reaches : (w : Form → WordKind → Ways) → WaysReach w → (c : Choice) (f : Form) (k : WordKind) (o : Option (List Form)) → opened c f ≡ o → (rs : List Way) → ways_opened w o k ≡ Some rs → (r : Way) → IsIn r rs → (gs : List Form) → Reaches (f ∷ gs) k r.0 (r.1 ++ gs)
 opened_reaches w at c f k None op rs e r is_in gs = absurd (none_in r rs e is_in)
 opened_reaches w at c f k (Some fs) op rs e r is_in gs = let t = ways_in_reach w at fs k rs e r is_in gs in (t.0, t.1, (c ∷ t.2.0, (fs, op, t.2.1)))
 
-either_reaches : (w : Form → TokenKind → Ways) → WaysReach w → (f : Form) (k : TokenKind) (rs : List Way) → both_ways (ways_opened w (opened left f) k) (ways_opened w (opened right f) k) ≡ Some rs → (r : Way) → IsIn r rs → (gs : List Form) → Reaches (f ∷ gs) k r.0 (r.1 ++ gs)
+either_reaches : (w : Form → WordKind → Ways) → WaysReach w → (f : Form) (k : WordKind) (rs : List Way) → both_ways (ways_opened w (opened left f) k) (ways_opened w (opened right f) k) ≡ Some rs → (r : Way) → IsIn r rs → (gs : List Form) → Reaches (f ∷ gs) k r.0 (r.1 ++ gs)
 either_reaches w at f k rs e r is_in gs =
     let p = parts (ways_opened w (opened left f) k) (ways_opened w (opened right f) k) rs e in
     elim (in_either r p.xs p.ys (subst (IsIn r) (sym p.same) is_in)) [
@@ -219,7 +215,7 @@ either_reaches w at f k rs e r is_in gs =
       | inr x ↦ opened_reaches w at right f k (opened right f) refl p.ys p.second r x gs
     ]
 
-ways_by_reach : (w : Form → TokenKind → Ways) → WaysReach w → WaysReach (ways_by w)
+ways_by_reach : (w : Form → WordKind → Ways) → WaysReach w → WaysReach (ways_by w)
 ways_by_reach w at (one s test) k rs e r is_in gs = word_reaches s test k (test k) refl rs e r is_in gs
 ways_by_reach w at f k rs e r is_in gs = either_reaches w at f k rs e r is_in gs
 
@@ -230,13 +226,13 @@ ways_reach (suc n) f k rs e r is_in gs = ways_by_reach (ways n) (ways_reach n) f
 -- ---- what is opened to a word that takes the token is opened by a way
 
 -- by a way the form is opened to the word, or the form is absent and what stands behind it is opened so
-abbrev pub Out : List Way → Bool → List Form → Symbol → (TokenKind → Bool) → List Form → ℕ → Type 0
+abbrev pub Out : List Way → Bool → List Form → Symbol → (WordKind → Bool) → List Form → ℕ → Type 0
 Out rs b gs s test behind most = ((r : List Form) × IsIn (s, r) rs × (behind ≡ r ++ gs)) ⊎ ((b ≡ true) × (cs : List Choice) × (length cs ≤ most) × Opens cs gs (one s test ∷ behind))
 
 abbrev Claim : ℕ → Type 0
-Claim most = (n : ℕ) (f : Form) (gs : List Form) (k : TokenKind) (s : Symbol) (test : TokenKind → Bool) (behind : List Form) (rs : List Way) (cs : List Choice) → length cs ≤ most → test k ≡ true → ways n f k ≡ Some rs → Opens cs (f ∷ gs) (one s test ∷ behind) → Out rs (absent f) gs s test behind most
+Claim most = (n : ℕ) (f : Form) (gs : List Form) (k : WordKind) (s : Symbol) (test : WordKind → Bool) (behind : List Form) (rs : List Way) (cs : List Choice) → length cs ≤ most → test k ≡ true → ways n f k ≡ Some rs → Opens cs (f ∷ gs) (one s test ∷ behind) → Out rs (absent f) gs s test behind most
 
-claim_in : (most : ℕ) → Claim most → (n : ℕ) (fs gs : List Form) (k : TokenKind) (s : Symbol) (test : TokenKind → Bool) (behind : List Form) (rs : List Way) (cs : List Choice) → length cs ≤ most → test k ≡ true → ways_in (ways n) fs k ≡ Some rs → Opens cs (fs ++ gs) (one s test ∷ behind) → Out rs (absent_all fs) gs s test behind most
+claim_in : (most : ℕ) → Claim most → (n : ℕ) (fs gs : List Form) (k : WordKind) (s : Symbol) (test : WordKind → Bool) (behind : List Form) (rs : List Way) (cs : List Choice) → length cs ≤ most → test k ≡ true → ways_in (ways n) fs k ≡ Some rs → Opens cs (fs ++ gs) (one s test ∷ behind) → Out rs (absent_all fs) gs s test behind most
 claim_in most c n [] gs k s test behind rs cs le holds e h = inr (refl, cs, le, h)
 claim_in most c n (f ∷ fs) gs k s test behind rs cs le holds e h =
     let ps = parts (before fs (ways n f k)) (if_absent (absent f) (ways_in (ways n) fs k)) rs e in
@@ -252,7 +248,7 @@ claim_in most c n (f ∷ fs) gs k s test behind rs cs le holds e h =
     ]
 
 -- the form is the word itself
-claim_word : (most n : ℕ) (f : Form) (gs : List Form) (k : TokenKind) (s : Symbol) (test : TokenKind → Bool) (behind : List Form) (rs : List Way) → test k ≡ true → ways n f k ≡ Some rs → f ∷ gs ≡ one s test ∷ behind → Out rs (absent f) gs s test behind most
+claim_word : (most n : ℕ) (f : Form) (gs : List Form) (k : WordKind) (s : Symbol) (test : WordKind → Bool) (behind : List Form) (rs : List Way) → test k ≡ true → ways n f k ≡ Some rs → f ∷ gs ≡ one s test ∷ behind → Out rs (absent f) gs s test behind most
 claim_word most zero f gs k s test behind rs holds e h = absurd cc
 claim_word most (suc n) f gs k s test behind rs holds e h =
     let same : f ≡ one s test = cc in
@@ -262,7 +258,7 @@ claim_word most (suc n) f gs k s test behind rs holds e h =
     inl ([], subst (IsIn (s, [])) g (inl refl), sym after)
 
 -- the form is opened by a choice first
-claim_opened : (most : ℕ) → Claim most → (n : ℕ) (f : Form) (gs : List Form) (k : TokenKind) (s : Symbol) (test : TokenKind → Bool) (behind : List Form) (rs : List Way) (ch : Choice) (cs : List Choice) → suc (length cs) ≤ suc most → test k ≡ true → ways n f k ≡ Some rs → Opens (ch ∷ cs) (f ∷ gs) (one s test ∷ behind) → Out rs (absent f) gs s test behind (suc most)
+claim_opened : (most : ℕ) → Claim most → (n : ℕ) (f : Form) (gs : List Form) (k : WordKind) (s : Symbol) (test : WordKind → Bool) (behind : List Form) (rs : List Way) (ch : Choice) (cs : List Choice) → suc (length cs) ≤ suc most → test k ≡ true → ways n f k ≡ Some rs → Opens (ch ∷ cs) (f ∷ gs) (one s test ∷ behind) → Out rs (absent f) gs s test behind (suc most)
 claim_opened most c zero f gs k s test behind rs ch cs le holds e h = absurd cc
 claim_opened most c (suc n) f gs k s test behind rs ch cs le holds e (fs, op, h) =
     let ps = parts (ways_opened (ways n) (opened left f) k) (ways_opened (ways n) (opened right f) k) rs (sym (opened_ways (ways n) ch f fs k op) ∙ e) in

@@ -1,7 +1,8 @@
 -- The productions make of words what the table makes of them, and refuse them first where it does.
 use Rattle.std.proofs.Common.{◌≡◌, ◌⊎◌, inl, inr, Bool, true, List, [], ◌∷◌, ◌++◌, length, map, Option, Some, None, Result, Ok, Err, refl, ap, sym, subst, ◌∙◌, arith}
 use Rattle.std.proofs.lemmas.List.{append-nil}
-use Rattle.usda_grammar.specs.declared.kinds.TokenKind.{TokenKind}
+use Rattle.std.proofs.lemmas.Bool.{and_parts}
+use Rattle.usda_grammar.specs.declared.kinds.WordKind.{WordKind}
 use Rattle.usda_grammar.specs.declared.symbols.Symbol.{Symbol}
 use Rattle.usda_grammar.specs.Table.{layer, starts}
 use Rattle.usda_grammar.specs.Derivations.{Derivation, ends, skips, takes, Derives, AreText}
@@ -14,21 +15,21 @@ use Rattle.usda_productions.specs.Productions.{ProductionsMakeTheSame}
 use Rattle.usda_productions.proofs.Shapes.{form, forms}
 use Rattle.usda_productions.proofs.Ways.{absent, absent_all, row}
 use Rattle.usda_productions.proofs.Agree.{table as agrees, absent_same}
-use Rattle.usda_productions.proofs.Opening.{Opens, OpenTo, both, skipped, nothing_left, IsIn, Reaches, ways_reach, claim}
+use Rattle.usda_productions.proofs.Opening.{Opens, OpenTo, skipped, nothing_left, IsIn, Reaches, ways_reach, claim}
 
 forms-append : (xs ys : List Symbol) → forms (xs ++ ys) ≡ forms xs ++ forms ys
 forms-append [] ys = refl
 forms-append (x ∷ xs) ys = ap (λ (l : List Form). form x ∷ l) (forms-append xs ys)
 
 -- where a symbol begins with a token, its form is opened to a word of that symbol
-row_reached : (s : Symbol) (k : TokenKind) (after stack : List Symbol) → starts s k ≡ Some after → Reaches (forms (s ∷ stack)) k s (forms (after ++ stack))
+row_reached : (s : Symbol) (k : WordKind) (after stack : List Symbol) → starts s k ≡ Some after → Reaches (forms (s ∷ stack)) k s (forms (after ++ stack))
 row_reached s k after stack at =
     subst (Reaches (forms (s ∷ stack)) k s) (sym (forms-append after stack))
     (ways_reach 24 (form s) k ((s, forms after) ∷ []) (agrees s k ∙ ap (λ (o : Option (List Symbol)). Some (row s o)) at) (s, forms after) (inl refl) (forms stack))
 
 -- ---- whatever words and drafts are
 
-module _ {Word Draft Refusal : Type 0} (kind : Word → TokenKind) (act : Symbol → Word → Draft → Result Draft Refusal) (refused_as : Option Word → Refusal) where
+module _ {Word Draft Refusal : Type 0} (kind : Word → WordKind) (act : Symbol → Word → Draft → Result Draft Refusal) (refused_as : Option Word → Refusal) where
   abbrev Makes : Derivation → List Symbol → Draft → List Word → List Symbol → Draft → Type 0
   Makes = table.Makes kind act refused_as
 
@@ -73,7 +74,7 @@ module _ {Word Draft Refusal : Type 0} (kind : Word → TokenKind) (act : Symbol
   -- the first word, and the form that takes it
   record Took (fs : List Form) (d : Draft) (w : Word) (ws : List Word) (to : List Form) (out : Draft) : Type 0 where
     pub symbol : Symbol
-    pub test : TokenKind → Bool
+    pub test : WordKind → Bool
     pub behind : List Form
     pub choices : List Choice
     pub opens : Opens choices fs (one symbol test ∷ behind)
@@ -102,7 +103,7 @@ module _ {Word Draft Refusal : Type 0} (kind : Word → TokenKind) (act : Symbol
   only_opened (pick c p) (f ∷ fs) d to out (gs, op, h) = let t = only_opened p (gs ++ fs) d to out h in ((c ∷ t.0.0, (gs, op, t.0.1)), t.1)
 
   -- the symbol that takes the token is on top once those before it are absent
-  record Tops (stack : List Symbol) (d : Draft) (k : TokenKind) (s : Symbol) (behind : List Form) : Type 0 where
+  record Tops (stack : List Symbol) (d : Draft) (k : WordKind) (s : Symbol) (behind : List Form) : Type 0 where
     pub below : List Symbol
     pub after : List Symbol
     pub by : Derivation
@@ -110,7 +111,7 @@ module _ {Word Draft Refusal : Type 0} (kind : Word → TokenKind) (act : Symbol
     pub starts_it : starts s k ≡ Some after
     pub same : behind ≡ forms (after ++ below)
 
-  top_row : (u : Symbol) (stack : List Symbol) (d : Draft) (k : TokenKind) (s : Symbol) (behind r : List Form) (o : Option (List Symbol)) → starts u k ≡ o → IsIn (s, r) (row u o) → behind ≡ r ++ forms stack → Tops (u ∷ stack) d k s behind
+  top_row : (u : Symbol) (stack : List Symbol) (d : Draft) (k : WordKind) (s : Symbol) (behind r : List Form) (o : Option (List Symbol)) → starts u k ≡ o → IsIn (s, r) (row u o) → behind ≡ r ++ forms stack → Tops (u ∷ stack) d k s behind
   top_row u stack d k s behind r None at is_in e = absurd is_in
   top_row u stack d k s behind r (Some after) at (inr x) e = absurd x
   top_row u stack d k s behind r (Some after) at (inl x) e =
@@ -125,7 +126,7 @@ module _ {Word Draft Refusal : Type 0} (kind : Word → TokenKind) (act : Symbol
         same = e ∙ ap (λ (l : List Form). l ++ forms stack) rests ∙ sym (forms-append after stack);
       }
 
-  tops : (stack : List Symbol) (d : Draft) (k : TokenKind) (s : Symbol) (test : TokenKind → Bool) (behind : List Form) (cs : List Choice) → test k ≡ true → Opens cs (forms stack) (one s test ∷ behind) → Tops stack d k s behind
+  tops : (stack : List Symbol) (d : Draft) (k : WordKind) (s : Symbol) (test : WordKind → Bool) (behind : List Form) (cs : List Choice) → test k ≡ true → Opens cs (forms stack) (one s test ∷ behind) → Tops stack d k s behind
   tops [] d k s test behind [] passes h = absurd cc
   tops [] d k s test behind (c ∷ cs) passes h = absurd h
   tops (u ∷ stack) d k s test behind cs passes h = elim (claim (length cs) 24 (form u) (forms stack) k s test behind (row u (starts u k)) cs (omega arith) passes (agrees u k) h) [
@@ -167,7 +168,7 @@ module _ {Word Draft Refusal : Type 0} (kind : Word → TokenKind) (act : Symbol
   all_skipped : (stack : List Symbol) (d : Draft) → absent_all (forms stack) ≡ true → (t : Derivation) × Makes t stack d [] [] d
   all_skipped [] d e = (ends, (refl, refl))
   all_skipped (s ∷ stack) d e =
-      let b = both (absent (form s)) (absent_all (forms stack)) e in
+      let b = and_parts (absent (form s)) (absent_all (forms stack)) e in
       let t = all_skipped stack d b.1 in
       (skips t.0, (sym (absent_same s) ∙ b.0, t.1))
 
@@ -179,10 +180,10 @@ module _ {Word Draft Refusal : Type 0} (kind : Word → TokenKind) (act : Symbol
 
 -- ---- mere kinds
 
-abbrev KindsMake : Derivation → List Symbol → List TokenKind → Type 0
+abbrev KindsMake : Derivation → List Symbol → List WordKind → Type 0
 KindsMake t stack ks = table.Makes (λ k. k) adds_nothing (λ o. tt) t stack tt ks [] tt
 
-derived : (t : Derivation) (stack : List Symbol) (ks : List TokenKind) → Derives t stack ks → KindsMake t stack ks
+derived : (t : Derivation) (stack : List Symbol) (ks : List WordKind) → Derives t stack ks → KindsMake t stack ks
 derived ends [] [] h = (refl, refl)
 derived ends [] (k ∷ ks) h = absurd h
 derived ends (s ∷ stack) ks h = absurd h
@@ -192,7 +193,7 @@ derived (takes t) [] ks h = absurd h
 derived (takes t) (s ∷ stack) [] h = absurd h
 derived (takes t) (s ∷ stack) (k ∷ ks) (after, at, h) = (after, tt, at, refl, derived t (after ++ stack) ks h)
 
-derives : (t : Derivation) (stack : List Symbol) (ks : List TokenKind) → KindsMake t stack ks → Derives t stack ks
+derives : (t : Derivation) (stack : List Symbol) (ks : List WordKind) → KindsMake t stack ks → Derives t stack ks
 derives ends [] [] h = tt
 derives ends [] (k ∷ ks) h = absurd h
 derives ends (s ∷ stack) [] h = absurd (let e = h.0 in cc)
@@ -203,15 +204,15 @@ derives (takes t) [] ks h = absurd h
 derives (takes t) (s ∷ stack) [] h = absurd h
 derives (takes t) (s ∷ stack) (k ∷ ks) (after, next, at, acted, h) = (after, at, derives t (after ++ stack) ks h)
 
-pub text_written : (stack : List Symbol) (ks : List TokenKind) → AreText stack ks → IsText (forms stack) ks
+pub text_written : (stack : List Symbol) (ks : List WordKind) → AreText stack ks → IsText (forms stack) ks
 text_written stack ks (t, h) = makes_forms (λ k. k) adds_nothing (λ o. tt) t stack tt ks [] tt (derived t stack ks h)
 
-pub text_read : (stack : List Symbol) (ks : List TokenKind) → IsText (forms stack) ks → AreText stack ks
+pub text_read : (stack : List Symbol) (ks : List WordKind) → IsText (forms stack) ks → AreText stack ks
 text_read stack ks h = let t = makes_symbols (λ k. k) adds_nothing (λ o. tt) stack tt ks tt h in (t.0, derives t.0 stack ks t.1)
 
 -- ---- layers
 
-module _ {Word Draft Refusal : Type 0} (kind : Word → TokenKind) (act : Symbol → Word → Draft → Result Draft Refusal) (refused_as : Option Word → Refusal) (blank : Draft) where
+module _ {Word Draft Refusal : Type 0} (kind : Word → WordKind) (act : Symbol → Word → Draft → Result Draft Refusal) (refused_as : Option Word → Refusal) (blank : Draft) where
   pub written : (ws : List Word) (out : Draft) → table.Make kind act refused_as blank ws out → MakeBy kind act layer_forms blank ws out
   written ws out (t, h) = makes_forms kind act refused_as t layer blank ws [] out h
 
@@ -272,7 +273,7 @@ module _ {Word Draft Refusal : Type 0} (kind : Word → TokenKind) (act : Symbol
   syntax_read : (front : List Word) (w : Word) (r : Refusal) → by_rules.IsSyntax kind act refused_as blank front w r → table.IsSyntax kind act refused_as blank front w r
   syntax_read front w r s = record { refusal = s.refusal; none = λ rest text. s.none rest (text_written layer (map kind front ++ kind w ∷ rest) text) }
 
-  act_read : (front : List Word) (w : Word) (rest : List Word) (d : Draft) (r : Refusal) (x : Symbol) (test : TokenKind → Bool) (behind : List Form) (left : List TokenKind) → Got kind act refused_as layer blank front (one x test ∷ behind) d → test (kind w) ≡ true → IsText behind left → act x w d ≡ Err r → table.IsAtWord kind act refused_as blank (front ++ w ∷ rest) r
+  act_read : (front : List Word) (w : Word) (rest : List Word) (d : Draft) (r : Refusal) (x : Symbol) (test : WordKind → Bool) (behind : List Form) (left : List WordKind) → Got kind act refused_as layer blank front (one x test ∷ behind) d → test (kind w) ≡ true → IsText behind left → act x w d ≡ Err r → table.IsAtWord kind act refused_as blank (front ++ w ∷ rest) r
   act_read front w rest d r x test behind left g passes text acted =
       let t = tops kind act refused_as g.mid d (kind w) x test behind g.opens.0 passes g.opens.1 in
       let v = makes_to kind act refused_as g.by layer blank front g.mid d t.by (x ∷ t.below) d g.made t.made in

@@ -1,6 +1,6 @@
 -- The ways on of a form with a token: by which symbol it is taken, and what is left behind it.
 use Rattle.std.proofs.Common.{◌≡◌, ℕ, zero, suc, Bool, true, false, ◌&&◌, ◌||◌, List, [], ◌∷◌, ◌++◌, map, Option, Some, None}
-use Rattle.usda_grammar.specs.declared.kinds.TokenKind.{TokenKind}
+use Rattle.usda_grammar.specs.declared.kinds.WordKind.{WordKind}
 use Rattle.usda_grammar.specs.declared.symbols.Symbol.{Symbol}
 use Rattle.usda_grammar.specs.Table.{starts}
 use Rattle.usda_productions.specs.Forms.{Form, one, rule, either, maybe, many, more, Seq, nil, then}
@@ -51,11 +51,11 @@ abbrev pub if_absent : Bool → Ways → Ways
 if_absent true w = w
 if_absent false w = Some []
 
-abbrev pub ways_in : (Form → TokenKind → Ways) → List Form → TokenKind → Ways
+abbrev pub ways_in : (Form → WordKind → Ways) → List Form → WordKind → Ways
 ways_in w [] k = Some []
 ways_in w (f ∷ fs) k = both_ways (before fs (w f k)) (if_absent (absent f) (ways_in w fs k))
 
-abbrev pub ways_opened : (Form → TokenKind → Ways) → Option (List Form) → TokenKind → Ways
+abbrev pub ways_opened : (Form → WordKind → Ways) → Option (List Form) → WordKind → Ways
 ways_opened w None k = Some []
 ways_opened w (Some fs) k = ways_in w fs k
 
@@ -67,15 +67,15 @@ abbrev pub row : Symbol → Option (List Symbol) → List Way
 row s None = []
 row s (Some after) = (s, forms after) ∷ []
 
-abbrev pub ways_by : (Form → TokenKind → Ways) → Form → TokenKind → Ways
+abbrev pub ways_by : (Form → WordKind → Ways) → Form → WordKind → Ways
 ways_by w (one s test) k = if_same s (test k)
 ways_by w f k = both_ways (ways_opened w (opened left f) k) (ways_opened w (opened right f) k)
 
 -- the ways on behind this token, found within so many openings
-abbrev pub ways : ℕ → Form → TokenKind → Ways
+abbrev pub ways : ℕ → Form → WordKind → Ways
 ways zero f k = None
 ways (suc n) f k = ways_by (ways n) f k
 
 -- a row of the table is the one way on of its symbol's form, by that symbol
-abbrev pub Agrees : Symbol → TokenKind → Type 0
+abbrev pub Agrees : Symbol → WordKind → Type 0
 Agrees s k = ways 24 (form s) k ≡ Some (row s (starts s k))

@@ -1,7 +1,7 @@
 -- What productions are made of. Each word of a production names the symbol by which it is acted on: what it adds to a draft.
 use Rattle.std.specs.Prelude.{Bool, List, [], ◌∷◌}
-use Rattle.usda_grammar.specs.declared.kinds.TokenKind.{TokenKind}
-use Rattle.usda_grammar.specs.declared.kinds.TokenKind.TheVariants as token
+use Rattle.usda_grammar.specs.declared.kinds.WordKind.{WordKind}
+use Rattle.usda_grammar.specs.declared.kinds.WordKind.TheVariants as token
 use Rattle.usda_grammar.specs.declared.kinds.Keyword.{Keyword}
 use Rattle.usda_grammar.specs.declared.symbols.Symbol.{Symbol}
 use Rattle.usda_grammar.specs.declared.symbols.Symbol.TheVariants as symbol
@@ -45,7 +45,7 @@ mutual
   -- a form: what may stand at a place of a text
   pub data Form : Type 0 where
     -- a word of some kinds, which adds what this symbol says
-    one : Symbol → (TokenKind → Bool) → Form
+    one : Symbol → (WordKind → Bool) → Form
     -- what a production says
     rule : Rule → Form
     either : Seq → Seq → Form
@@ -55,7 +55,7 @@ mutual
     many : Seq → Form
     -- What follows the first of one or more, with commas between them and perhaps one behind them, up to a closing mark. The first
     -- symbol is that of the next one, or of the mark behind a comma; the second is that of a comma, or of the mark behind an item.
-    more : Symbol → Symbol → Form → TokenKind → Form
+    more : Symbol → Symbol → Form → WordKind → Form
 
   -- forms one behind the other
   pub data Seq : Type 0 where
@@ -82,7 +82,7 @@ abbrev pub just : Form → Seq
 just f = then f nil
 
 -- a token of one kind
-abbrev pub tok : Symbol → TokenKind → Form
+abbrev pub tok : Symbol → WordKind → Form
 tok s k = one s (is k)
 
 -- a word of the grammar
@@ -98,11 +98,11 @@ abbrev pub name_but : Symbol → List Keyword → Form
 name_but s ws = one s (is_name_but ws)
 
 -- one or more with commas between them and perhaps one behind them, up to a closing mark
-abbrev pub commas : Symbol → Symbol → Form → TokenKind → Seq
+abbrev pub commas : Symbol → Symbol → Form → WordKind → Seq
 commas next behind f k = f ▹ just (more next behind f k)
 
 -- none, or so many
-abbrev pub listed : Symbol → Symbol → Form → TokenKind → Form
+abbrev pub listed : Symbol → Symbol → Form → WordKind → Form
 listed next behind f k = either (tok next k ▹ nil) (commas next behind f k)
 
 -- ---- marks that add nothing

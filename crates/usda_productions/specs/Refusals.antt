@@ -1,14 +1,14 @@
 -- Where a text is refused first, by the productions: at a word with which no text goes on, or that is refused for what it adds, or
 -- at the end.
 use Rattle.std.specs.Prelude.{◌≡◌, ◌⊎◌, Bool, true, List, ◌∷◌, ◌++◌, map, Option, Some, None, Result, Err}
-use Rattle.usda_grammar.specs.declared.kinds.TokenKind.{TokenKind}
+use Rattle.usda_grammar.specs.declared.kinds.WordKind.{WordKind}
 use Rattle.usda_grammar.specs.declared.symbols.Symbol.{Symbol}
 use Rattle.usda_productions.specs.Forms.{Form, one}
 use Rattle.usda_productions.specs.Rules.{layer_forms}
 use Rattle.usda_productions.specs.Texts.{Route, IsMade, IsText}
 
 -- a word that no text goes on with, or the end where none ends, is refused so; the draft before the first word is blank
-module _ {Word Draft Refusal : Type 0} (kind : Word → TokenKind) (act : Symbol → Word → Draft → Result Draft Refusal) (refused_as : Option Word → Refusal) (blank : Draft) where
+module _ {Word Draft Refusal : Type 0} (kind : Word → WordKind) (act : Symbol → Word → Draft → Result Draft Refusal) (refused_as : Option Word → Refusal) (blank : Draft) where
   -- a layer's text begins with these words, and has got to these forms and this draft
   pub record HasRead (front : List Word) (fs : List Form) (d : Draft) : Type 0 where
     pub by : Route
@@ -17,16 +17,16 @@ module _ {Word Draft Refusal : Type 0} (kind : Word → TokenKind) (act : Symbol
   -- no text goes on with the word
   pub record IsSyntax (front : List Word) (w : Word) (r : Refusal) : Type 0 where
     pub refusal : r ≡ refused_as (Some w)
-    pub none : (rest : List TokenKind) → IsText layer_forms (map kind front ++ kind w ∷ rest) → ⊥
+    pub none : (rest : List WordKind) → IsText layer_forms (map kind front ++ kind w ∷ rest) → ⊥
 
   -- a text goes on with the word, and what the word adds there is refused
   pub record IsRefusedAct (fs : List Form) (d : Draft) (w : Word) (r : Refusal) : Type 0 where
     pub symbol : Symbol
-    pub test : TokenKind → Bool
+    pub test : WordKind → Bool
     pub behind : List Form
     pub first : fs ≡ one symbol test ∷ behind
     pub passes : test (kind w) ≡ true
-    pub rest : List TokenKind
+    pub rest : List WordKind
     pub text : IsText behind rest
     pub refused : act symbol w d ≡ Err r
 

@@ -3,7 +3,7 @@
 -- The symbol that stands with a word says what the word adds to the layer that is read (`usda_drafts`, specs/Acts.antt), or why it
 -- is refused there. The words of a value go to the value in hand, which is complete with its last word.
 use Rattle.std.specs.Prelude.{List, [], ◌∷◌}
-use Rattle.usda_grammar.specs.declared.kinds.TokenKind.TheVariants as token
+use Rattle.usda_grammar.specs.declared.kinds.WordKind.TheVariants as token
 use Rattle.usda_grammar.specs.declared.kinds.Keyword.TheVariants as word
 use Rattle.usda_grammar.specs.declared.symbols.Symbol.TheVariants as symbol
 use Rattle.usda_productions.specs.Tokens.{is_edit_word, is_key, is_literal, is_separator}

@@ -1,7 +1,7 @@
 -- The texts of forms, and what their words make of a draft: each form is a word, or is opened by a choice.
 use Rattle.std.specs.Prelude.{◌≡◌, true, List, [], ◌∷◌, ◌++◌, Option, Some, None, Result, Ok}
-use Rattle.usda_grammar.specs.declared.kinds.TokenKind.{TokenKind}
-use Rattle.usda_grammar.specs.declared.kinds.TokenKind.TheVariants as token
+use Rattle.usda_grammar.specs.declared.kinds.WordKind.{WordKind}
+use Rattle.usda_grammar.specs.declared.kinds.WordKind.TheVariants as token
 use Rattle.usda_grammar.specs.declared.symbols.Symbol.{Symbol}
 use Rattle.usda_productions.specs.Tokens.{is}
 use Rattle.usda_productions.specs.Forms.{Form, one, rule, either, maybe, many, more, commas, list_of, just}
@@ -33,7 +33,7 @@ pub data Route : Type 0 where
   pick : Choice → Route → Route
 
 -- whatever words and drafts are: a word has a kind, and adds to a draft what the symbol of its form says of it, or is refused
-module _ {Word Draft Refusal : Type 0} (kind : Word → TokenKind) (act : Symbol → Word → Draft → Result Draft Refusal) where
+module _ {Word Draft Refusal : Type 0} (kind : Word → WordKind) (act : Symbol → Word → Draft → Result Draft Refusal) where
   -- The words come from these forms up to those that are left: a word passes the test of its form, and adds to the draft what the
   -- form's symbol says. By this route the first draft becomes the other.
   abbrev pub IsMade : Route → List Form → Draft → List Word → List Form → Draft → Type 0
@@ -51,9 +51,9 @@ module _ {Word Draft Refusal : Type 0} (kind : Word → TokenKind) (act : Symbol
   MakeBy fs d ws out = (p : Route) × IsMade p fs d ws [] out
 
 -- words that are mere kinds add nothing
-abbrev pub adds_nothing : Symbol → TokenKind → Unit {0} → Result (Unit {0}) (Unit {0})
+abbrev pub adds_nothing : Symbol → WordKind → Unit {0} → Result (Unit {0}) (Unit {0})
 adds_nothing s k d = Ok d
 
 -- the kinds are those of a text of these forms
-abbrev pub IsText : List Form → List TokenKind → Type 0
+abbrev pub IsText : List Form → List WordKind → Type 0
 IsText fs ks = MakeBy (λ k. k) adds_nothing fs tt ks tt

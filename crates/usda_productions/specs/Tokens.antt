@@ -1,7 +1,7 @@
 -- Tests of a token's kind.
 use Rattle.std.specs.Prelude.{ℕ, Bool, not, ◌&&◌, ◌||◌, ◌==◌, nat_lt, List, [], ◌∷◌}
-use Rattle.usda_grammar.specs.declared.kinds.TokenKind.{TokenKind}
-use Rattle.usda_grammar.specs.declared.kinds.TokenKind.TheVariants as token
+use Rattle.usda_grammar.specs.declared.kinds.WordKind.{WordKind}
+use Rattle.usda_grammar.specs.declared.kinds.WordKind.TheVariants as token
 use Rattle.usda_grammar.specs.declared.kinds.Keyword.{Keyword}
 use Rattle.usda_grammar.specs.declared.kinds.Keyword.TheVariants as word
 
@@ -29,7 +29,7 @@ word_number word.Dictionary = 18
 word_number word.Other = 19
 
 -- no two kinds have one number
-abbrev pub number_of : TokenKind → ℕ
+abbrev pub number_of : WordKind → ℕ
 number_of (token.Word w) = word_number w
 number_of token.Number = 100
 number_of token.Quoted = 101
@@ -49,30 +49,30 @@ number_of token.Dot = 114
 number_of token.Fault = 115
 
 -- two kinds are one
-abbrev pub is : TokenKind → TokenKind → Bool
+abbrev pub is : WordKind → WordKind → Bool
 is j k = number_of j == number_of k
 
 -- a name, whether it is a word of the grammar or not
-abbrev pub is_name : TokenKind → Bool
+abbrev pub is_name : WordKind → Bool
 is_name k = nat_lt (number_of k) 100
 
 -- a name, but none of these words
-abbrev pub is_name_but : List Keyword → TokenKind → Bool
+abbrev pub is_name_but : List Keyword → WordKind → Bool
 is_name_but [] k = is_name k
 is_name_but (w ∷ ws) k = not (is (token.Word w) k) && is_name_but ws k
 
 -- `delete`, `add`, `prepend`, `append` or `reorder`
-abbrev pub is_edit_word : TokenKind → Bool
+abbrev pub is_edit_word : WordKind → Bool
 is_edit_word k = is (token.Word word.Edit) k || is (token.Word word.Reorder) k
 
 -- the key of a dictionary's entry
-abbrev pub is_key : TokenKind → Bool
+abbrev pub is_key : WordKind → Bool
 is_key k = is_name k || is token.Quoted k
 
 -- a value of one token: a name is `None`, a word, or `true` or `false`
-abbrev pub is_literal : TokenKind → Bool
+abbrev pub is_literal : WordKind → Bool
 is_literal k = is_name k || is token.Number k || is token.Quoted k || is token.Asset k || is token.Path k
 
 -- what may stand behind an entry of a dictionary: one `;` or `,`
-abbrev pub is_separator : TokenKind → Bool
+abbrev pub is_separator : WordKind → Bool
 is_separator k = is token.Semicolon k || is token.Comma k

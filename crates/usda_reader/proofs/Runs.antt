@@ -8,7 +8,7 @@ use Rattle.usda_drafts.specs.declared.draft.Draft.{Draft}
 use Rattle.usda_drafts.specs.declared.fault.ActFault.{ActFault}
 use Rattle.usda_drafts.specs.declared.fault.Refused.{Refused}
 use Rattle.usda_drafts.specs.declared.fault.ActFault.TheVariants as fault
-use Rattle.usda_grammar.specs.declared.kinds.TokenKind.{TokenKind}
+use Rattle.usda_grammar.specs.declared.kinds.WordKind.{WordKind}
 use Rattle.usda_grammar.specs.declared.symbols.Symbol.{Symbol}
 use Rattle.usda_grammar.specs.Machine.{step, is_done}
 use Rattle.usda_machine.specs.Reading.{run}
@@ -30,7 +30,7 @@ no_step (Err x) new found e h = absurd cc
 
 -- ---- whatever words and drafts are
 
-module _ {W D R : Type 0} (kind : W → TokenKind) (does : Symbol → W → D → Result D R) (refused_as : Option W → R) where
+module _ {W D R : Type 0} (kind : W → WordKind) (does : Symbol → W → D → Result D R) (refused_as : Option W → R) where
   taken : (stack next : List Symbol) (s : Symbol) (d after : D) (w : W) (ws : List W) → step stack (kind w) ≡ Some (s, next) → does s w d ≡ Ok after → run kind does refused_as stack d (w ∷ ws) ≡ run kind does refused_as next after ws
   taken stack next s d after w ws at acted = rw (at, acted) refl
 

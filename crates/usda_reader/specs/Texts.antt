@@ -10,7 +10,7 @@ use Rattle.usda_drafts.specs.Drafts.{blank, layer_of}
 use Rattle.usda_drafts.specs.Refusals.{refused}
 use Rattle.usda_drafts.specs.declared.draft.Draft.{Draft}
 use Rattle.usda_drafts.specs.declared.fault.Refused.{Refused}
-use Rattle.usda_grammar.specs.declared.kinds.TokenKind.{TokenKind}
+use Rattle.usda_grammar.specs.declared.kinds.WordKind.{WordKind}
 use Rattle.usda_lexer.specs.Places.{place_of}
 use Rattle.usda_productions.specs.Refusals.{HaveFirstRefusal}
 use Rattle.usda_productions.specs.Rules.{layer_forms}
@@ -19,7 +19,7 @@ use Rattle.usda_words.specs.Words.{Word, words_of}
 use Rattle.usda_reader.specs.Checks.{first_check}
 
 -- what a word is to the grammar
-abbrev pub kind_of : Word → TokenKind
+abbrev pub kind_of : Word → WordKind
 kind_of w = w.kind
 
 -- A word with which no text goes on is refused where it begins; the end of a text of this length, where none ends, behind the last byte.

@@ -20,7 +20,7 @@ use sdf_specs::Layer;
 use std::alloc::Global;
 use usda_drafts::{ActFault, Draft};
 use usda_grammar::layer;
-use usda_machine::push_all;
+use usda_machine::push_front;
 use usda_words::Words;
 
 // Takes all words of a text into a draft.
@@ -32,7 +32,7 @@ fn read_words(alloc: Global, bytes: &[u8], draft: &mut Draft) -> Result<(), ActF
         unreachable!()
     };
     let mut stack = Items::new(alloc);
-    push_all(&mut stack, layer())?;
+    push_front(&mut stack, layer())?;
     take_words(&mut words, &mut stack, draft, bytes.len())
 }
 

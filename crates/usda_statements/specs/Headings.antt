@@ -1,6 +1,7 @@
 -- What the words before a property's name say: the edit word, the flags, and the type, or `rel`.
 use Rattle.std.specs.Prelude.{ℕ, Bool, true, false, ◌==◌, List, [], ◌∷◌, Option, Some, None, Result, Ok, Err, codes}
 use Rattle.std.specs.Cmp.Lexicographic.{pointwise}
+pub use Rattle.sdf_values.specs.Conforms.{one as one_of}
 use Rattle.sdf_values.specs.declared.refusal.RefusalKind.{RefusalKind}
 use Rattle.sdf_values.specs.declared.refusal.RefusalKind.TheVariants.{UnknownType}
 use Rattle.sdf_values.specs.declared.type_name.ElementType.{ElementType}
@@ -30,10 +31,6 @@ with_variability word h = record h { uniform = is_uniform_word word }
 -- the word `rel`: a relationship has no type
 abbrev pub as_relationship : Heading → Heading
 as_relationship h = record h { ty = None }
-
--- a type that is no array, until brackets stand behind it
-abbrev pub one_of : ElementType → TypeName
-one_of e = record { element = e; array = false }
 
 -- a word that names no type is refused
 abbrev pub of_element : Option ElementType → Heading → Result Heading RefusalKind

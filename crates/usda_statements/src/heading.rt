@@ -5,7 +5,7 @@ ghost use Rattle.usda_statements.specs.Headings.{begun, with_custom, with_variab
 
 use sdf_values::{ELEMENTS, RefusalKind, TypeName};
 use usda_lists::ListEdit;
-use usda_values::{ActFault, find_element};
+use usda_values::{PartFault, find_element};
 
 /// What the words before a property's name say.
 #[derive(Clone, Copy, Debug)]
@@ -55,19 +55,16 @@ impl Heading {
     }
 
     /// Takes the word of an attribute's type.
-    pub fn set_type(&mut self, word: &str) -> Result<(), ActFault>
+    pub fn set_type(&mut self, word: &str) -> Result<(), PartFault>
         ensures answer { Does result self.new (with_type word.now self.old) }
         ensures sure { AsksNoMemory result }
     {
         match find_element(&ELEMENTS, word) {
             Some(element) => {
-                self.ty = Some(TypeName {
-                    element,
-                    array: false,
-                });
+                self.ty = Some(TypeName::one(element));
                 Ok(())
             }
-            None => Err(ActFault::Refused(RefusalKind::UnknownType)),
+            None => Err(PartFault::Refused(RefusalKind::UnknownType)),
         }
     }
 

@@ -11,7 +11,7 @@ use std::mem;
 use usda_fields::give_selection_token;
 use usda_lexer::{TokenKind, path_text};
 use usda_lists::absolute_from;
-use usda_values::{ActFault, Bracket, Level, Place, Shape, ValueDraft};
+use usda_values::{Bracket, Level, PartFault, Place, Shape, ValueDraft};
 
 /// The value that is being read, token by token; a draft that is complete where none is.
 #[derive(Debug, Drop)]
@@ -39,7 +39,7 @@ fn give_token(
     only_strings: bool,
     kind: TokenKind,
     text: &str,
-) -> Result<(), ActFault>
+) -> Result<(), PartFault>
     ensures { Does result draft.new (given_token only_strings kind text.now draft.old) }
 {
     if only_strings {
@@ -53,12 +53,12 @@ fn give_path(
     draft: &mut ValueDraft,
     only_strings: bool,
     token: Option<Text>,
-) -> Result<(), ActFault>
+) -> Result<(), PartFault>
     ensures { Does result draft.new (given_path only_strings token draft.old) }
 {
     match token {
         Some(token) => give_token(draft, only_strings, TokenKind::Path, token.as_str()),
-        None => Err(ActFault::Refused(RefusalKind::Syntax)),
+        None => Err(PartFault::Refused(RefusalKind::Syntax)),
     }
 }
 
@@ -70,7 +70,7 @@ fn give_in(
     only_strings: bool,
     kind: TokenKind,
     text: &str,
-) -> Result<(), ActFault>
+) -> Result<(), PartFault>
     ensures { Does result draft.new (given_in base.now only_strings kind text.now draft.old) }
 {
     match kind {
@@ -117,7 +117,7 @@ impl OpenValue {
         base: &Path,
         kind: TokenKind,
         text: &str,
-    ) -> Result<(), ActFault>
+    ) -> Result<(), PartFault>
         ensures { Does result self.new (given base.now kind text.now self.old) }
     {
         if let Err(fault) = give_in(&mut self.draft, alloc, base, self.only_strings, kind, text) {

@@ -14,7 +14,7 @@ use std::mem;
 use usda_fields::{KeyRule, judge_key, put_comment, put_value};
 use usda_lexer::path_text;
 use usda_lists::{GivenLists, ListEdit, close_paths, open_list, push_item, target_from};
-use usda_values::ActFault;
+use usda_values::PartFault;
 
 /// What may be said of a property once, and was.
 #[derive(Clone, Copy, Debug)]
@@ -34,13 +34,19 @@ pub struct PropertyDraft {
     pub edit: ListEdit,
     /// The type of an attribute; none of a relationship.
     pub ty: Option<TypeName>,
+    /// Whether some statement of it says `custom`.
     pub custom: bool,
+    /// Whether some statement of it says `uniform`.
     pub uniform: bool,
+    /// The default of an attribute, once it is given.
     pub default: Option<Value>,
+    /// The samples of an attribute that were read, by time.
     pub samples: Samples,
     /// The connections of an attribute, the targets of a relationship.
     pub paths: ListOp<Path>,
+    /// The metadata that was read, by key.
     pub meta: Meta,
+    /// What was given of that which may be given once.
     pub marks: PropertyMarks,
 }
 
@@ -118,7 +124,7 @@ impl PropertyDraft {
         heading: Heading,
         marks: PropertyMarks,
         property: Property,
-    ) -> Result<PropertyDraft, ActFault>
+    ) -> Result<PropertyDraft, PartFault>
         ensures answer { Gives result (joined_to heading marks property) }
         ensures sure { AsksNoMemory result }
     {
@@ -135,7 +141,7 @@ impl PropertyDraft {
             } => {
                 if !is_attribute_of(ty, heading.ty) {
                     drop((name, default, samples, connections, meta));
-                    return Err(ActFault::Refused(RefusalKind::DuplicateSpec));
+                    return Err(PartFault::Refused(RefusalKind::DuplicateSpec));
                 }
                 Ok(PropertyDraft {
                     name,
@@ -158,7 +164,7 @@ impl PropertyDraft {
             } => {
                 if heading.ty.is_some() {
                     drop((name, targets, meta));
-                    return Err(ActFault::Refused(RefusalKind::DuplicateSpec));
+                    return Err(PartFault::Refused(RefusalKind::DuplicateSpec));
                 }
                 Ok(PropertyDraft {
                     name,
@@ -184,7 +190,7 @@ impl PropertyDraft {
         name: Text,
         marks: PropertyMarks,
         property: Option<Property>,
-    ) -> Result<PropertyDraft, ActFault>
+    ) -> Result<PropertyDraft, PartFault>
         ensures answer { Gives result (joined heading name marks property) }
         ensures sure { AsksNoMemory result }
     {
@@ -233,12 +239,12 @@ impl PropertyDraft {
     }
 
     /// Takes the `=` of a default, which may stand once.
-    pub fn start_default(&mut self) -> Result<(), ActFault>
+    pub fn start_default(&mut self) -> Result<(), PartFault>
         ensures answer { Does result self.new (default_act self.old) }
         ensures sure { AsksNoMemory result }
     {
         if self.default.is_some() {
-            return Err(ActFault::Refused(RefusalKind::DuplicateSpec));
+            return Err(PartFault::Refused(RefusalKind::DuplicateSpec));
         }
         Ok(())
     }
@@ -251,12 +257,12 @@ impl PropertyDraft {
     }
 
     /// Takes the word `timeSamples`, which may stand once.
-    pub fn start_samples(&mut self) -> Result<(), ActFault>
+    pub fn start_samples(&mut self) -> Result<(), PartFault>
         ensures answer { Does result self.new (samples_act self.old) }
         ensures sure { AsksNoMemory result }
     {
         if self.marks.sampled {
-            return Err(ActFault::Refused(RefusalKind::DuplicateSpec));
+            return Err(PartFault::Refused(RefusalKind::DuplicateSpec));
         }
         self.marks.sampled = true;
         Ok(())
@@ -271,7 +277,7 @@ impl PropertyDraft {
     }
 
     /// Opens the list of targets or connections of the statement's edit word.
-    pub fn start_list(&mut self) -> Result<(), ActFault>
+    pub fn start_list(&mut self) -> Result<(), PartFault>
         ensures answer { Does result self.new (list_act self.old) }
         ensures sure { AsksNoMemory result }
     {
@@ -284,18 +290,18 @@ impl PropertyDraft {
         }
     }
 
-    fn give_path(&mut self, path: Option<Path>) -> Result<(), ActFault>
+    fn give_path(&mut self, path: Option<Path>) -> Result<(), PartFault>
         ensures { Does result self.new (with_path path self.old) }
     {
         let Some(path) = path else {
-            return Err(ActFault::Refused(RefusalKind::Syntax));
+            return Err(PartFault::Refused(RefusalKind::Syntax));
         };
         push_item(&mut self.paths, self.edit, path)?;
         Ok(())
     }
 
     /// Adds the path of a path token to the list that is open, without its selections, in a statement whose owner has this plain path.
-    pub fn push_path(&mut self, alloc: Global, base: &Path, token: &str) -> Result<(), ActFault>
+    pub fn push_path(&mut self, alloc: Global, base: &Path, token: &str) -> Result<(), PartFault>
         ensures { Does result self.new (path_act base.now token.now self.old) }
     {
         let path = target_from(alloc, base, path_text(token))?;
@@ -310,7 +316,7 @@ impl PropertyDraft {
     }
 
     /// Puts a string that stands alone among the metadata.
-    pub fn put_comment(&mut self, alloc: Global, token: &str) -> Result<(), ActFault>
+    pub fn put_comment(&mut self, alloc: Global, token: &str) -> Result<(), PartFault>
         ensures { Does result self.new (meta_comment_act token.now self.old) }
     {
         if let Err(fault) = put_comment(alloc, &mut self.meta, token) {
@@ -320,7 +326,7 @@ impl PropertyDraft {
     }
 
     /// What a key of metadata expects, before its value is read.
-    pub fn judge_key(&self, key: &Text) -> Result<KeyRule, ActFault>
+    pub fn judge_key(&self, key: &Text) -> Result<KeyRule, PartFault>
         ensures answer { Gives result (meta_key_act key.now self.now) }
         ensures sure { AsksNoMemory result }
     {
@@ -328,7 +334,7 @@ impl PropertyDraft {
     }
 
     /// Puts the whole value of a key of metadata.
-    pub fn put_value(&mut self, alloc: Global, key: Text, value: Value) -> Result<(), ActFault>
+    pub fn put_value(&mut self, alloc: Global, key: Text, value: Value) -> Result<(), PartFault>
         ensures { Does result self.new (meta_act key value self.old) }
     {
         if let Err(fault) = put_value(alloc, &mut self.meta, key, value) {

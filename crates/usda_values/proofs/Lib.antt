@@ -4,3 +4,4 @@ pub mod Members
 pub mod TimeLaw
 pub mod Powers
 pub mod Tens
+pub mod Wholes

@@ -5,8 +5,8 @@ use Rattle.sdf_values.specs.declared.refusal.RefusalKind.TheVariants.{ValueShape
 use Rattle.sdf_values.specs.declared.type_name.TypeName.{TypeName}
 use Rattle.sdf_values.specs.declared.value.Value.{Value}
 use Rattle.std.proofs.lemmas.List.{drop_more}
-use Rattle.usda_values.specs.declared.fault.ActFault.{ActFault}
-use Rattle.usda_values.specs.declared.fault.ActFault.TheVariants.{Refused, NoMemory}
+use Rattle.usda_values.specs.declared.fault.PartFault.{PartFault}
+use Rattle.usda_values.specs.declared.fault.PartFault.TheVariants.{Refused, NoMemory}
 use Rattle.usda_values.specs.Takes.{Gives}
 use Rattle.usda_values.specs.Scalars.{Taken}
 use Rattle.usda_values.specs.Shaping.{Taking, TakenAll, before_all, take_all, take_counted, taken, GivesAll}
@@ -58,6 +58,6 @@ all_ends vs t = ap Ok (append-nil vs)
 pub member_at : (values : List Value) (i : ℕ) (x : Value) → i < length values → x ≡ get_or values i x → map taken (drop i values) ≡ taken x ∷ map taken (drop (i + 1) values)
 member_at values i x lt e = ap (map taken) (drop_more values i x lt) ∙ ap (λ y. taken y ∷ map taken (drop (i + 1) values)) (sym e)
 
-pub gives_err : (f : ActFault) (c : Taken) (r : TakenAll) → Gives (Err f) c → ((k : RefusalKind) → c ≡ Err k → r ≡ Err k) → GivesAll (Err f) r
+pub gives_err : (f : PartFault) (c : Taken) (r : TakenAll) → Gives (Err f) c → ((k : RefusalKind) → c ≡ Err k → r ≡ Err k) → GivesAll (Err f) r
 gives_err (Refused k) c r g h = h k g
 gives_err NoMemory c r g h = tt

@@ -8,11 +8,11 @@ use Rattle.sdf_values.specs.Scales.{IsTime, IsTimeOf}
 use Rattle.sdf_values.proofs.Times.{is_time, only_time, no_time, below_units}
 use Rattle.usda_values.specs.Scalars.{if_time, time_of}
 
-natural_is : (z : ℤ) → pos 0 ≤ℤ z → z ≡ pos (natural z)
+pub natural_is : (z : ℤ) → pos 0 ≤ℤ z → z ≡ pos (natural z)
 natural_is (pos n) h = refl
 natural_is (negsuc n) h = absurd (omega (arith, ints, h))
 
-above : (e : ℤ) → negsuc 17 ≤ℤ e → e ≡ negsuc 17 +ℤ pos (natural (e +ℤ pos 18))
+pub above : (e : ℤ) → negsuc 17 ≤ℤ e → e ≡ negsuc 17 +ℤ pos (natural (e +ℤ pos 18))
 above e h =
     let z = natural_is (e +ℤ pos 18) (omega (arith, ints, h)) in
     omega (arith, ints, z)
@@ -22,7 +22,7 @@ some_digits d is low = λ z.
     (let none : d ≡ zero_number = is.reduced (ap (λ (x : ℤ). unsigned_abs x % 10) z) in
     absurd (omega (arith, ints, low, ap (λ (f : DecimalNumber). f.exp) none)))
 
-if_within : (t : ℤ) → IsTime t → if_time t ≡ Some t
+pub if_within : (t : ℤ) → IsTime t → if_time t ≡ Some t
 if_within t h = let test : nat_le (unsigned_abs t) (10 ^ 30) ≡ true = grind (arith, nat_tests) in ap (λ b. if b then Some t else None) test
 
 pub time_found : (d : DecimalNumber) (t : ℤ) → IsDecimal d → IsTime t → IsTimeOf d t → time_of d ≡ Some t

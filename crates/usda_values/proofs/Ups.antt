@@ -1,22 +1,19 @@
 -- A step over `../`.
 use Rattle.std.proofs.Common.{◌≡◌, ◌∙◌, ℕ, zero, suc, ◌<◌, ◌≤◌, ◌+◌, Bool, true, false, ◌&&◌, ◌==◌, List, [], ◌∷◌, length, drop, get_or, ap, sym, refl, subst, arith, eqb-true}
 use Rattle.std.specs.Str.{IsUtf8, IsCharBoundary}
+use Rattle.std.proofs.lemmas.Bool.{and_parts}
 use Rattle.std.proofs.lemmas.Str.{IsCharBoundary-after_ascii}
 use Rattle.usda_lexer.specs.Blanks.{begins}
 use Rattle.usda_values.specs.PathTexts.{begins_up, behind_ups}
 
-both : (a b : Bool) → (a && b) ≡ true → (a ≡ true) × (b ≡ true)
-both true b e = (refl, e)
-both false b e = absurd cc
-
 -- three bytes and a rest
 pub is_up : (text : List ℕ) → begins_up text ≡ true → (rest : List ℕ) × (text ≡ 46 ∷ 46 ∷ 47 ∷ rest)
 is_up [] e = absurd cc
-is_up (a ∷ []) e = absurd (let p : false ≡ true = (both (a == 46) (false && false) e).1 in cc)
-is_up (a ∷ b ∷ []) e = absurd (let p : (b == 46 && false) ≡ true = (both (a == 46) (b == 46 && false) e).1 in let q : false ≡ true = (both (b == 46) false p).1 in cc)
+is_up (a ∷ []) e = absurd (let p : false ≡ true = (and_parts (a == 46) (false && false) e).1 in cc)
+is_up (a ∷ b ∷ []) e = absurd (let p : (b == 46 && false) ≡ true = (and_parts (a == 46) (b == 46 && false) e).1 in let q : false ≡ true = (and_parts (b == 46) false p).1 in cc)
 is_up (a ∷ b ∷ c ∷ rest) e =
-    let p : ((a == 46) ≡ true) × ((b == 46 && c == 47) ≡ true) = both (a == 46) (b == 46 && c == 47) e in
-    let q : ((b == 46) ≡ true) × ((c == 47) ≡ true) = both (b == 46) (c == 47) p.1 in
+    let p : ((a == 46) ≡ true) × ((b == 46 && c == 47) ≡ true) = and_parts (a == 46) (b == 46 && c == 47) e in
+    let q : ((b == 46) ≡ true) × ((c == 47) ≡ true) = and_parts (b == 46) (c == 47) p.1 in
     let ea : a ≡ 46 = eqb-true a 46 p.0 in
     let eb : b ≡ 46 = eqb-true b 46 q.0 in
     let ec : c ≡ 47 = eqb-true c 47 q.1 in

@@ -6,8 +6,8 @@ use Rattle.sdf_values.specs.declared.value.Value.{Value}
 use Rattle.usda_lexer.specs.declared.token.LexFault.{LexFault}
 use Rattle.usda_lexer.specs.declared.token.LexFault.TheVariants as lexing
 use Rattle.usda_lexer.specs.Words.{Word, Lexing, Lexer, left}
-use Rattle.usda_values.specs.declared.fault.ActFault.{ActFault}
-use Rattle.usda_values.specs.declared.fault.ActFault.TheVariants as fault
+use Rattle.usda_values.specs.declared.fault.PartFault.{PartFault}
+use Rattle.usda_values.specs.declared.fault.PartFault.TheVariants as fault
 use Rattle.usda_values.specs.declared.fault.ValueFault.{ValueFault}
 use Rattle.usda_values.specs.declared.fault.ValueFault.TheVariants.{Refused, NoMemory}
 use Rattle.usda_values.specs.declared.draft.ValueDraft.{ValueDraft}
@@ -15,7 +15,7 @@ use Rattle.usda_values.specs.declared.level.Place.{Place}
 use Rattle.usda_values.specs.Drafts.{Acted, value_act, awaits_value, is_complete, value_of}
 
 -- what a call that may want memory makes of a draft
-abbrev pub Does : Result (Unit {0}) ActFault → ValueDraft → Acted → Type 0
+abbrev pub Does : Result (Unit {0}) PartFault → ValueDraft → Acted → Type 0
 Does (Ok u) new acted = acted ≡ Ok new
 Does (Err (fault.Refused k)) new acted = acted ≡ Err k
 Does (Err fault.NoMemory) new acted = Unit {0}

@@ -99,6 +99,11 @@ if_time units = if nat_le (unsigned_abs units) (10 ^ 30) then Some units else No
 unfoldable pub time_of : DecimalNumber → Option ℤ
 time_of d = if int_le (negsuc 17) d.exp then if_time (d.digits *ℤ pos (10 ^ natural (d.exp +ℤ pos 18))) else None
 
+-- the time that a number is; `inf` and `nan` are none
+unfoldable pub finite_time : Num → Option ℤ
+finite_time (num.Finite d) = time_of d
+finite_time x = None
+
 -- the number is negative
 abbrev pub is_below_zero : ℤ → Bool
 is_below_zero (pos n) = false

@@ -8,8 +8,8 @@ use Rattle.sdf_values.specs.declared.type_name.TypeName.{TypeName}
 use Rattle.sdf_values.specs.declared.value.Value.{Value, fold-Value}
 use Rattle.sdf_values.specs.declared.value.Value.TheVariants as value
 use Rattle.sdf_values.specs.declared.value.Value.TheOpen.{Value-F, DictItem-F}
-use Rattle.usda_values.specs.declared.fault.ActFault.{ActFault}
-use Rattle.usda_values.specs.declared.fault.ActFault.TheVariants as fault
+use Rattle.usda_values.specs.declared.fault.PartFault.{PartFault}
+use Rattle.usda_values.specs.declared.fault.PartFault.TheVariants as fault
 use Rattle.usda_values.specs.declared.fault.ValueFault.{ValueFault}
 use Rattle.usda_values.specs.declared.fault.ValueFault.TheVariants.{Refused, NoMemory}
 use Rattle.usda_values.specs.Scalars.{Taken, take_element}
@@ -96,7 +96,7 @@ AnswersShape (Err (Refused k at)) t = (t ≡ Err k) × (at ≡ 0)
 AnswersShape (Err NoMemory) t = Unit {0}
 
 -- what a call gives for all members, unless memory ran out
-abbrev pub GivesAll : Result (List Value) ActFault → TakenAll → Type 0
+abbrev pub GivesAll : Result (List Value) PartFault → TakenAll → Type 0
 GivesAll (Ok vs) t = t ≡ Ok vs
 GivesAll (Err (fault.Refused k)) t = t ≡ Err k
 GivesAll (Err fault.NoMemory) t = Unit {0}

@@ -7,7 +7,7 @@ ghost use Rattle.usda_values.specs.Drafts.{draft_of, give_act, given, put_act, d
 ghost use Rattle.usda_values.specs.Reads.{Does};
 ghost use Rattle.usda_lexer.specs.Meanings.{string_text};
 
-use crate::fault::ActFault;
+use crate::fault::PartFault;
 use crate::level::{
     Bracket, Level, Place, array_type, behind_value, closes, is_full, is_lacking, is_statement,
 };
@@ -84,7 +84,7 @@ impl ValueDraft {
 
     /// Reads one token more, or tells why it is refused. After a fault the draft is of no use.
     #[tactic(auto, unfolding(crate::specs::Drafts::value_act))]
-    pub fn give(&mut self, kind: TokenKind, text: &str) -> Result<(), ActFault>
+    pub fn give(&mut self, kind: TokenKind, text: &str) -> Result<(), PartFault>
         ensures { Does result self.new (value_act kind text.now self.old) }
     {
         match self.place {
@@ -98,7 +98,7 @@ impl ValueDraft {
             Place::Equals => self.act_equals(kind),
             Place::BehindEntry => self.act_behind_entry(kind, text),
             Place::Dictionary => self.act_dictionary(kind),
-            Place::Complete => Err(ActFault::Refused(RefusalKind::Syntax)),
+            Place::Complete => Err(PartFault::Refused(RefusalKind::Syntax)),
         }
     }
 
@@ -111,7 +111,7 @@ impl ValueDraft {
     }
 
     // A value of one token.
-    fn put(&mut self, kind: TokenKind, text: &str) -> Result<(), ActFault>
+    fn put(&mut self, kind: TokenKind, text: &str) -> Result<(), PartFault>
         ensures { Does result self.new (put_act (token_value kind text.now) self.old) }
     {
         match token_value(self.outer.allocator(), kind, text) {
@@ -121,12 +121,12 @@ impl ValueDraft {
     }
 
     // The value of a token.
-    fn put_value(&mut self, value: Value) -> Result<(), ActFault>
+    fn put_value(&mut self, value: Value) -> Result<(), PartFault>
         ensures { Does result self.new (put_act (Ok value) self.old) }
     {
         if is_full(self.level.room) {
             drop(value);
-            return Err(ActFault::Refused(RefusalKind::ValueShape));
+            return Err(PartFault::Refused(RefusalKind::ValueShape));
         }
         match take_value(self.level.item, is_statement(self.level.bracket), value) {
             Ok(value) => {
@@ -144,11 +144,11 @@ impl ValueDraft {
         bracket: Bracket,
         item: Shape,
         room: Option<usize>,
-    ) -> Result<(), ActFault>
+    ) -> Result<(), PartFault>
         ensures { Does result self.new (deeper place (new_level bracket item room) self.old) }
     {
         if self.outer.len() >= MAX_OPEN {
-            return Err(ActFault::Refused(RefusalKind::TooDeep));
+            return Err(PartFault::Refused(RefusalKind::TooDeep));
         }
         let inner = Level::new(self.outer.allocator(), bracket, item, room);
         let outer = mem::replace(&mut self.level, inner);
@@ -162,33 +162,33 @@ impl ValueDraft {
         bracket: Bracket,
         place: Place,
         members: Option<(Shape, Option<usize>)>,
-    ) -> Result<(), ActFault>
+    ) -> Result<(), PartFault>
         ensures { Does result self.new (open_members bracket place members self.old) }
     {
         let Some((item, room)) = members else {
-            return Err(ActFault::Refused(RefusalKind::ValueShape));
+            return Err(PartFault::Refused(RefusalKind::ValueShape));
         };
         if is_full(self.level.room) {
-            return Err(ActFault::Refused(RefusalKind::ValueShape));
+            return Err(PartFault::Refused(RefusalKind::ValueShape));
         }
         self.deeper(place, bracket, item, room)
     }
 
-    fn open_dict(&mut self) -> Result<(), ActFault>
+    fn open_dict(&mut self) -> Result<(), PartFault>
         ensures { Does result self.new (open_dict self.old) }
     {
         if is_full(self.level.room) || !takes_dictionary(self.level.item) {
-            return Err(ActFault::Refused(RefusalKind::ValueShape));
+            return Err(PartFault::Refused(RefusalKind::ValueShape));
         }
         self.deeper(Place::EntryType, Bracket::Dict, Shape::Untyped, None)
     }
 
     // The innermost level ends, and is a value of the one round it.
-    fn close(&mut self) -> Result<(), ActFault>
+    fn close(&mut self) -> Result<(), PartFault>
         ensures { Does result self.new (close_act self.old) }
     {
         if is_lacking(self.level.room) {
-            return Err(ActFault::Refused(RefusalKind::ValueShape));
+            return Err(PartFault::Refused(RefusalKind::ValueShape));
         }
         self.go_out()?;
         Ok(())
@@ -207,7 +207,7 @@ impl ValueDraft {
         }
     }
 
-    fn act_value(&mut self, kind: TokenKind, text: &str) -> Result<(), ActFault>
+    fn act_value(&mut self, kind: TokenKind, text: &str) -> Result<(), PartFault>
         ensures { Does result self.new (act_value kind text.now self.old) }
     {
         match kind {
@@ -226,7 +226,7 @@ impl ValueDraft {
         }
     }
 
-    fn act_value_or_end(&mut self, kind: TokenKind, text: &str) -> Result<(), ActFault>
+    fn act_value_or_end(&mut self, kind: TokenKind, text: &str) -> Result<(), PartFault>
         ensures { Does result self.new (act_value_or_end kind text.now self.old) }
     {
         if closes(self.level.bracket, kind) {
@@ -236,7 +236,7 @@ impl ValueDraft {
         }
     }
 
-    fn act_behind_member(&mut self, kind: TokenKind) -> Result<(), ActFault>
+    fn act_behind_member(&mut self, kind: TokenKind) -> Result<(), PartFault>
         ensures { Does result self.new (act_behind_member kind self.old) }
     {
         if let TokenKind::Mark(Mark::Comma) = kind {
@@ -246,22 +246,22 @@ impl ValueDraft {
         if closes(self.level.bracket, kind) {
             self.close()
         } else {
-            Err(ActFault::Refused(RefusalKind::Syntax))
+            Err(PartFault::Refused(RefusalKind::Syntax))
         }
     }
 
-    fn act_entry(&mut self, kind: TokenKind, text: &str) -> Result<(), ActFault>
+    fn act_entry(&mut self, kind: TokenKind, text: &str) -> Result<(), PartFault>
         ensures { Does result self.new (act_entry kind text.now self.old) }
     {
         match kind {
             TokenKind::Mark(Mark::CloseBrace) => self.close(),
             TokenKind::Name => self.act_type(text),
-            _ => Err(ActFault::Refused(RefusalKind::Syntax)),
+            _ => Err(PartFault::Refused(RefusalKind::Syntax)),
         }
     }
 
     // The type of an entry.
-    fn act_type(&mut self, name: &str) -> Result<(), ActFault>
+    fn act_type(&mut self, name: &str) -> Result<(), PartFault>
         ensures { Does result self.new (type_act name.now self.old) }
     {
         if name == "dictionary" {
@@ -272,17 +272,14 @@ impl ValueDraft {
         match find_element(&ELEMENTS, name) {
             Some(element) => {
                 self.place = Place::BehindType;
-                self.level.ty = DictType::Plain(TypeName {
-                    element,
-                    array: false,
-                });
+                self.level.ty = DictType::Plain(TypeName::one(element));
                 Ok(())
             }
-            None => Err(ActFault::Refused(RefusalKind::UnknownType)),
+            None => Err(PartFault::Refused(RefusalKind::UnknownType)),
         }
     }
 
-    fn act_behind_type(&mut self, kind: TokenKind, text: &str) -> Result<(), ActFault>
+    fn act_behind_type(&mut self, kind: TokenKind, text: &str) -> Result<(), PartFault>
         ensures { Does result self.new (act_behind_type kind text.now self.old) }
     {
         if let TokenKind::Mark(Mark::OpenBracket) = kind {
@@ -293,17 +290,17 @@ impl ValueDraft {
         self.act_key(kind, text)
     }
 
-    fn act_type_end(&mut self, kind: TokenKind) -> Result<(), ActFault>
+    fn act_type_end(&mut self, kind: TokenKind) -> Result<(), PartFault>
         ensures { Does result self.new (act_type_end kind self.old) }
     {
         if let TokenKind::Mark(Mark::CloseBracket) = kind {
             self.place = Place::Key;
             return Ok(());
         }
-        Err(ActFault::Refused(RefusalKind::Syntax))
+        Err(PartFault::Refused(RefusalKind::Syntax))
     }
 
-    fn act_key(&mut self, kind: TokenKind, text: &str) -> Result<(), ActFault>
+    fn act_key(&mut self, kind: TokenKind, text: &str) -> Result<(), PartFault>
         ensures { Does result self.new (act_key kind text.now self.old) }
     {
         match kind {
@@ -315,25 +312,25 @@ impl ValueDraft {
                 let key = string_text(self.outer.allocator(), text)?;
                 self.put_key(key)
             }
-            _ => Err(ActFault::Refused(RefusalKind::Syntax)),
+            _ => Err(PartFault::Refused(RefusalKind::Syntax)),
         }
     }
 
-    fn put_key(&mut self, key: Option<Text>) -> Result<(), ActFault>
+    fn put_key(&mut self, key: Option<Text>) -> Result<(), PartFault>
         ensures { Does result self.new (key_act key self.old) }
     {
         let Some(key) = key else {
-            return Err(ActFault::Refused(RefusalKind::NotUtf8));
+            return Err(PartFault::Refused(RefusalKind::NotUtf8));
         };
         if self.level.entries.has(&key) {
-            return Err(ActFault::Refused(RefusalKind::DuplicateSpec));
+            return Err(PartFault::Refused(RefusalKind::DuplicateSpec));
         }
         self.place = Place::Equals;
         self.level.key = key;
         Ok(())
     }
 
-    fn act_equals(&mut self, kind: TokenKind) -> Result<(), ActFault>
+    fn act_equals(&mut self, kind: TokenKind) -> Result<(), PartFault>
         ensures { Does result self.new (act_equals kind self.old) }
     {
         if let TokenKind::Mark(Mark::Equals) = kind {
@@ -341,10 +338,10 @@ impl ValueDraft {
             self.level.item = entry_shape(self.level.ty);
             return Ok(());
         }
-        Err(ActFault::Refused(RefusalKind::Syntax))
+        Err(PartFault::Refused(RefusalKind::Syntax))
     }
 
-    fn act_behind_entry(&mut self, kind: TokenKind, text: &str) -> Result<(), ActFault>
+    fn act_behind_entry(&mut self, kind: TokenKind, text: &str) -> Result<(), PartFault>
         ensures { Does result self.new (act_behind_entry kind text.now self.old) }
     {
         match kind {
@@ -356,12 +353,12 @@ impl ValueDraft {
         }
     }
 
-    fn act_dictionary(&mut self, kind: TokenKind) -> Result<(), ActFault>
+    fn act_dictionary(&mut self, kind: TokenKind) -> Result<(), PartFault>
         ensures { Does result self.new (act_dictionary kind self.old) }
     {
         match kind {
             TokenKind::Mark(Mark::OpenBrace) => self.open_dict(),
-            _ => Err(ActFault::Refused(RefusalKind::Syntax)),
+            _ => Err(PartFault::Refused(RefusalKind::Syntax)),
         }
     }
 }

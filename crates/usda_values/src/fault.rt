@@ -1,14 +1,23 @@
-//! Why a value is refused.
+//! Why a part of an act, or a value, is refused.
+ghost use Rattle.std.specs.Prelude.{◌≡◌};
+
 use sdf_values::RefusalKind;
 use std::alloc::{AllocError, AllocFailed};
 
-/// Why a token adds nothing to a draft.
+/// Why a part of an act is refused, without its place, which the draft of the layer knows.
 #[derive(Clone, Copy, Debug, PartialEq, Eq)]
-pub enum ActFault {
+pub enum PartFault {
     /// The token is refused.
     Refused(RefusalKind),
     /// Memory ran out.
     NoMemory,
+}
+
+/// A value that its place does not take.
+pub fn shape_fault() -> PartFault
+    ensures { result ≡ PartFault.Refused RefusalKind.ValueShape }
+{
+    PartFault::Refused(RefusalKind::ValueShape)
 }
 
 /// Why there is no value.
@@ -20,25 +29,25 @@ pub enum ValueFault {
     NoMemory,
 }
 
-impl From<AllocError> for ActFault {
+impl From<AllocError> for PartFault {
     ghost use Rattle.std.specs.Prelude.{◌≡◌};
-    ghost use Rattle.usda_values.specs.declared.fault.ActFault.TheVariants.{NoMemory};
+    ghost use Rattle.usda_values.specs.declared.fault.PartFault.TheVariants.{NoMemory};
 
     ghost from_gives = { λ _ e. e ≡ NoMemory };
 
-    fn from(_e: AllocError) -> ActFault {
-        ActFault::NoMemory
+    fn from(_e: AllocError) -> PartFault {
+        PartFault::NoMemory
     }
 }
 
-impl<T: Drop> From<AllocFailed<T>> for ActFault {
+impl<T: Drop> From<AllocFailed<T>> for PartFault {
     ghost use Rattle.std.specs.Prelude.{◌≡◌};
-    ghost use Rattle.usda_values.specs.declared.fault.ActFault.TheVariants.{NoMemory};
+    ghost use Rattle.usda_values.specs.declared.fault.PartFault.TheVariants.{NoMemory};
 
     ghost from_gives = { λ _ e. e ≡ NoMemory };
 
-    fn from(_e: AllocFailed<T>) -> ActFault {
-        ActFault::NoMemory
+    fn from(_e: AllocFailed<T>) -> PartFault {
+        PartFault::NoMemory
     }
 }
 

@@ -14,8 +14,11 @@ use usda_lexer::{Mark, TokenKind};
 pub enum Bracket {
     /// The value itself.
     Statement,
+    /// What stands between `(` and `)`.
     Tuple,
+    /// What stands between `[` and `]`.
     Array,
+    /// What stands between `{` and `}`.
     Dict,
 }
 

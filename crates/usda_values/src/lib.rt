@@ -13,10 +13,10 @@ mod shaping;
 
 pub use draft::{ValueDraft, find_element};
 pub use entries::Entries;
-pub use fault::{ActFault, ValueFault};
+pub use fault::{PartFault, ValueFault};
 pub use level::{Bracket, Level, Place};
-pub use path_text::{is_path, is_path_text};
+pub use path_text::begins_up;
 pub use read::{read_dict, read_shaped, read_value};
-pub use scalar::{by_value, take_element, time_of, whole_of};
+pub use scalar::{by_value, finite_time, whole_of};
 pub use shape::Shape;
 pub use shaping::take_shape;

@@ -4,22 +4,20 @@ ghost use Rattle.std.specs.Str.{IsCharBoundary};
 ghost use Rattle.usda_values.specs.PathTexts.{is_path, begins_up, behind_ups, is_path_below, is_path_text};
 
 use plain_data::Text;
-use sdf_paths::{Path, PathFault};
+use sdf_paths::path_of;
 use std::alloc::{AllocError, Global};
 
 /// Whether the text is a path from the root down.
+#[tactic(auto, using(crate::proofs::PathLaw::is_path_some))]
 pub fn is_path(alloc: Global, text: &str) -> Result<bool, AllocError>
     ensures { IfOk result (λ is. is ≡ is_path text.now) }
 {
-    match Path::parse(alloc, text) {
-        Ok(_) => Ok(true),
-        Err(PathFault::Bad { at: _ }) => Ok(false),
-        Err(PathFault::NoMemory) => Err(AllocError),
-    }
+    let path = path_of(alloc, text)?;
+    Ok(path.is_some())
 }
 
-// Whether `../` stands in front.
-fn begins_up(bytes: &[u8]) -> bool
+/// Whether `../` stands in front.
+pub fn begins_up(bytes: &[u8]) -> bool
     ensures { result ≡ begins_up bytes.now }
 {
     match bytes {

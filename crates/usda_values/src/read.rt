@@ -4,7 +4,7 @@ ghost use Rattle.usda_values.specs.Drafts.{draft_of};
 ghost use Rattle.usda_values.specs.Reads.{AnswersRead, AnswersStep, kind_of_fault, place_of_fault};
 
 use crate::draft::ValueDraft;
-use crate::fault::{ActFault, ValueFault};
+use crate::fault::{PartFault, ValueFault};
 use crate::level::{Place, awaits_value};
 use crate::shape::Shape;
 use sdf_values::{RefusalKind, Value};
@@ -70,11 +70,11 @@ fn step(draft: &mut ValueDraft, tokens: &mut Tokens<'_>) -> Result<bool, ValueFa
                 let _taken = tokens.next();
                 Ok(draft.is_complete())
             }
-            Err(ActFault::Refused(kind)) => Err(ValueFault::Refused {
+            Err(PartFault::Refused(kind)) => Err(ValueFault::Refused {
                 kind,
                 at: token.start,
             }),
-            Err(ActFault::NoMemory) => Err(ValueFault::NoMemory),
+            Err(PartFault::NoMemory) => Err(ValueFault::NoMemory),
         },
         Ok(None) => Err(ValueFault::Refused {
             kind: RefusalKind::Syntax,

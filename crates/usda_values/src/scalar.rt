@@ -3,16 +3,16 @@ ghost use Rattle.std.specs.Prelude.{◌≡◌, ◌≢◌, ◌<◌, ◌%◌, ◌^
 ghost use Rattle.sdf_values.specs.Conforms.{whole_bounds, is_between};
 ghost use Rattle.sdf_values.specs.Numbers.{zero_number};
 ghost use Rattle.sdf_values.specs.NumberTexts.{signed};
-ghost use Rattle.usda_values.specs.Scalars.{power_of, times_power, whole_of, is_plain_byte, is_plain, whole_or, by_value, as_written, number_value, string_value, path_value, word_value, token_value, time_of, decimal_of_whole, take_bool_word, take_bool, take_real, take_time, take_number_time, take_timecode, take_text, take_asset, take_whole_value, take_element, tens_out, is_below_zero};
+ghost use Rattle.usda_values.specs.Scalars.{power_of, times_power, whole_of, is_plain_byte, is_plain, whole_or, by_value, as_written, number_value, string_value, path_value, word_value, token_value, time_of, finite_time, decimal_of_whole, take_bool_word, take_bool, take_real, take_time, take_number_time, take_timecode, take_text, take_asset, take_whole_value, take_element, tens_out, is_below_zero};
 ghost use Rattle.usda_values.specs.Shapes.{for_metadata, take_typed, take_value};
 ghost use Rattle.usda_values.specs.Takes.{Gives};
 ghost use Rattle.usda_lexer.specs.Meanings.{number_of, string_text};
 
-use crate::fault::ActFault;
+use crate::fault::{PartFault, shape_fault};
 use crate::path_text::is_path_text;
 use crate::shape::Shape;
 use plain_data::Text;
-use sdf_values::{Decimal, ElementType, Num, RefusalKind, TimeCode, TypeName, Value};
+use sdf_values::{Decimal, ElementType, Num, RefusalKind, TimeCode, TypeName, Value, with_sign};
 use std::alloc::Global;
 use usda_lexer::{TokenKind, asset_text, number_of, path_text, string_text};
 
@@ -74,11 +74,11 @@ pub fn by_value(x: Num) -> Value
     }
 }
 
-fn number_value(text: &str) -> Result<Value, ActFault>
+fn number_value(text: &str) -> Result<Value, PartFault>
     ensures { Gives result (number_value text.now (number_of text.now)) }
 {
     match number_of(text) {
-        None => Err(ActFault::Refused(RefusalKind::NumberTooLong)),
+        None => Err(PartFault::Refused(RefusalKind::NumberTooLong)),
         Some(x) => {
             if is_plain(text) {
                 Ok(by_value(x))
@@ -89,26 +89,26 @@ fn number_value(text: &str) -> Result<Value, ActFault>
     }
 }
 
-fn string_value(alloc: Global, text: &str) -> Result<Value, ActFault>
+fn string_value(alloc: Global, text: &str) -> Result<Value, PartFault>
     ensures { Gives result (string_value (string_text text.now)) }
 {
     match string_text(alloc, text)? {
         Some(text) => Ok(Value::Text(text)),
-        None => Err(ActFault::Refused(RefusalKind::NotUtf8)),
+        None => Err(PartFault::Refused(RefusalKind::NotUtf8)),
     }
 }
 
-fn path_value(alloc: Global, text: &str) -> Result<Value, ActFault>
+fn path_value(alloc: Global, text: &str) -> Result<Value, PartFault>
     ensures { Gives result (path_value text.now) }
 {
     if is_path_text(alloc, text)? {
         Ok(Value::PathText(Text::of(alloc, text)?))
     } else {
-        Err(ActFault::Refused(RefusalKind::Syntax))
+        Err(PartFault::Refused(RefusalKind::Syntax))
     }
 }
 
-fn word_value(alloc: Global, text: &str) -> Result<Value, ActFault>
+fn word_value(alloc: Global, text: &str) -> Result<Value, PartFault>
     ensures { Gives result (Ok (word_value text.now)) }
 {
     if text == "None" {
@@ -120,7 +120,7 @@ fn word_value(alloc: Global, text: &str) -> Result<Value, ActFault>
 
 /// The value of one token.
 #[tactic(auto, unfolding(crate::specs::Scalars::token_value))]
-pub fn token_value(alloc: Global, kind: TokenKind, text: &str) -> Result<Value, ActFault>
+pub fn token_value(alloc: Global, kind: TokenKind, text: &str) -> Result<Value, PartFault>
     ensures { Gives result (token_value kind text.now) }
 {
     match kind {
@@ -129,7 +129,7 @@ pub fn token_value(alloc: Global, kind: TokenKind, text: &str) -> Result<Value, 
         TokenKind::Asset => Ok(Value::Asset(Text::of(alloc, asset_text(text))?)),
         TokenKind::Path => path_value(alloc, path_text(text)),
         TokenKind::Name => word_value(alloc, text),
-        TokenKind::Mark(_) => Err(ActFault::Refused(RefusalKind::Syntax)),
+        TokenKind::Mark(_) => Err(PartFault::Refused(RefusalKind::Syntax)),
     }
 }
 
@@ -141,6 +141,17 @@ pub fn time_of(d: Decimal) -> Option<TimeCode>
     match TimeCode::of(d) {
         Ok(time) => Some(time),
         Err(_) => None,
+    }
+}
+
+/// The time that a number is; nothing where it is `inf` or `nan`, more than 10^12 away from 0, or has more than 18 decimals.
+#[tactic(auto, unfolding(crate::specs::Scalars::finite_time))]
+pub fn finite_time(x: Num) -> Option<TimeCode>
+    ensures { result ≡ finite_time x }
+{
+    match x {
+        Num::Finite(d) => time_of(d),
+        _ => None,
     }
 }
 
@@ -159,13 +170,6 @@ fn without_tens(n: u128) -> Option<(u128, u32)>
         digits /= 10;
     }
     None
-}
-
-fn with_sign(negative: bool, n: u128) -> i128
-    requires { n < 2 ^ 127 }
-    ensures { result ≡ signed negative n }
-{
-    if negative { -(n as i128) } else { n as i128 }
 }
 
 // A decimal of these digits and so many tens.
@@ -210,13 +214,7 @@ fn is_below_zero(n: i128) -> bool
     n < 0
 }
 
-fn shape_fault() -> ActFault
-    ensures { result ≡ ActFault.Refused RefusalKind.ValueShape }
-{
-    ActFault::Refused(RefusalKind::ValueShape)
-}
-
-fn take_bool(value: &Value) -> Result<Value, ActFault>
+fn take_bool(value: &Value) -> Result<Value, PartFault>
     ensures { Gives result (take_bool value.now) }
 {
     match value {
@@ -235,7 +233,7 @@ fn take_bool(value: &Value) -> Result<Value, ActFault>
     }
 }
 
-fn take_bool_word(text: &str) -> Result<Value, ActFault>
+fn take_bool_word(text: &str) -> Result<Value, PartFault>
     ensures { Gives result (take_bool_word text.now) }
 {
     if text == "true" {
@@ -247,38 +245,38 @@ fn take_bool_word(text: &str) -> Result<Value, ActFault>
     }
 }
 
-fn take_real(value: &Value) -> Result<Value, ActFault>
+fn take_real(value: &Value) -> Result<Value, PartFault>
     ensures { Gives result (take_real value.now) }
 {
     match value {
         Value::Number(x) => Ok(Value::Number(*x)),
         Value::Whole(n) => match decimal_of_whole(*n) {
             Some(d) => Ok(Value::Number(Num::Finite(d))),
-            None => Err(ActFault::Refused(RefusalKind::NumberTooLong)),
+            None => Err(PartFault::Refused(RefusalKind::NumberTooLong)),
         },
         _ => Err(shape_fault()),
     }
 }
 
-fn time_value(d: Decimal) -> Result<Value, ActFault>
+fn time_value(d: Decimal) -> Result<Value, PartFault>
     ensures { Gives result (take_time (time_of d)) }
 {
     match time_of(d) {
         Some(time) => Ok(Value::Time(time)),
-        None => Err(ActFault::Refused(RefusalKind::TimeRange)),
+        None => Err(PartFault::Refused(RefusalKind::TimeRange)),
     }
 }
 
-fn take_number_time(x: Num) -> Result<Value, ActFault>
+fn take_number_time(x: Num) -> Result<Value, PartFault>
     ensures { Gives result (take_number_time x) }
 {
     match x {
         Num::Finite(d) => time_value(d),
-        _ => Err(ActFault::Refused(RefusalKind::TimeRange)),
+        _ => Err(PartFault::Refused(RefusalKind::TimeRange)),
     }
 }
 
-fn take_timecode(value: &Value) -> Result<Value, ActFault>
+fn take_timecode(value: &Value) -> Result<Value, PartFault>
     ensures { Gives result (take_timecode value.now) }
 {
     match value {
@@ -286,13 +284,13 @@ fn take_timecode(value: &Value) -> Result<Value, ActFault>
         Value::Number(x) => take_number_time(*x),
         Value::Whole(n) => match decimal_of_whole(*n) {
             Some(d) => time_value(d),
-            None => Err(ActFault::Refused(RefusalKind::TimeRange)),
+            None => Err(PartFault::Refused(RefusalKind::TimeRange)),
         },
         _ => Err(shape_fault()),
     }
 }
 
-fn take_text(value: Value) -> Result<Value, ActFault>
+fn take_text(value: Value) -> Result<Value, PartFault>
     ensures { Gives result (take_text value) }
 {
     match value {
@@ -304,7 +302,7 @@ fn take_text(value: Value) -> Result<Value, ActFault>
     }
 }
 
-fn take_asset(value: Value) -> Result<Value, ActFault>
+fn take_asset(value: Value) -> Result<Value, PartFault>
     ensures { Gives result (take_asset value) }
 {
     match value {
@@ -329,7 +327,7 @@ fn is_between(element: ElementType, n: i128) -> bool
     }
 }
 
-fn take_whole(element: ElementType, value: &Value) -> Result<Value, ActFault>
+fn take_whole(element: ElementType, value: &Value) -> Result<Value, PartFault>
     ensures { Gives result (take_whole_value element value.now) }
 {
     match value {
@@ -345,7 +343,7 @@ fn take_whole(element: ElementType, value: &Value) -> Result<Value, ActFault>
 }
 
 /// A value of one token as one of a type that is no array and no tuple.
-pub fn take_element(element: ElementType, value: Value) -> Result<Value, ActFault>
+pub fn take_element(element: ElementType, value: Value) -> Result<Value, PartFault>
     ensures { Gives result (take_element element value) }
 {
     match element {
@@ -374,7 +372,7 @@ pub fn take_element(element: ElementType, value: Value) -> Result<Value, ActFaul
     }
 }
 
-fn take_typed(is_statement: bool, ty: TypeName, value: Value) -> Result<Value, ActFault>
+fn take_typed(is_statement: bool, ty: TypeName, value: Value) -> Result<Value, PartFault>
     ensures { Gives result (take_typed is_statement ty value) }
 {
     if value.is_block() {
@@ -402,7 +400,7 @@ fn for_metadata(value: Value) -> Value
 }
 
 /// The value of one token where this is expected, directly behind the `=` of a statement or not.
-pub fn take_value(shape: Shape, is_statement: bool, value: Value) -> Result<Value, ActFault>
+pub fn take_value(shape: Shape, is_statement: bool, value: Value) -> Result<Value, PartFault>
     ensures { Gives result (take_value shape is_statement value) }
 {
     match shape {

@@ -6,29 +6,13 @@ ghost use Rattle.usda_values.specs.Takes.{Gives};
 ghost use Rattle.usda_values.specs.Shaping.{taken, take_all, take_counted, take_tuple, take_leaf, take_shape, AnswersShape, GivesAll};
 ghost use Rattle.sdf_values.specs.Conforms.{members_of, one};
 
-use crate::fault::{ActFault, ValueFault};
+use crate::fault::{PartFault, ValueFault, shape_fault};
 use crate::scalar::take_element;
-use crate::shape::members_of;
 use plain_data::{Items, copy};
-use sdf_values::{ElementType, RefusalKind, TypeName, Value};
+use sdf_values::{ElementType, TypeName, Value, members_of};
 use std::alloc::Global;
 
-fn shape_fault() -> ActFault
-    ensures { result ≡ ActFault.Refused RefusalKind.ValueShape }
-{
-    ActFault::Refused(RefusalKind::ValueShape)
-}
-
-fn one(element: ElementType) -> TypeName
-    ensures { result ≡ one element }
-{
-    TypeName {
-        element,
-        array: false,
-    }
-}
-
-fn take_leaf(ty: TypeName, value: &Value) -> Result<Value, ActFault>
+fn take_leaf(ty: TypeName, value: &Value) -> Result<Value, PartFault>
     ensures { Gives result (take_leaf value.now ty) }
 {
     if ty.array {
@@ -38,7 +22,7 @@ fn take_leaf(ty: TypeName, value: &Value) -> Result<Value, ActFault>
 }
 
 #[cycle(taken)]
-fn taken(alloc: Global, ty: TypeName, value: &Value) -> Result<Value, ActFault>
+fn taken(alloc: Global, ty: TypeName, value: &Value) -> Result<Value, PartFault>
     ensures { Gives result (taken value.now ty) }
 {
     match value {
@@ -52,7 +36,7 @@ fn taken(alloc: Global, ty: TypeName, value: &Value) -> Result<Value, ActFault>
             if !ty.array {
                 return Err(shape_fault());
             }
-            match take_all(alloc, one(ty.element), items.as_slice()) {
+            match take_all(alloc, TypeName::one(ty.element), items.as_slice()) {
                 Ok(values) => Ok(Value::Array(values)),
                 Err(fault) => Err(fault),
             }
@@ -70,12 +54,12 @@ fn taken(alloc: Global, ty: TypeName, value: &Value) -> Result<Value, ActFault>
 }
 
 #[cycle(taken)]
-fn take_tuple(alloc: Global, element: ElementType, values: &[Value]) -> Result<Value, ActFault>
+fn take_tuple(alloc: Global, element: ElementType, values: &[Value]) -> Result<Value, PartFault>
     ensures { Gives result (take_tuple (members_of element) (map taken values.now)) }
 {
     match members_of(element) {
         None => Err(shape_fault()),
-        Some((member, count)) => match take_counted(alloc, count, one(member), values) {
+        Some((member, count)) => match take_counted(alloc, count, TypeName::one(member), values) {
             Ok(values) => Ok(Value::Tuple(values)),
             Err(fault) => Err(fault),
         },
@@ -84,7 +68,7 @@ fn take_tuple(alloc: Global, element: ElementType, values: &[Value]) -> Result<V
 
 // The members of an array.
 #[cycle(taken)]
-fn take_all(alloc: Global, ty: TypeName, values: &[Value]) -> Result<Items<Value>, ActFault>
+fn take_all(alloc: Global, ty: TypeName, values: &[Value]) -> Result<Items<Value>, PartFault>
     ensures { GivesAll result (take_all (map taken values.now) ty) }
 {
     let mut all = Items::new(alloc);
@@ -104,7 +88,7 @@ fn take_counted(
     count: usize,
     ty: TypeName,
     values: &[Value],
-) -> Result<Items<Value>, ActFault>
+) -> Result<Items<Value>, PartFault>
     ensures { GivesAll result (take_counted count (map taken values.now) ty) }
 {
     let mut all = Items::new(alloc);
@@ -138,7 +122,7 @@ pub fn take_shape(alloc: Global, ty: TypeName, v: Value) -> Result<Value, ValueF
     drop(v);
     match taken {
         Ok(value) => Ok(value),
-        Err(ActFault::Refused(kind)) => Err(ValueFault::Refused { kind, at: 0 }),
-        Err(ActFault::NoMemory) => Err(ValueFault::NoMemory),
+        Err(PartFault::Refused(kind)) => Err(ValueFault::Refused { kind, at: 0 }),
+        Err(PartFault::NoMemory) => Err(ValueFault::NoMemory),
     }
 }

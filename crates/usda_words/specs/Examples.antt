@@ -1,18 +1,18 @@
 -- Tokens and their words.
 use Rattle.std.specs.Prelude.{◌≡◌, ℕ, ◌+◌, Bool, true, false, List, [], ◌∷◌, codes, map, length, Option, Some, None}
 use Rattle.usda_grammar.specs.declared.kinds.Keyword.TheVariants as word
-use Rattle.usda_grammar.specs.declared.kinds.TokenKind.{TokenKind}
-use Rattle.usda_grammar.specs.declared.kinds.TokenKind.TheVariants as kind
+use Rattle.usda_grammar.specs.declared.kinds.WordKind.{WordKind}
+use Rattle.usda_grammar.specs.declared.kinds.WordKind.TheVariants as kind
 use Rattle.usda_lexer.specs.Words.{Word as Token}
 use Rattle.usda_lexer.specs.declared.token.LexFault.{LexFault}
 use Rattle.usda_lexer.specs.declared.token.LexFault.TheVariants.{Unclosed, BadByte, NumberTooLong}
 use Rattle.usda_lexer.specs.declared.token.Mark.TheVariants as mark
-use Rattle.usda_lexer.specs.declared.token.TokenKind.{TokenKind as Form}
+use Rattle.usda_lexer.specs.declared.token.TokenKind.{TokenKind}
 use Rattle.usda_lexer.specs.declared.token.TokenKind.TheVariants as form
 use Rattle.usda_words.specs.Words.{words_behind, at_start}
 
 -- a token of this text that begins here
-abbrev pub token : Form → List ℕ → ℕ → Token
+abbrev pub token : TokenKind → List ℕ → ℕ → Token
 token f text start = record { kind = f; text = text; start = start; end = start + length text }
 
 -- a name that begins here
@@ -28,15 +28,15 @@ abbrev pub dot : ℕ → Token
 dot = token (form.Mark mark.Dot) (codes ".")
 
 -- the kinds of the words of these tokens and of the fault behind them, each with its place
-abbrev pub AreWords : List Token → Option LexFault → List (TokenKind × ℕ) → Type 0
+abbrev pub AreWords : List Token → Option LexFault → List (WordKind × ℕ) → Type 0
 AreWords ts fault said = map (λ w. (w.kind, w.start)) (words_behind at_start ts fault) ≡ said
 
 -- the kind of a name alone
-abbrev pub IsWord : List ℕ → TokenKind → Type 0
+abbrev pub IsWord : List ℕ → WordKind → Type 0
 IsWord text k = AreWords (name text 0 ∷ []) None ((k, 0) ∷ [])
 
 -- a fault behind the name `x` and an equals sign
-abbrev pub FaultIs : LexFault → List (TokenKind × ℕ × Bool) → Type 0
+abbrev pub FaultIs : LexFault → List (WordKind × ℕ × Bool) → Type 0
 FaultIs fault said = map (λ w. (w.kind, w.start, w.too_long)) (words_behind at_start (name (codes "x") 0 ∷ token (form.Mark mark.Equals) (codes "=") 2 ∷ []) (Some fault)) ≡ (kind.Word word.Other, 0, false) ∷ (kind.Equals, 2, false) ∷ said
 
 -- where blanks and comments may not stand

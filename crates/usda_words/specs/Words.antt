@@ -1,28 +1,28 @@
 -- The words of a text: its tokens, each with its kind for the grammar, and the fault with which they end, as a last word.
 use Rattle.std.specs.Prelude.{ℕ, Bool, true, false, ◌&&◌, ◌||◌, ◌==◌, not, List, [], ◌∷◌, Option, Some, None}
 use Rattle.usda_grammar.specs.Words.{kind_of_word}
-use Rattle.usda_grammar.specs.declared.kinds.TokenKind.{TokenKind}
-use Rattle.usda_grammar.specs.declared.kinds.TokenKind.TheVariants as kind
+use Rattle.usda_grammar.specs.declared.kinds.WordKind.{WordKind}
+use Rattle.usda_grammar.specs.declared.kinds.WordKind.TheVariants as kind
 use Rattle.usda_lexer.specs.Words.{Word as Token, Lexing, tokens_of}
 use Rattle.usda_lexer.specs.declared.token.LexFault.{LexFault}
 use Rattle.usda_lexer.specs.declared.token.LexFault.TheVariants.{NotUtf8, Unclosed, BadByte, NumberTooLong}
 use Rattle.usda_lexer.specs.declared.token.Mark.{Mark}
 use Rattle.usda_lexer.specs.declared.token.Mark.TheVariants as mark
-use Rattle.usda_lexer.specs.declared.token.TokenKind.{TokenKind as Form}
+use Rattle.usda_lexer.specs.declared.token.TokenKind.{TokenKind}
 use Rattle.usda_lexer.specs.declared.token.TokenKind.TheVariants as form
 use Rattle.usda_words.specs.declared.word.Before.{Before}
 
--- A word: its kind for the grammar, its form and text as a token, where it begins, and whether it is a number that is too long
+-- A word: its kind for the grammar, its kind and text as a token, where it begins, and whether it is a number that is too long
 -- to be kept.
 pub record Word : Type 0 where
-  pub kind : TokenKind
-  pub token : Form
+  pub kind : WordKind
+  pub token : TokenKind
   pub text : List ℕ
   pub start : ℕ
   pub too_long : Bool
 
 -- each mark is a kind of its own to the grammar
-abbrev pub kind_of_mark : Mark → TokenKind
+abbrev pub kind_of_mark : Mark → WordKind
 kind_of_mark mark.OpenParen = kind.OpenParen
 kind_of_mark mark.CloseParen = kind.CloseParen
 kind_of_mark mark.OpenBrace = kind.OpenBrace
@@ -36,7 +36,7 @@ kind_of_mark mark.Colon = kind.Colon
 kind_of_mark mark.Dot = kind.Dot
 
 -- what a token is to the grammar: a name by its text
-abbrev pub kind_of : Form → List ℕ → TokenKind
+abbrev pub kind_of : TokenKind → List ℕ → WordKind
 kind_of form.Name text = kind_of_word text
 kind_of form.Number text = kind.Number
 kind_of form.String text = kind.Quoted
@@ -45,18 +45,18 @@ kind_of form.Path text = kind.Path
 kind_of (form.Mark m) text = kind_of_mark m
 
 -- the word is a `.`
-abbrev pub is_dot : TokenKind → Bool
+abbrev pub is_dot : WordKind → Bool
 is_dot kind.Dot = true
 is_dot k = false
 
 -- at fault where this holds, else of this kind
-abbrev pub if_joined : Bool → TokenKind → TokenKind
+abbrev pub if_joined : Bool → WordKind → WordKind
 if_joined true k = kind.Fault
 if_joined false k = k
 
 -- No blank and no comment stands beside a `.`: a `.`, and a word behind one, are at fault where they do not begin at the end of
 -- the word before.
-abbrev pub kind_behind : Before → ℕ → TokenKind → TokenKind
+abbrev pub kind_behind : Before → ℕ → WordKind → WordKind
 kind_behind before start k = if_joined ((before.is_dot || is_dot k) && not (start == before.end)) k
 
 -- the word of a token, by what stands before it

@@ -2,16 +2,16 @@
 ghost use Rattle.std.specs.Prelude.{◌≡◌};
 ghost use Rattle.usda_words.specs.Words.{kind_of, kind_of_mark, is_dot};
 
-use usda_grammar::{TokenKind, kind_of_word};
-use usda_lexer::{Mark, TokenKind as Form};
+use usda_grammar::{WordKind, kind_of_word};
+use usda_lexer::{Mark, TokenKind};
 
 /// A word of a text.
 #[derive(Clone, Copy, Debug)]
 pub struct Word<'s> {
     /// What the word is to the grammar: `Fault` where no text goes on with it wherever it stands.
-    pub kind: TokenKind,
+    pub kind: WordKind,
     /// What it is as a token; a name where it is none.
-    pub token: Form,
+    pub token: TokenKind,
     /// The word as it is written; empty where it is no token, and of a number that is too long.
     pub text: &'s str,
     /// The number of its first byte in the text, from 0.
@@ -29,43 +29,44 @@ pub struct Before {
     pub is_dot: bool,
 }
 
-fn kind_of_mark(mark: Mark) -> TokenKind
+fn kind_of_mark(mark: Mark) -> WordKind
     ensures { result ≡ kind_of_mark mark }
 {
     match mark {
-        Mark::OpenParen => TokenKind::OpenParen,
-        Mark::CloseParen => TokenKind::CloseParen,
-        Mark::OpenBrace => TokenKind::OpenBrace,
-        Mark::CloseBrace => TokenKind::CloseBrace,
-        Mark::OpenBracket => TokenKind::OpenBracket,
-        Mark::CloseBracket => TokenKind::CloseBracket,
-        Mark::Equals => TokenKind::Equals,
-        Mark::Comma => TokenKind::Comma,
-        Mark::Semicolon => TokenKind::Semicolon,
-        Mark::Colon => TokenKind::Colon,
-        Mark::Dot => TokenKind::Dot,
+        Mark::OpenParen => WordKind::OpenParen,
+        Mark::CloseParen => WordKind::CloseParen,
+        Mark::OpenBrace => WordKind::OpenBrace,
+        Mark::CloseBrace => WordKind::CloseBrace,
+        Mark::OpenBracket => WordKind::OpenBracket,
+        Mark::CloseBracket => WordKind::CloseBracket,
+        Mark::Equals => WordKind::Equals,
+        Mark::Comma => WordKind::Comma,
+        Mark::Semicolon => WordKind::Semicolon,
+        Mark::Colon => WordKind::Colon,
+        Mark::Dot => WordKind::Dot,
     }
 }
 
 /// What a token is to the grammar.
-pub fn kind_of(form: Form, text: &str) -> TokenKind
+pub fn kind_of(form: TokenKind, text: &str) -> WordKind
     ensures { result ≡ kind_of form text.now }
 {
     match form {
-        Form::Name => kind_of_word(text),
-        Form::Number => TokenKind::Number,
-        Form::String => TokenKind::Quoted,
-        Form::Asset => TokenKind::Asset,
-        Form::Path => TokenKind::Path,
-        Form::Mark(mark) => kind_of_mark(mark),
+        TokenKind::Name => kind_of_word(text),
+        TokenKind::Number => WordKind::Number,
+        TokenKind::String => WordKind::Quoted,
+        TokenKind::Asset => WordKind::Asset,
+        TokenKind::Path => WordKind::Path,
+        TokenKind::Mark(mark) => kind_of_mark(mark),
     }
 }
 
-pub fn is_dot(kind: TokenKind) -> bool
+/// Whether a token is a `.`.
+pub fn is_dot(kind: WordKind) -> bool
     ensures { result ≡ is_dot kind }
 {
     match kind {
-        TokenKind::Dot => true,
+        WordKind::Dot => true,
         _ => false,
     }
 }

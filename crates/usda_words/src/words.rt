@@ -6,15 +6,15 @@ ghost use Rattle.usda_lexer.specs.Words.{word_of as token_of};
 
 use crate::word::{Before, Word, is_dot, kind_of};
 use std::marker::Model;
-use usda_grammar::TokenKind;
-use usda_lexer::{LexFault, Token, TokenKind as Form, Tokens};
+use usda_grammar::WordKind;
+use usda_lexer::{LexFault, Token, TokenKind, Tokens};
 
 // A word of this kind at its place: no blank and no comment stands round a `.`.
-fn kind_behind(before: Before, start: usize, kind: TokenKind) -> TokenKind
+fn kind_behind(before: Before, start: usize, kind: WordKind) -> WordKind
     ensures { result ≡ kind_behind before start kind }
 {
     if (before.is_dot || is_dot(kind)) && start != before.end {
-        TokenKind::Fault
+        WordKind::Fault
     } else {
         kind
     }
@@ -36,8 +36,8 @@ fn unreadable_at<'s>(start: usize) -> Word<'s>
     ensures { word_of result ≡ unreadable_at start }
 {
     Word {
-        kind: TokenKind::Fault,
-        token: Form::Name,
+        kind: WordKind::Fault,
+        token: TokenKind::Name,
         text: "",
         start,
         too_long: false,
@@ -49,8 +49,8 @@ fn fault_word<'s>(before: Before, fault: LexFault) -> Word<'s>
 {
     match fault {
         LexFault::NumberTooLong { at } => Word {
-            kind: kind_behind(before, at, TokenKind::Number),
-            token: Form::Number,
+            kind: kind_behind(before, at, WordKind::Number),
+            token: TokenKind::Number,
             text: "",
             start: at,
             too_long: true,

@@ -7,7 +7,8 @@ use Rattle.sdf_paths.specs.declared.element.Element.TheVariants.{Prim, Selection
 use Rattle.sdf_values.specs.Print.{blanks, deeper, quoted}
 use Rattle.sdf_values.specs.declared.value.Value.TheVariants as value
 use Rattle.spec_properties.specs.Entries.{MetaEntries}
-use Rattle.sdf_specs.specs.Layers.{LayerTable, SpecEntries, spec_at}
+pub use Rattle.sdf_specs.specs.Found.{spec_below}
+use Rattle.sdf_specs.specs.Layers.{LayerTable, SpecEntries}
 use Rattle.spec_tables.specs.Tables.{with_key}
 use Rattle.spec_parts.specs.declared.items.VariantSet.{VariantSet}
 use Rattle.spec_parts.specs.declared.spec.Head.{Head}
@@ -25,10 +26,6 @@ order_line level word (n ∷ ns) = line level (codes "reorder " ++ word ++ codes
 abbrev pub type_part : Option Text → Text
 type_part None = []
 type_part (Some name) = name ++ codes " "
-
--- the spec of a prim or a variant below a path
-abbrev pub spec_below : SpecEntries → List Element → Element → Option Spec
-spec_below specs path e = spec_at (path ++ e ∷ []) specs
 
 -- the metadata of a prim or a variant behind its name
 unfoldable pub spec_block : ℕ → Spec → Text

@@ -3,6 +3,7 @@ use Rattle.std.specs.Prelude.{◌≡◌, ℕ, ℤ, pos, negsuc, true, false, Lis
 use Rattle.list_ops.specs.declared.op.ListOp.{ListOp}
 use Rattle.sdf_paths.specs.declared.element.Element.{Element}
 use Rattle.sdf_paths.specs.declared.element.Element.TheVariants as path
+use Rattle.sdf_values.specs.Conforms.{one}
 use Rattle.sdf_values.specs.Scales.{Offset}
 use Rattle.sdf_values.specs.declared.decimal.Num.TheVariants.{Finite}
 use Rattle.sdf_values.specs.declared.type_name.ElementType.{ElementType}
@@ -22,10 +23,6 @@ use Rattle.usda_writer.specs.Canonical.{canonical}
 -- the number `digits * 10^exp`
 abbrev pub real : ℤ → ℤ → Value
 real digits exp = value.Number (Finite (record { digits = digits; exp = exp }))
-
--- a type that is no array
-abbrev pub one : ElementType → TypeName
-one e = record { element = e; array = false }
 
 -- a layer that says nothing
 abbrev pub empty_layer : LayerTable

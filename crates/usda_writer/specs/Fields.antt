@@ -13,7 +13,8 @@ use Rattle.spec_properties.specs.Entries.{MetaEntries, SelectionEntries}
 use Rattle.spec_parts.specs.declared.items.SubLayer.{SubLayer}
 use Rattle.spec_parts.specs.declared.spec.Head.{Head}
 use Rattle.spec_parts.specs.declared.spec.Spec.{Spec}
-use Rattle.usda_writer.specs.Texts.{Text, bracketed, explicit_list, path_text, reference_text, sublayer_text}
+use Rattle.sdf_paths.specs.Paths.{path_text}
+use Rattle.usda_writer.specs.Texts.{Text, bracketed, explicit_list, reference_text, sublayer_text}
 
 -- a line at a level
 abbrev pub line : ℕ → Text → Text

@@ -2,6 +2,7 @@
 use Rattle.std.specs.Prelude.{ℕ, ℤ, Bool, true, false, if◌then◌else◌, List, [], ◌∷◌, ◌++◌, codes, Option, Some, None}
 use Rattle.std.specs.List.{flat_map}
 use Rattle.list_ops.specs.declared.op.ListOp.{ListOp}
+use Rattle.sdf_paths.specs.Paths.{path_text}
 use Rattle.sdf_paths.specs.declared.element.Element.{Element}
 use Rattle.sdf_values.specs.Print.{blanks, deeper, print, time_text}
 use Rattle.sdf_values.specs.TypeNames.{type_text}
@@ -10,7 +11,7 @@ use Rattle.sdf_values.specs.declared.value.Value.{Value}
 use Rattle.spec_properties.specs.Entries.{MetaEntries, SampleEntries}
 use Rattle.spec_properties.specs.declared.property.Property.{Property}
 use Rattle.spec_properties.specs.declared.property.Property.TheVariants.{Attr, Rel}
-use Rattle.usda_writer.specs.Texts.{Text, explicit_list, metadata_block, path_text}
+use Rattle.usda_writer.specs.Texts.{Text, explicit_list, metadata_block}
 use Rattle.usda_writer.specs.Fields.{edit_lines, line, list_lines, meta_lines}
 
 -- a word that stands where a flag holds

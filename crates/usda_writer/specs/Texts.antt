@@ -1,10 +1,10 @@
 -- The texts of which a layer's text is put together: lists and their items, keywords, blocks of metadata.
-use Rattle.std.specs.Prelude.{ℕ, Bool, true, false, ◌&&◌, ◌==◌, List, [], ◌∷◌, ◌++◌, codes, ℤ, pos, negsuc, Option, Some, None}
-use Rattle.std.specs.Fmt.{signed_decimal}
-use Rattle.sdf_paths.specs.Paths.{printed}
+use Rattle.std.specs.Prelude.{ℕ, Bool, true, false, List, [], ◌∷◌, ◌++◌, codes, Option, Some, None}
+pub use Rattle.sdf_paths.specs.Paths.{path_text}
 use Rattle.sdf_paths.specs.declared.element.Element.{Element}
 use Rattle.sdf_values.specs.Print.{asset_text, blanks}
-use Rattle.sdf_values.specs.Scales.{Offset}
+pub use Rattle.sdf_values.specs.Print.{offset_text, unless_identity}
+pub use Rattle.sdf_values.specs.Scales.{is_identity, is_one, is_zero}
 use Rattle.spec_parts.specs.declared.items.RefItem.{RefItem}
 use Rattle.spec_parts.specs.declared.items.Specifier.{Specifier}
 use Rattle.spec_parts.specs.declared.items.Specifier.TheVariants.{Def, Over, Class}
@@ -41,31 +41,6 @@ bracketed f xs = codes "[" ++ listed f xs ++ codes "]"
 abbrev pub explicit_list : {T : Type 0} → (T → Text) → List T → Text
 explicit_list f [] = codes "None"
 explicit_list f (x ∷ xs) = bracketed f (x ∷ xs)
-
--- a path between `<` and `>`
-abbrev pub path_text : List Element → Text
-path_text path = codes "<" ++ printed path ++ codes ">"
-
-abbrev pub is_zero : ℤ → Bool
-is_zero (pos n) = n == 0
-is_zero (negsuc n) = false
-
-abbrev pub is_one : ℤ → Bool
-is_one (pos n) = n == 1
-is_one (negsuc n) = false
-
--- the offset changes no time
-abbrev pub is_identity : Offset → Bool
-is_identity o = is_zero o.offset && is_one o.scale
-
--- both the offset and the scale stand between the brackets, unless together they change no time
-abbrev pub unless_identity : Bool → Offset → Text
-unless_identity true o = []
-unless_identity false o = codes " (offset = " ++ signed_decimal o.offset ++ codes "; scale = " ++ signed_decimal o.scale ++ codes ")"
-
--- an offset behind an item; the one that changes no time is not written
-abbrev pub offset_text : Offset → Text
-offset_text o = unless_identity (is_identity o) o
 
 -- what an item of references names: its asset and its path, as far as it has them, or `<>`
 abbrev pub target_text : Option Text → Option (List Element) → Text

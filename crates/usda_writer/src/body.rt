@@ -1,21 +1,19 @@
 // Prims, variants and what stands in them.
-ghost use Rattle.std.specs.Prelude.{◌≡◌, ◌++◌, OnOk, IfOk, false, string_bytes};
+ghost use Rattle.std.specs.Prelude.{◌≡◌, ◌++◌, OnOk, false, string_bytes};
 ghost use Rattle.std.specs.List.{flat_map};
-ghost use Rattle.std.specs.Option.{option_map};
 ghost use Rattle.usda_writer.specs.Properties.{property_lines};
-ghost use Rattle.usda_writer.specs.Canonical.{order_line, type_part, spec_block, prim_title, prim_head, variant_head, set_word, set_head, spec_below, child_below, children_text, variant_below, set_text, body_text};
-ghost use Rattle.usda_writer.specs.Found.{IsAt, IsFound, StandAtPaths};
-ghost use Rattle.sdf_specs.specs.Layers.{spec_at};
-ghost use Rattle.sdf_paths.specs.declared.element.Element.TheVariants as element;
+ghost use Rattle.usda_writer.specs.Canonical.{order_line, type_part, spec_block, prim_title, prim_head, variant_head, set_word, set_head, child_below, children_text, variant_below, set_text, body_text};
+ghost use Rattle.sdf_specs.specs.Found.{StandAtPaths};
 ghost use Rattle.sdf_paths.specs.Paths.{is_property};
 
 use crate::fields::push_spec_lines;
 use crate::lists::push_bracketed;
 use crate::properties::push_property;
-use crate::texts::{push_blanks, push_block, push_line, push_name, push_specifier};
+use crate::texts::{push_block, push_line, push_name, push_specifier};
 use plain_data::Text;
-use sdf_paths::{Path, PathFault};
-use sdf_specs::{Layer, Properties, Spec, VariantSet};
+use sdf_paths::Path;
+use sdf_specs::{Layer, Properties, Spec, VariantSet, prim_spec_below, variant_spec_below};
+use sdf_values::push_blanks;
 use std::alloc::AllocError;
 
 /// Appends an order, where there is one.
@@ -171,7 +169,7 @@ fn push_child(
     requires prim { is_property path.now ≡ false }
     ensures { OnOk result (string_bytes out.new ≡ string_bytes out.old ++ child_below layer.now.specs (body_text layer.now.specs levels) level path.now name.now) }
 {
-    let Some((child, spec)) = prim_below(layer, path, name)? else {
+    let Some((child, spec)) = prim_spec_below(layer, path, name)? else {
         return Ok(());
     };
     push_prim_head(out, level, name, spec)?;
@@ -297,58 +295,4 @@ fn push_body(
         path,
         spec.body.children.as_slice(),
     )
-}
-
-// A spec with its path, which it is given.
-fn with_spec<'l>(layer: &'l Layer, path: Path) -> Option<(Path, &'l Spec)>
-    ensures { IsAt (option_map (λ f. (f.0, f.1.now)) result) path (spec_at path layer.now.specs) }
-{
-    match layer.get(&path) {
-        Some(spec) => Some((path, spec)),
-        None => None,
-    }
-}
-
-// The spec of a prim below a path, with its path.
-fn prim_below<'l>(
-    layer: &'l Layer,
-    path: &Path,
-    name: &Text,
-) -> Result<Option<(Path, &'l Spec)>, AllocError>
-    requires stand { StandAtPaths layer.now.specs }
-    requires prim { is_property path.now ≡ false }
-    ensures { IfOk result (λ found. IsFound (option_map (λ f. (f.0, f.1.now)) found) path.now (element.Prim name.now) (spec_below layer.now.specs path.now (element.Prim name.now))) }
-{
-    match path.append(name.as_str()) {
-        Ok(child) => Ok(with_spec(layer, child)),
-        Err(PathFault::Bad { .. }) => Ok(None),
-        Err(PathFault::NoMemory) => Err(AllocError),
-    }
-}
-
-// The spec of a variant of a path, with its path.
-fn variant_spec_below<'l>(
-    layer: &'l Layer,
-    path: &Path,
-    set: &Text,
-    variant: &Text,
-) -> Result<Option<(Path, &'l Spec)>, AllocError>
-    requires stand { StandAtPaths layer.now.specs }
-    requires prim { is_property path.now ≡ false }
-    ensures { IfOk result (λ found. IsFound (option_map (λ f. (f.0, f.1.now)) found) path.now (element.Selection set.now variant.now) (spec_below layer.now.specs path.now (element.Selection set.now variant.now))) }
-{
-    match path.select(set.as_str(), variant.as_str()) {
-        Ok(below) => Ok(with_spec(layer, below)),
-        Err(PathFault::Bad { .. }) => Ok(None),
-        Err(PathFault::NoMemory) => Err(AllocError),
-    }
-}
-
-/// Goes over the paths of a layer: each spec stands at one.
-pub fn stand_at_paths(layer: &Layer)
-    ensures { StandAtPaths layer.now.specs }
-{
-    for (path, _spec) in layer.iter() {
-        let _elements = path.elements();
-    }
 }

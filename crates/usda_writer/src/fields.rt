@@ -5,9 +5,8 @@ ghost use Rattle.sdf_values.specs.Print.{print};
 ghost use Rattle.usda_writer.specs.Fields.{line, is_comment, comment_line, key_line, meta_lines, selection_item, selection_lines, spec_lines, sublayer_lines};
 
 use crate::lists::{push_edit, push_list};
-use crate::texts::push_blanks;
 use plain_data::{Items, Text, copy};
-use sdf_values::{DictItem, DictType, ElementType, TypeName, Value, push_value};
+use sdf_values::{DictItem, DictType, ElementType, TypeName, Value, push_blanks, push_value};
 use spec_parts::{Spec, SubLayer};
 use spec_properties::{Meta, Selections};
 use std::alloc::{AllocError, Global};
@@ -62,10 +61,7 @@ fn selection_item(set: &Text, variant: &Text) -> Result<DictItem, AllocError>
 {
     Ok(DictItem {
         key: copy(set)?,
-        ty: DictType::Plain(TypeName {
-            element: ElementType::String,
-            array: false,
-        }),
+        ty: DictType::Plain(TypeName::one(ElementType::String)),
         value: Value::Text(copy(variant)?),
     })
 }

@@ -3,11 +3,11 @@ ghost use Rattle.std.specs.Prelude.{◌≡◌, ◌++◌, List, ℕ, OnOk, string
 ghost use Rattle.usda_writer.specs.Texts.{listed, bracketed, explicit_list};
 ghost use Rattle.usda_writer.specs.Fields.{edit_line, explicit_line, edit_lines, list_lines};
 
-use crate::texts::{push_blanks, push_path, push_reference, push_sublayer};
+use crate::texts::{push_reference, push_sublayer};
 use list_ops::ListOp;
 use plain_data::{Items, Text};
-use sdf_paths::Path;
-use sdf_values::push_string;
+use sdf_paths::{Path, push_path_text};
+use sdf_values::{push_blanks, push_string};
 use spec_parts::{RefItem, SubLayer};
 use std::alloc::AllocError;
 
@@ -32,12 +32,12 @@ impl Item for Text {
 }
 
 impl Item for Path {
-    ghost use Rattle.usda_writer.specs.Texts.{path_text};
+    ghost use Rattle.sdf_paths.specs.Paths.{path_text};
 
     ghost text = { path_text };
 
     fn push_to(&self, out: &mut String) -> Result<(), AllocError> {
-        push_path(out, self)
+        push_path_text(out, self)
     }
 }
 

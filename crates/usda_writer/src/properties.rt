@@ -3,17 +3,18 @@ ghost use Rattle.std.specs.Prelude.{◌≡◌, ◌++◌, OnOk, IfOk, string_byte
 ghost use Rattle.std.specs.List.{flat_map};
 ghost use Rattle.sdf_values.specs.TypeNames.{type_text};
 ghost use Rattle.sdf_values.specs.Print.{blanks, deeper};
-ghost use Rattle.usda_writer.specs.Texts.{metadata_block, path_text};
+ghost use Rattle.sdf_paths.specs.Paths.{path_text};
+ghost use Rattle.usda_writer.specs.Texts.{metadata_block};
 ghost use Rattle.usda_writer.specs.Fields.{list_lines, meta_lines};
 ghost use Rattle.usda_writer.specs.Properties.{flag_text, value_text, sample_line, sample_lines, targets_text, attribute_line, relationship_lines, property_lines};
 
 use crate::fields::push_meta;
 use crate::lists::{push_edits, push_explicit, push_list};
-use crate::texts::{push_blanks, push_block, push_flag, push_line, push_type};
+use crate::texts::{push_block, push_flag, push_line};
 use list_ops::ListOp;
 use plain_data::{Items, Text};
 use sdf_paths::Path;
-use sdf_values::{TimeCode, TypeName, Value, push_time, push_value};
+use sdf_values::{TimeCode, TypeName, Value, push_blanks, push_time, push_type, push_value};
 use spec_properties::{Meta, Property, Samples};
 use std::alloc::{AllocError, Global};
 

@@ -1,26 +1,14 @@
 // The texts of which a layer's text is put together.
-ghost use Rattle.std.specs.Prelude.{◌≡◌, ◌++◌, ◌*◌, OnOk, false, replicate, string_bytes};
-ghost use Rattle.sdf_values.specs.Print.{blanks};
-ghost use Rattle.sdf_values.specs.TypeNames.{type_text};
-ghost use Rattle.usda_writer.specs.Texts.{quoted_name, path_text, is_zero, is_one, is_identity, unless_identity, offset_text, target_text, reference_text, sublayer_text, specifier_text, metadata_block};
+ghost use Rattle.std.specs.Prelude.{◌≡◌, ◌++◌, OnOk, string_bytes};
+ghost use Rattle.usda_writer.specs.Texts.{quoted_name, target_text, reference_text, sublayer_text, specifier_text, metadata_block};
 ghost use Rattle.usda_writer.specs.Fields.{line};
 ghost use Rattle.usda_writer.specs.Properties.{flag_text};
 
 use plain_data::Text;
-use sdf_paths::Path;
-use sdf_values::{LayerOffset, TypeName, push_asset};
+use sdf_paths::{Path, push_path_text};
+use sdf_values::{push_asset, push_blanks, push_offset};
 use spec_parts::{RefItem, Specifier, SubLayer};
 use std::alloc::AllocError;
-
-/// Appends four blanks a level.
-pub fn push_blanks(out: &mut String, level: usize) -> Result<(), AllocError>
-    ensures { OnOk result (string_bytes out.new ≡ string_bytes out.old ++ blanks level) }
-{
-    for _level in 0..level {
-        out.push_str("    ")?;
-    }
-    Ok(())
-}
 
 /// Appends a line at a level.
 pub fn push_line(out: &mut String, level: usize, text: &str) -> Result<(), AllocError>
@@ -61,63 +49,6 @@ pub fn push_specifier(out: &mut String, specifier: Specifier) -> Result<(), Allo
     }
 }
 
-/// Appends a type as a layer writes it.
-pub fn push_type(out: &mut String, ty: TypeName) -> Result<(), AllocError>
-    ensures { OnOk result (string_bytes out.new ≡ string_bytes out.old ++ type_text ty) }
-{
-    out.push_str(ty.element.name())?;
-    if ty.array {
-        out.push_str("[]")?;
-    }
-    Ok(())
-}
-
-/// Appends a path between `<` and `>`.
-pub fn push_path(out: &mut String, path: &Path) -> Result<(), AllocError>
-    ensures { OnOk result (string_bytes out.new ≡ string_bytes out.old ++ path_text path.now) }
-{
-    let text = path.print()?;
-    out.push_str("<")?;
-    out.push_str(text.as_str())?;
-    out.push_str(">")
-}
-
-fn is_zero(n: i64) -> bool
-    ensures { result ≡ is_zero n }
-{
-    n == 0
-}
-
-fn is_one(n: i64) -> bool
-    ensures { result ≡ is_one n }
-{
-    n == 1
-}
-
-fn is_identity(offset: LayerOffset) -> bool
-    ensures { result ≡ is_identity offset }
-{
-    is_zero(offset.offset) && is_one(offset.scale)
-}
-
-fn push_shift(out: &mut String, offset: LayerOffset) -> Result<(), AllocError>
-    ensures { OnOk result (string_bytes out.new ≡ string_bytes out.old ++ unless_identity false offset) }
-{
-    let LayerOffset { offset, scale } = offset;
-    write!(out, " (offset = {offset}; scale = {scale})")
-}
-
-/// Appends an offset behind an item, unless it changes no time.
-pub fn push_offset(out: &mut String, offset: LayerOffset) -> Result<(), AllocError>
-    ensures { OnOk result (string_bytes out.new ≡ string_bytes out.old ++ offset_text offset) }
-{
-    if is_identity(offset) {
-        Ok(())
-    } else {
-        push_shift(out, offset)
-    }
-}
-
 // Appends what an item names, as far as it does, or `<>`.
 fn push_target(
     out: &mut String,
@@ -128,11 +59,11 @@ fn push_target(
 {
     match (asset, path) {
         (None, None) => out.push_str("<>"),
-        (None, Some(path)) => push_path(out, path),
+        (None, Some(path)) => push_path_text(out, path),
         (Some(asset), None) => push_asset(out, asset.as_str()),
         (Some(asset), Some(path)) => {
             push_asset(out, asset.as_str())?;
-            push_path(out, path)
+            push_path_text(out, path)
         }
     }
 }
@@ -142,7 +73,7 @@ pub fn push_reference(out: &mut String, item: &RefItem) -> Result<(), AllocError
     ensures { OnOk result (string_bytes out.new ≡ string_bytes out.old ++ reference_text item.now) }
 {
     push_target(out, &item.asset, &item.path)?;
-    push_offset(out, item.offset)
+    push_offset(out, item.offset.offset, item.offset.scale)
 }
 
 /// Appends a sublayer.
@@ -150,7 +81,7 @@ pub fn push_sublayer(out: &mut String, item: &SubLayer) -> Result<(), AllocError
     ensures { OnOk result (string_bytes out.new ≡ string_bytes out.old ++ sublayer_text item.now) }
 {
     push_asset(out, item.asset.as_str())?;
-    push_offset(out, item.offset)
+    push_offset(out, item.offset.offset, item.offset.scale)
 }
 
 /// Appends lines of metadata between brackets, where there are any.

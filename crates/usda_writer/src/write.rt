@@ -2,11 +2,11 @@
 ghost use Rattle.std.specs.Prelude.{◌≡◌, ◌++◌, Some, OnOk, IfOk, string_bytes};
 ghost use Rattle.usda_writer.specs.Canonical.{with_default_prim, head_lines, head_block, root_order_text, first_line, layer_front, canonical};
 
-use crate::body::{push_children, push_order, stand_at_paths};
+use crate::body::{push_children, push_order};
 use crate::fields::{push_meta, push_sublayers};
 use plain_data::{Text, copy};
 use sdf_paths::Path;
-use sdf_specs::{Head, Layer, Meta};
+use sdf_specs::{Head, Layer, Meta, stand_at_paths};
 use sdf_values::Value;
 use std::alloc::{AllocError, Global};
 

@@ -7,7 +7,7 @@ ghost use Rattle.io_edges.specs.Causes.{IsCounted};
 use io_edges::{Put, Sink};
 
 /// How far a text was written.
-#[derive(Clone, Copy, Debug, PartialEq, Eq)]
+#[derive(Clone, Copy, PartialEq, Eq)]
 pub enum Written {
     /// All of it.
     Whole,

@@ -12,7 +12,7 @@ use session_script::ScriptKind;
 use std::alloc::{AllocError, Global};
 
 /// How a run has ended. The words are judged first, then each file as it is fetched.
-#[derive(Debug, PartialEq, Eq, Drop)]
+#[derive(PartialEq, Eq, Drop)]
 pub enum Status {
     /// All was read, and all of the output was written.
     Done,

@@ -10,7 +10,7 @@ use script_words::{LineFault, layer_named};
 use std::alloc::{AllocError, Global};
 
 /// What a command asks for.
-#[derive(Clone, Copy, Debug, PartialEq, Eq)]
+#[derive(Clone, Copy, PartialEq, Eq)]
 pub enum Verb {
     /// The flattened layer.
     Flatten,
@@ -19,17 +19,22 @@ pub enum Verb {
 }
 
 /// What is asked for, and the layers that the world is opened with.
-#[derive(Debug, Drop)]
+#[derive(Drop)]
 pub struct Command {
+    /// What is asked for.
     pub verb: Verb,
+    /// The root layer.
     pub root: AssetId,
+    /// The session layer, where one is named.
     pub session: Option<AssetId>,
 }
 
 /// What was read of the words behind the first.
-#[derive(Debug, Drop)]
+#[derive(Drop)]
 pub struct Draft {
+    /// The root layer, once it was named.
     pub root: Option<AssetId>,
+    /// The session layer, once it was named.
     pub session: Option<AssetId>,
     /// Whether the next word names the session layer.
     pub wants_layer: bool,

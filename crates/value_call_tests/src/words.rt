@@ -2,20 +2,20 @@
 use std::alloc::Global;
 use std::fmt::Write;
 use std::test::Fail;
-use usda_grammar::{Keyword, TokenKind};
+use usda_grammar::{Keyword, WordKind};
 use usda_lexer::LexFault;
 use usda_words::{Word, Words};
 
-fn letter(kind: TokenKind) -> char {
+fn letter(kind: WordKind) -> char {
     match kind {
-        TokenKind::Word(Keyword::Other) => 'n',
-        TokenKind::Word(_) => 'k',
-        TokenKind::Number => '#',
-        TokenKind::Quoted => 'q',
-        TokenKind::Asset => 'a',
-        TokenKind::Path => 'p',
-        TokenKind::Dot => '.',
-        TokenKind::Fault => '!',
+        WordKind::Word(Keyword::Other) => 'n',
+        WordKind::Word(_) => 'k',
+        WordKind::Number => '#',
+        WordKind::Quoted => 'q',
+        WordKind::Asset => 'a',
+        WordKind::Path => 'p',
+        WordKind::Dot => '.',
+        WordKind::Fault => '!',
         _ => 'm',
     }
 }

@@ -1,5 +1,5 @@
 -- What the opinions decide, one after the other, is what the definitions say.
-use Rattle.std.proofs.Common.{◌≡◌, ◌∙◌, sym, ap, refl, ℕ, ◌+◌, ◌<◌, length, take, get_or, Bool, true, false, cond, List, [], ◌∷◌, ◌++◌, map, Option, Some, None}
+use Rattle.std.proofs.Common.{◌≡◌, ◌∙◌, sym, ap, refl, ℕ, ◌+◌, ◌<◌, length, take, get_or, Bool, true, false, cond, List, [], ◌∷◌, ◌++◌, map, Option, Some, None, append-nil}
 use Rattle.std.specs.Prelude.{fold}
 use Rattle.std.proofs.lemmas.List.{map-append, take_more}
 use Rattle.std.proofs.lemmas.Grind.{flat_map-append}
@@ -72,16 +72,12 @@ pub decided_more : (ps : List PropertySaid) (p : PropertySaid) → decided (ps +
 unfolding decided
 decided_more ps p = ap (λ (gs : List Given). fold decided_next undecided gs) (map-append given ps (p ∷ [])) ∙ fold_more decided_next undecided (map given ps) (given p)
 
-append_none : {X : Type 0} (xs : List X) → xs ++ [] ≡ xs
-append_none [] = refl
-append_none (x ∷ xs) = ap (λ ys. x ∷ ys) (append_none xs)
-
 pub faults_more : (name : Text) (ps : List PropertySaid) (p : PropertySaid) → faults_by name (ps ++ p ∷ []) ≡ faults_by name ps ++ fault_if name p.said (given p).left_out
 unfolding faults_by
 faults_more name ps p =
     ap (map TimeOutside) (flat_map-append (time_fault name) ps (p ∷ []))
     ∙ (map-append TimeOutside (time_faults name ps) (time_fault name p ++ [])
-    ∙ ap (λ (more : List PrimFault). map TimeOutside (time_faults name ps) ++ more) (ap (map TimeOutside) (append_none (time_fault name p)) ∙ by_left (given p).left_out))
+    ∙ ap (λ (more : List PrimFault). map TimeOutside (time_faults name ps) ++ more) (ap (map TimeOutside) (append-nil (time_fault name p)) ∙ by_left (given p).left_out))
   where
     by_left : (b : Bool) → map TimeOutside (cond b ((record { layer = p.said.layer; site = p.said.site.path; name = name }) ∷ []) []) ≡ fault_if name p.said b
     by_left true = refl

@@ -1,5 +1,5 @@
 -- Items that are mapped one after the other, until one has no image.
-use Rattle.std.proofs.Common.{◌≡◌, ◌∙◌, sym, ap, refl, ℕ, ◌+◌, ◌<◌, length, get_or, drop, map, List, [], ◌∷◌, ◌++◌, append_assoc, Option, Some, None}
+use Rattle.std.proofs.Common.{◌≡◌, ◌∙◌, sym, ap, refl, ℕ, ◌+◌, ◌<◌, length, get_or, drop, map, List, [], ◌∷◌, ◌++◌, append_assoc, Option, Some, None, append-nil}
 use Rattle.std.proofs.lemmas.List.{drop_more}
 use Rattle.composition.specs.Values.{all_some}
 
@@ -8,16 +8,12 @@ abbrev pub joined : {T : Type 0} → List T → Option (List T) → Option (List
 joined out (Some ys) = Some (out ++ ys)
 joined out None = None
 
-append_none : {X : Type 0} (xs : List X) → xs ++ [] ≡ xs
-append_none [] = refl
-append_none (x ∷ xs) = ap (λ ys. x ∷ ys) (append_none xs)
-
 pub joined_start : {T : Type 0} (o : Option (List T)) → joined [] o ≡ o
 joined_start (Some ys) = refl
 joined_start None = refl
 
 pub joined_end : {T : Type 0} (out : List T) → joined out (all_some []) ≡ Some out
-joined_end out = ap Some (append_none out)
+joined_end out = ap Some (append-nil out)
 
 pub joined_more : {T : Type 0} (out : List T) (y : T) (rest : List (Option T)) → joined out (all_some (Some y ∷ rest)) ≡ joined (out ++ y ∷ []) (all_some rest)
 joined_more {T} out y rest = by_rest (all_some rest)

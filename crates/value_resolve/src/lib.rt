@@ -7,4 +7,4 @@ mod mapping;
 mod on_stage;
 mod samples;
 
-pub use attr::{AttrValue, resolve_attr, resolve_attr_by, resolve_attr_of};
+pub use attr::{AttrValue, resolve_attr, resolve_attr_by};

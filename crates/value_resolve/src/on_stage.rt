@@ -14,8 +14,11 @@ use std::alloc::{AllocError, Global};
 /// What an opinion gives on the stage, and whether something of it leaves the range of times.
 #[derive(Drop)]
 pub struct OnStage {
+    /// The default; none where there is none, or where a time in it leaves the range.
     pub default: Option<Value>,
+    /// The samples that stay within the range, in the times of the stage.
     pub samples: Samples,
+    /// Whether a default or a sample was left out since a time leaves the range.
     pub left_out: bool,
 }
 

@@ -14,7 +14,9 @@ use std::alloc::{AllocError, Global};
 /// The samples that are within the range of times, and whether others are not.
 #[derive(Drop)]
 pub struct Kept {
+    /// Those within the range, in the times of the stage.
     pub samples: Samples,
+    /// Whether there are others.
     pub lost: bool,
 }
 

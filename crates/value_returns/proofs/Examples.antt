@@ -11,14 +11,14 @@ use Rattle.sdf_values.specs.Conforms.{conforms, one, holds, holds_step, item_ste
 use Rattle.sdf_values.specs.declared.type_name.ElementType.TheVariants.{String}
 use Rattle.sdf_values.specs.declared.type_name.TypeName.{TypeName}
 use Rattle.sdf_values.specs.declared.value.Value.TheVariants as value
-use Rattle.usda_lists.specs.Paths.{path_of}
+use Rattle.sdf_paths.specs.Reader.{path_of}
 use Rattle.usda_lists.specs.References.{same_path}
 use Rattle.usda_values.specs.PathTexts.{is_path, is_path_text}
 use Rattle.usda_values.specs.declared.shape.Shape.TheVariants.{Metadata}
 use Rattle.value_texts.specs.Readable.{depth_step, depth_item}
 use Rattle.value_texts.specs.Writable.{writable_step, writable_item}
 use Rattle.value_texts.proofs.ReadingSteps.{reads_path, reads_word}
-use Rattle.value_texts.proofs.Values as fold
+use Rattle.sdf_values.proofs.Values as fold
 use Rattle.layer_texts.specs.Writable.{is_word}
 use Rattle.text_checks.specs.Utf8.{utf8_step, utf8_item}
 use Rattle.metadata_reads.specs.Kept.{AreKept}

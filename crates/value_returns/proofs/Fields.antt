@@ -5,10 +5,11 @@ use Rattle.sdf_paths.specs.declared.element.Element.{Element}
 use Rattle.spec_parts.specs.declared.items.RefItem.{RefItem}
 use Rattle.usda_lists.specs.References.{same_path, same_item}
 use Rattle.path_returns.proofs.Returns.{paths_return}
+use Rattle.path_returns.specs.Returns.{IsPathOrAbsent}
 use Rattle.layer_reads.specs.FieldLists.{IsPathHere}
 use Rattle.layer_reads.specs.Keys.{is_plain_key}
 use Rattle.metadata_reads.specs.Fields.{IsAssetOrNone, IsPathOrNone, IsReferenceHere}
-use Rattle.value_returns.specs.Fields.{IsAssetOrAbsent, IsPathOrAbsent, IsProperReference}
+use Rattle.value_returns.specs.Fields.{IsAssetOrAbsent, IsProperReference}
 use Rattle.value_returns.specs.Laws.{ProperFieldsAreKept}
 use Rattle.value_returns.proofs.Kept.{metadata_kept}
 use Rattle.value_returns.proofs.Lists.{list_so}

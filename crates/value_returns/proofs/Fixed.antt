@@ -3,6 +3,7 @@ use Rattle.std.proofs.Common.{◌≡◌, ◌∙◌, ℕ, Bool, true, false, List
 use Rattle.std.specs.Prelude.{if◌then◌else◌, codes}
 use Rattle.std.specs.Cmp.Lexicographic.{bytes_decides}
 use Rattle.std.specs.Option.{option_map}
+use Rattle.std.proofs.lemmas.Bool.{and_parts}
 use Rattle.usd_names.specs.Names.{is_name}
 use Rattle.sdf_paths.specs.Paths.{printed}
 use Rattle.sdf_paths.specs.declared.element.Element.{Element}
@@ -14,15 +15,15 @@ use Rattle.sdf_values.specs.declared.value.DictType.{DictType}
 use Rattle.sdf_values.specs.declared.value.DictType.TheVariants as dict_type
 use Rattle.sdf_values.specs.declared.value.Value.{Value}
 use Rattle.sdf_values.specs.declared.value.Value.TheVariants as value
+use Rattle.sdf_values.proofs.Values.{Each, Cases, by_cases}
 use Rattle.usda_lexer.specs.Blanks.{begins}
 use Rattle.usda_lexer.specs.Meanings.{path_text}
-use Rattle.usda_lists.specs.Paths.{path_of, path_from, path_below, absolute_from, absolute_token}
+use Rattle.sdf_paths.specs.Reader.{path_of}
+use Rattle.usda_lists.specs.Paths.{path_from, path_below, absolute_from, absolute_token}
 use Rattle.value_texts.specs.Cuts.{Said}
 use Rattle.value_texts.specs.ValueWords.{words_of_value, words_of_item, said_step, said_item, more_said, listed_said, entries_said, dict_type_said, key_said, name_said, string_said, open_bracket, close_paren, close_bracket, close_brace, equals}
 use Rattle.value_texts.proofs.AssetTokens.{path_means}
-use Rattle.value_texts.proofs.NumberParts.{both}
-use Rattle.value_texts.proofs.Values as fold
-use Rattle.value_texts.proofs.Values.{Each, Cases, by_cases}
+use Rattle.sdf_values.proofs.Values as fold
 use Rattle.layer_reads.specs.Fixed.{AreFixed}
 use Rattle.value_returns.specs.FullPaths.{is_full_path, is_print_of, has_full_paths, has_full_paths_item, full_step, full_item}
 use Rattle.value_returns.specs.Laws.{FullPathsAreFixed}
@@ -51,7 +52,7 @@ module _ (base : List Element) where
 
   path_fixed : (t : List ℕ) → is_full_path t ≡ true → absolute_from base (path_text (codes "<" ++ t ++ codes ">")) ≡ Some (codes "<" ++ t ++ codes ">")
   path_fixed t h =
-      let p = both (begins 47 t) (is_print_of (path_of t) t) h in
+      let p = and_parts (begins 47 t) (is_print_of (path_of t) t) h in
       ap (absolute_from base) (path_means t) ∙ ap (option_map absolute_token) (from_root t p.0) ∙ same_token t (path_of t) p.1
 
   path_said_fixed : (t : List ℕ) → IsSaid (value.PathText t)
@@ -64,13 +65,13 @@ module _ (base : List Element) where
   more_fixed : (vs : List Value) → Each IsSaid vs → all_true (map has_full_paths vs) ≡ true → AreFixed base (more_said (map words_of_value vs))
   more_fixed [] each h = tt
   more_fixed (v ∷ vs) each h =
-      let p = both (has_full_paths v) (all_true (map has_full_paths vs)) h in
+      let p = and_parts (has_full_paths v) (all_true (map has_full_paths vs)) h in
       (tt, fixed_then (words_of_value v) (more_said (map words_of_value vs)) (each.0 p.0) (more_fixed vs each.1 p.1))
 
   listed_fixed : (vs : List Value) → Each IsSaid vs → all_true (map has_full_paths vs) ≡ true → AreFixed base (listed_said (map words_of_value vs))
   listed_fixed [] each h = tt
   listed_fixed (v ∷ vs) each h =
-      let p = both (has_full_paths v) (all_true (map has_full_paths vs)) h in
+      let p = and_parts (has_full_paths v) (all_true (map has_full_paths vs)) h in
       fixed_then (words_of_value v) (more_said (map words_of_value vs)) (each.0 p.0) (more_fixed vs each.1 p.1)
 
   tuple_fixed : (vs : List Value) → Each IsSaid vs → IsSaid (value.Tuple vs)
@@ -109,7 +110,7 @@ module _ (base : List Element) where
   entries_fixed : (items : List DictItem) → Each IsSaidItem items → all_true (map has_full_paths_item items) ≡ true → AreFixed base (entries_said (map words_of_item items))
   entries_fixed [] each h = tt
   entries_fixed (i ∷ is) each h =
-      let p = both (has_full_paths_item i) (all_true (map has_full_paths_item is)) h in
+      let p = and_parts (has_full_paths_item i) (all_true (map has_full_paths_item is)) h in
       fixed_then (words_of_item i) (entries_said (map words_of_item is)) (each.0 p.0) (entries_fixed is each.1 p.1)
 
   dict_fixed : (items : List DictItem) → Each IsSaidItem items → IsSaid (value.Dict items)

@@ -12,13 +12,14 @@ use Rattle.usda_values.specs.declared.shape.Shape.TheVariants.{Typed}
 use Rattle.usda_writer.specs.Fields.{is_comment}
 use Rattle.value_texts.specs.Readable.{is_read_as}
 use Rattle.value_texts.proofs.TypesRead.{types_read}
+use Rattle.value_texts.proofs.EachOf.{all_so}
 use Rattle.path_returns.proofs.Returns.{targets_return}
 use Rattle.metadata_reads.specs.Meta.{IsKeyKept, IsKeptAs, IsEntryKept}
 use Rattle.prim_reads.specs.Properties.{IsTargetHere, IsDefaultKept, IsSampleKept, is_any_key}
 use Rattle.value_returns.specs.Laws.{ProperValuesAreKept, ProperMetaIsKept, ProperPropertiesAreKept}
 use Rattle.value_returns.specs.Proper.{IsProperDefault, IsProperSample, IsProperKey, IsProperAs, IsProperEntry, IsProperTarget}
 use Rattle.value_returns.proofs.Fixed.{full_paths_fixed}
-use Rattle.value_returns.proofs.Lists.{all_so, list_so}
+use Rattle.value_returns.proofs.Lists.{list_so}
 use Rattle.value_returns.proofs.Members.{members_had}
 use Rattle.value_returns.proofs.Typed.{shallow, typed_full}
 

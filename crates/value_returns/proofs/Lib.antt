@@ -4,6 +4,8 @@ pub mod Fixed
 pub mod Lists
 pub mod Kept
 pub mod Fields
+pub mod Tables
+pub mod Entries
 pub mod HeadKeys
 pub mod Printed
 pub mod Examples

@@ -1,13 +1,8 @@
 -- Lists of items, of which more is known.
-use Rattle.std.proofs.Common.{List, [], ◌∷◌, Bool, Option, Some, None}
+use Rattle.std.proofs.Common.{List, Bool, Option, Some, None}
 use Rattle.list_ops.specs.declared.op.ListOp.{ListOp}
-use Rattle.layer_reads.specs.Lists.{AreAll}
 use Rattle.metadata_reads.specs.Kept.{AreKept, AreEditsKept, IsKeptBy, IsListKept}
-
--- what follows of each item follows of all
-pub all_so : {T : Type 0} (W V : T → Type 0) → ((x : T) → W x → V x) → (xs : List T) → AreAll W xs → AreAll V xs
-all_so W V so [] all = tt
-all_so W V so (x ∷ xs) all = (so x all.0, all_so W V so xs all.1)
+use Rattle.value_texts.proofs.EachOf.{all_so}
 
 -- lists whose items are such items are lists of what follows of them
 module _ {T : Type 0} (same : T → T → Bool) (W V : T → Type 0) (so : (x : T) → W x → V x) where

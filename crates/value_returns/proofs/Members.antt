@@ -1,5 +1,6 @@
 -- The tuples of a value that is read have members.
 use Rattle.std.proofs.Common.{◌≡◌, ◌∙◌, ℕ, ◌&&◌, ◌==◌, Bool, true, false, List, [], ◌∷◌, map, Option, Some, None, ap, sym, refl}
+use Rattle.std.proofs.lemmas.Bool.{and_parts}
 use Rattle.sdf_values.specs.Conforms.{all_hold, are_members, members_of, one, count_of, role_width, matrix_width}
 use Rattle.sdf_values.specs.Proper.{all_true, all_proper, are_keys_in_order, keys_of}
 use Rattle.sdf_values.specs.declared.type_name.ElementType.{ElementType}
@@ -12,15 +13,14 @@ use Rattle.sdf_values.specs.declared.value.DictType.{DictType}
 use Rattle.sdf_values.specs.declared.value.Value.{Value}
 use Rattle.sdf_values.specs.declared.value.Value.TheOpen.{Value-F}
 use Rattle.sdf_values.specs.declared.value.Value.TheVariants as value
+use Rattle.sdf_values.proofs.Values.{Each, Cases, by_cases}
 use Rattle.usda_values.specs.Shapes.{entry_shape}
 use Rattle.usda_values.specs.declared.shape.Shape.{Shape}
 use Rattle.usda_values.specs.declared.shape.Shape.TheVariants.{Untyped, Metadata, Typed, Dictionary}
 use Rattle.value_texts.specs.Readable.{Reading, is_read_as, is_read_entry, reading_step, reading_item, typed, all_read, is_some_list}
 use Rattle.value_texts.proofs.Leaves.{typed_part, no_array}
-use Rattle.value_texts.proofs.NumberParts.{both}
 use Rattle.value_texts.proofs.ReadingSteps.{reads_tuple, reads_array, reads_dict}
-use Rattle.value_texts.proofs.Values as fold
-use Rattle.value_texts.proofs.Values.{Each, Cases, by_cases}
+use Rattle.sdf_values.proofs.Values as fold
 use Rattle.layer_reads.specs.Membered.{is_membered, is_membered_item, membered_step, membered_item, are_some}
 use Rattle.value_returns.specs.Laws.{ReadValuesHaveMembers}
 
@@ -36,13 +36,13 @@ IsReadItem i = (is_read_entry i).1 ≡ true → is_membered_item i ≡ true
 untyped_members : (vs : List Value) → Each IsRead vs → (shape : Shape) → all_read (map is_read_as vs) shape ≡ true → all_true (map is_membered vs) ≡ true
 untyped_members [] each shape h = refl
 untyped_members (v ∷ vs) each shape h =
-    let p = both (is_read_as v shape false) (all_read (map is_read_as vs) shape) h in
+    let p = and_parts (is_read_as v shape false) (all_read (map is_read_as vs) shape) h in
     ap (λ b. b && all_true (map is_membered vs)) (each.0 shape false p.0) ∙ untyped_members vs each.1 shape p.1
 
 typed_members : (vs : List Value) → Each IsRead vs → (t : TypeName) → all_hold (map typed (map is_read_as vs)) t ≡ true → all_true (map is_membered vs) ≡ true
 typed_members [] each t h = refl
 typed_members (v ∷ vs) each t h =
-    let p = both (is_read_as v (Typed t) false) (all_hold (map typed (map is_read_as vs)) t) h in
+    let p = and_parts (is_read_as v (Typed t) false) (all_hold (map typed (map is_read_as vs)) t) h in
     ap (λ b. b && all_true (map is_membered vs)) (each.0 (Typed t) false p.0) ∙ typed_members vs each.1 t p.1
 
 some_members : (vs : List Value) → is_some_list (map is_read_as vs) ≡ true → are_some (map is_membered vs) ≡ true
@@ -54,7 +54,7 @@ some_members (v ∷ vs) h = refl
 -- the members of a tuple of a type are of a type
 pub of_one_type : (o : Option (ElementType × ℕ)) (cs : List (TypeName → Bool)) → are_members o cs ≡ true → (t : TypeName) × (all_hold cs t ≡ true)
 of_one_type None cs h = absurd cc
-of_one_type (Some m) cs h = (one m.0, (both _ (all_hold cs (one m.0)) h).1)
+of_one_type (Some m) cs h = (one m.0, (and_parts _ (all_hold cs (one m.0)) h).1)
 
 not_none : (w : Width) → ((0 == count_of w) && true) ≡ false
 not_none width.Two = refl
@@ -86,7 +86,7 @@ tuple_membered vs each shape s h = by shape (sym (reads_tuple vs shape s) ∙ h)
   where
     plainly : (shape : Shape) → (is_some_list (map is_read_as vs) && all_read (map is_read_as vs) shape) ≡ true → is_membered (value.Tuple vs) ≡ true
     plainly shape k =
-        let p = both (is_some_list (map is_read_as vs)) (all_read (map is_read_as vs) shape) k in
+        let p = and_parts (is_some_list (map is_read_as vs)) (all_read (map is_read_as vs) shape) k in
         all_some vs (some_members vs p.0) (untyped_members vs each shape p.1)
 
     by : (shape : Shape) → reading_step (Value-F.Tuple (map is_read_as vs)) shape s ≡ true → is_membered (value.Tuple vs) ≡ true
@@ -103,20 +103,20 @@ array_membered vs each shape s h = fold.of_array Bool Bool membered_step membere
     by : (shape : Shape) → reading_step (Value-F.Array (map is_read_as vs)) shape s ≡ true → all_true (map is_membered vs) ≡ true
     by Untyped k = untyped_members vs each Untyped k
     by Metadata k = untyped_members vs each Metadata k
-    by (Typed t) k = typed_members vs each (one t.element) (both t.array _ (typed_part s _ k)).1
+    by (Typed t) k = typed_members vs each (one t.element) (and_parts t.array _ (typed_part s _ k)).1
     by Dictionary k = absurd cc
 
 entries_membered : (items : List DictItem) → Each IsReadItem items → all_proper (map is_read_entry items) ≡ true → all_true (map is_membered_item items) ≡ true
 entries_membered [] each h = refl
 entries_membered (i ∷ is) each h =
-    let p = both (is_read_entry i).1 (all_proper (map is_read_entry is)) h in
+    let p = and_parts (is_read_entry i).1 (all_proper (map is_read_entry is)) h in
     ap (λ b. b && all_true (map is_membered_item is)) (each.0 p.0) ∙ entries_membered is each.1 p.1
 
 dict_membered : (items : List DictItem) → Each IsReadItem items → IsRead (value.Dict items)
 dict_membered items each shape s h = fold.of_dict Bool Bool membered_step membered_item items ∙ by shape (sym (reads_dict items shape s) ∙ h)
   where
     in_order : (are_keys_in_order (keys_of (map is_read_entry items)) && all_proper (map is_read_entry items)) ≡ true → all_true (map is_membered_item items) ≡ true
-    in_order k = entries_membered items each (both (are_keys_in_order (keys_of (map is_read_entry items))) (all_proper (map is_read_entry items)) k).1
+    in_order k = entries_membered items each (and_parts (are_keys_in_order (keys_of (map is_read_entry items))) (all_proper (map is_read_entry items)) k).1
 
     by : (shape : Shape) → reading_step (Value-F.Dict (map is_read_entry items)) shape s ≡ true → all_true (map is_membered_item items) ≡ true
     by Untyped k = in_order k

@@ -1,22 +1,15 @@
 -- The printed text of a path is a path from the root down.
-use Rattle.std.proofs.Common.{◌≡◌, ◌∙◌, ℕ, ◌&&◌, true, false, List, [], ◌∷◌, Some, ap, sym, refl}
+use Rattle.std.proofs.Common.{◌≡◌, ◌∙◌, ℕ, ◌&&◌, true, List, [], Some, ap, sym, refl}
 use Rattle.std.specs.Cmp.Lexicographic.{bytes_decides}
-use Rattle.sdf_paths.specs.Paths.{is_ordered, printed}
-use Rattle.sdf_paths.specs.declared.element.Element.{Element}
-use Rattle.sdf_paths.specs.declared.element.Element.TheVariants.{Prim, Property, Selection}
+use Rattle.sdf_paths.specs.Paths.{printed}
 use Rattle.usda_lexer.specs.Blanks.{begins}
-use Rattle.usda_lists.specs.Paths.{path_of, path_from}
-use Rattle.path_returns.proofs.Returns.{paths_return}
+use Rattle.sdf_paths.specs.Reader.{path_of}
+use Rattle.usda_lists.specs.Paths.{path_from}
+use Rattle.path_returns.proofs.Returns.{paths_return, begins_at_root}
 use Rattle.value_texts.proofs.AssetTokens.{path_means}
 use Rattle.value_returns.specs.FullPaths.{is_print_of}
 use Rattle.value_returns.specs.Laws.{PrintsAreFull}
 use Rattle.value_returns.proofs.Fixed.{from_root}
-
-begins_at_root : (path : List Element) → is_ordered false path ≡ true → begins 47 (printed path) ≡ true
-begins_at_root [] h = refl
-begins_at_root (Prim name ∷ rest) h = refl
-begins_at_root (Property name ∷ rest) h = absurd cc
-begins_at_root (Selection set variant ∷ rest) h = absurd cc
 
 pub prints_full : PrintsAreFull
 prints_full path is =

@@ -1,5 +1,6 @@
 -- A value that is read where a type is expected has few levels, and no paths but those from the root down.
-use Rattle.std.proofs.Common.{◌≡◌, ◌∙◌, ℕ, ◌&&◌, ◌||◌, not, Bool, true, false, List, [], ◌∷◌, map, ap, sym, refl}
+use Rattle.std.proofs.Common.{◌≡◌, ◌∙◌, ℕ, ◌&&◌, not, Bool, true, false, List, [], ◌∷◌, map, ap, sym, refl}
+use Rattle.std.proofs.lemmas.Bool.{and_parts, or_right}
 use Rattle.sdf_values.specs.Conforms.{all_hold, are_members, members_of, one, is_element}
 use Rattle.sdf_values.specs.Proper.{all_true}
 use Rattle.sdf_values.specs.declared.type_name.ElementType.{ElementType}
@@ -8,15 +9,14 @@ use Rattle.sdf_values.specs.declared.value.DictItem.{DictItem}
 use Rattle.sdf_values.specs.declared.value.Value.{Value}
 use Rattle.sdf_values.specs.declared.value.Value.TheOpen.{Value-F}
 use Rattle.sdf_values.specs.declared.value.Value.TheVariants as value
+use Rattle.sdf_values.proofs.Values.{Each, Cases, by_cases}
 use Rattle.usda_values.specs.declared.shape.Shape.TheVariants.{Typed}
 use Rattle.value_texts.specs.Readable.{Reading, is_read_as, is_read_entry, reading_step, reading_item, typed, typed_step, is_block_level}
 use Rattle.value_texts.proofs.Leaves.{typed_part, no_array}
-use Rattle.value_texts.proofs.NumberParts.{both}
 use Rattle.value_texts.proofs.ReadingSteps.{reads_tuple, reads_array, reads_dict, reads_path}
 use Rattle.value_texts.proofs.TypedDepth.{typed_depth}
 use Rattle.value_texts.proofs.TypesRead.{types_read}
-use Rattle.value_texts.proofs.Values as fold
-use Rattle.value_texts.proofs.Values.{Each, Cases, by_cases}
+use Rattle.sdf_values.proofs.Values as fold
 use Rattle.value_returns.specs.FullPaths.{has_full_paths, full_step, full_item}
 use Rattle.value_returns.specs.Laws.{TypedValuesAreShallow, TypedValuesHaveFullPaths}
 use Rattle.value_returns.proofs.Members.{of_one_type}
@@ -26,12 +26,8 @@ use Rattle.value_returns.proofs.Members.{of_one_type}
 abbrev IsReadThere : Value → Type 0
 IsReadThere v = (t : TypeName) → is_read_as v (Typed t) false ≡ true → is_read_as v (Typed t) true ≡ true
 
-or_so : (a b : Bool) → b ≡ true → (a || b) ≡ true
-or_so true b h = refl
-or_so false b h = h
-
 there : (v : Value) (l : Value-F Reading (List ℕ × Bool)) → is_read_as v ≡ reading_step l → IsReadThere v
-there v l is t h = ap (λ f. f (Typed t) true) is ∙ or_so (is_block_level l) (typed_step l t) (sym (ap (λ f. f (Typed t) false) is) ∙ h)
+there v l is t h = ap (λ f. f (Typed t) true) is ∙ or_right (is_block_level l) (typed_step l t) (sym (ap (λ f. f (Typed t) false) is) ∙ h)
 
 read_there : (v : Value) → IsReadThere v
 read_there = by_cases IsReadThere (λ i. Unit {0}) (record {
@@ -65,7 +61,7 @@ HasFullPaths v = (t : TypeName) (s : Bool) → is_read_as v (Typed t) s ≡ true
 all_full : (vs : List Value) → Each HasFullPaths vs → (t : TypeName) → all_hold (map typed (map is_read_as vs)) t ≡ true → all_true (map has_full_paths vs) ≡ true
 all_full [] each t h = refl
 all_full (v ∷ vs) each t h =
-    let p = both (is_read_as v (Typed t) false) (all_hold (map typed (map is_read_as vs)) t) h in
+    let p = and_parts (is_read_as v (Typed t) false) (all_hold (map typed (map is_read_as vs)) t) h in
     ap (λ b. b && all_true (map has_full_paths vs)) (each.0 t false p.0) ∙ all_full vs each.1 t p.1
 
 tuple_full : (vs : List Value) → Each HasFullPaths vs → HasFullPaths (value.Tuple vs)
@@ -77,7 +73,7 @@ tuple_full vs each t s h =
 
 array_full : (vs : List Value) → Each HasFullPaths vs → HasFullPaths (value.Array vs)
 array_full vs each t s h =
-    let k = both t.array (all_hold (map typed (map is_read_as vs)) (one t.element)) (typed_part s _ (sym (reads_array vs (Typed t) s) ∙ h)) in
+    let k = and_parts t.array (all_hold (map typed (map is_read_as vs)) (one t.element)) (typed_part s _ (sym (reads_array vs (Typed t) s) ∙ h)) in
     fold.of_array Bool Bool full_step full_item vs ∙ all_full vs each (one t.element) k.1
 
 no_path : (a : Bool) (e : ElementType) (x : List ℕ) → (not a && is_element (Value-F.PathText x) e) ≡ true → ⊥

@@ -3,7 +3,6 @@ use Rattle.std.specs.Prelude.{◌≡◌, ℕ, true, List, [], ◌∷◌, Option,
 use Rattle.std.specs.Str.{is_utf8}
 use Rattle.sdf_paths.specs.Order.{text_cmp}
 use Rattle.sdf_paths.specs.Paths.{IsPath}
-use Rattle.sdf_paths.specs.declared.element.Element.{Element}
 use Rattle.sdf_values.specs.Scales.{IsOffset}
 use Rattle.spec_parts.specs.declared.items.RefItem.{RefItem}
 use Rattle.spec_parts.specs.declared.items.SubLayer.{SubLayer}
@@ -12,22 +11,18 @@ use Rattle.spec_parts.specs.declared.spec.Spec.{Spec}
 use Rattle.spec_tables.specs.Tables.{at_key}
 use Rattle.usda_fields.specs.Keys.{is_default_prim}
 use Rattle.value_texts.specs.Writable.{is_writable_asset}
+use Rattle.value_texts.specs.Each.{AreAll}
 use Rattle.usda_lists.specs.References.{same_text, same_path, same_item}
 use Rattle.layer_texts.specs.Writable.{none_or, is_word}
 use Rattle.layer_reads.specs.Keys.{is_plain_key, is_plain_head_key}
-use Rattle.layer_reads.specs.Lists.{AreAll}
 use Rattle.metadata_reads.specs.Kept.{IsListKept}
 use Rattle.metadata_reads.specs.Selections.{AreSelectionsKept}
 use Rattle.value_returns.specs.Proper.{IsProperMeta}
+use Rattle.path_returns.specs.Returns.{IsPathOrAbsent}
 
 -- a text
 abbrev pub IsText : List ℕ → Type 0
 IsText t = is_utf8 t ≡ true
-
--- no path, or one
-abbrev pub IsPathOrAbsent : Option (List Element) → Type 0
-IsPathOrAbsent None = Unit {0}
-IsPathOrAbsent (Some path) = IsPath path
 
 -- the name of an asset: UTF-8, and never three `@` in a row
 pub record IsAssetName (t : List ℕ) : Type 0 where

@@ -8,7 +8,7 @@ use Rattle.sdf_values.specs.declared.value.DictItem.{DictItem, fold-DictItem}
 use Rattle.sdf_values.specs.declared.value.Value.{Value, fold-Value}
 use Rattle.sdf_values.specs.declared.value.Value.TheOpen.{Value-F, DictItem-F}
 use Rattle.usda_lexer.specs.Blanks.{begins}
-use Rattle.usda_lists.specs.Paths.{path_of}
+use Rattle.sdf_paths.specs.Reader.{path_of}
 
 -- the text is what is printed of this path
 abbrev pub is_print_of : Option (List Element) → List ℕ → Bool

@@ -19,9 +19,9 @@ use Rattle.usda_lists.specs.References.{same_path}
 use Rattle.usda_writer.specs.Fields.{is_comment}
 use Rattle.value_texts.specs.Readable.{is_read_as, depth}
 use Rattle.value_texts.specs.Writable.{is_writable}
+use Rattle.value_texts.specs.Each.{AreAll}
 use Rattle.layer_texts.specs.Writable.{is_word}
 use Rattle.text_checks.specs.Utf8.{is_utf8_value}
-use Rattle.layer_reads.specs.Lists.{AreAll}
 use Rattle.metadata_reads.specs.Kept.{IsListKept}
 use Rattle.metadata_reads.specs.Meta.{IsCommentKept}
 use Rattle.prim_reads.specs.Properties.{is_any_key}

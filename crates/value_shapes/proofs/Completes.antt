@@ -4,6 +4,7 @@ use Rattle.std.specs.Prelude.{if◌then◌else◌, ℤ, pos, negsuc, unsigned_ab
 use Rattle.std.specs.Option.{is_some}
 use Rattle.std.proofs.lemmas.Bool.Decides.{nat_tests}
 use Rattle.std.proofs.lemmas.List.{length-map}
+use Rattle.std.proofs.lemmas.Bool.{and_parts}
 use Rattle.sdf_values.specs.Numbers.{DecimalNumber, SameNumber}
 use Rattle.sdf_values.specs.Scales.{IsTime, IsTimeOf}
 use Rattle.sdf_values.specs.Proper.{all_true}
@@ -23,8 +24,7 @@ use Rattle.usda_values.specs.Shaping.{Taking, TakenAll, before_all, take_all, ta
 use Rattle.usda_values.proofs.TimeLaw.{time_found}
 use Rattle.value_shapes.specs.Held.{is_held, held_step, held_item, is_form}
 use Rattle.value_shapes.specs.Meanings.{SameMeaning, SameMeanings, itself, whole_as_number, whole_as_time, number_as_time, number_as_truth, word_as_truth, tuple, array, none, more, truth_number, truth_word}
-use Rattle.value_shapes.proofs.Bools.{both}
-use Rattle.value_shapes.proofs.Values as fold
+use Rattle.sdf_values.proofs.Values as fold
 use Rattle.value_shapes.proofs.Elements.{Test}
 use Rattle.value_shapes.proofs.Forms.{form_is, held_size}
 use Rattle.value_shapes.proofs.Found.{decimal_found, time_found_of}
@@ -113,7 +113,7 @@ tuple_members : (vs ws : List Value) (o : Option (ElementType × ℕ))
     → ((t : TypeName) → all_hold (map holds ws) t ≡ true → take_counted (length ws) (map taken vs) t ≡ Ok ws) → are_members o (map holds ws) ≡ true → take_tuple o (map taken vs) ≡ Ok (value.Tuple ws)
 tuple_members vs ws None members h = absurd cc
 tuple_members vs ws (Some m) members h =
-    let p = both (length (map holds ws) == m.1) (all_hold (map holds ws) (one m.0)) h in
+    let p = and_parts (length (map holds ws) == m.1) (all_hold (map holds ws) (one m.0)) h in
     let count : length ws ≡ m.1 = sym (length-map ws holds) ∙ eqb-true (length (map holds ws)) m.1 p.0 in
     ap as_tuple (ap (λ n. take_counted n (map taken vs) (one m.0)) (sym count) ∙ members (one m.0) p.1)
 
@@ -145,9 +145,9 @@ arrays vs ws members hv hw t h =
 
 one_more : (v w : Value) (vs ws : List Value) → IsFound v w → AreFound vs ws → AreFound (v ∷ vs) (w ∷ ws)
 one_more v w vs ws first rest hv hw t h =
-    let pv = both (is_held v) (all_true (map is_held vs)) hv in
-    let pw = both (is_held w) (all_true (map is_held ws)) hw in
-    let p = both (holds w t) (all_hold (map holds ws) t) h in
+    let pv = and_parts (is_held v) (all_true (map is_held vs)) hv in
+    let pw = and_parts (is_held w) (all_true (map is_held ws)) hw in
+    let p = and_parts (holds w t) (all_hold (map holds ws) t) h in
     let is = first pv.0 pw.0 t p.0 in
     let more = rest pv.1 pw.1 t p.1 in (
       ap (λ (r : Taken). elim r as (λ _. TakenAll) [ Ok x ↦ before_all x (take_all (map taken vs) t) | Err k ↦ Err k ]) is ∙ ap (before_all w) more.0,

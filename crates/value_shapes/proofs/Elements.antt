@@ -16,7 +16,7 @@ use Rattle.sdf_values.specs.declared.value.Value.TheVariants as value
 use Rattle.usda_values.specs.Scalars.{Taken, take_element, take_bool, take_bool_word, take_bit, take_real, take_decimal, take_timecode, take_number_time, take_whole_time, take_time, take_text, take_asset, take_whole_value, decimal_of_whole, time_of}
 use Rattle.value_shapes.specs.Meanings.{SameMeaning, itself, whole_as_number, whole_as_time, number_as_time, number_as_truth, word_as_truth}
 use Rattle.value_shapes.specs.Held.{is_held, held_step, held_item}
-use Rattle.value_shapes.proofs.Values as fold
+use Rattle.sdf_values.proofs.Values as fold
 use Rattle.value_shapes.proofs.Found.{decimal_held, time_limit}
 use Rattle.value_shapes.proofs.Numbers.{whole_parts, whole_same, time_same, whole_time_same}
 

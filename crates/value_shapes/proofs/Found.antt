@@ -1,54 +1,20 @@
 -- The decimal and the time of a number are found where there are any.
-use Rattle.std.proofs.Common.{◌≡◌, ◌≢◌, ◌∙◌, ℕ, zero, suc, ◌+◌, ◌*◌, ◌/◌, ◌%◌, ◌^◌, ◌<◌, ◌≤◌, ◌==◌, nat_lt, nat_le, Bool, true, false, Option, Some, None, ap, sym, refl, subst, arith, eqb-true}
+use Rattle.std.proofs.Common.{◌≡◌, ◌≢◌, ◌∙◌, ℕ, ◌+◌, ◌*◌, ◌%◌, ◌^◌, ◌<◌, ◌==◌, nat_lt, nat_le, Bool, true, false, Some, None, ap, sym, refl, subst, arith, eqb-true}
 use Rattle.std.specs.Prelude.{if◌then◌else◌, ℤ, pos, negsuc, ◌+ℤ◌, ◌*ℤ◌, int_le, unsigned_abs}
 use Rattle.std.proofs.lemmas.Bool.Decides.{nat_tests}
 use Rattle.std.proofs.lemmas.Int.{ints}
-use Rattle.std.proofs.Math.Nat.{mul_assoc}
 use Rattle.sdf_values.specs.Numbers.{DecimalNumber, IsDecimal, SameNumber, zero_number}
 use Rattle.sdf_values.specs.NumberTexts.{signed}
 use Rattle.sdf_values.specs.Scales.{IsTime}
-use Rattle.sdf_values.proofs.Powers.{IsForm, only_form, only_zero, same_parts, abs_signed, abs_times, ten_some, ten_suc}
-use Rattle.usda_values.specs.Scalars.{in_128_bits, stripped, tens_out, if_short, is_below_zero, decimal_of_whole, if_time, time_of}
+use Rattle.sdf_values.proofs.Powers.{IsForm, only_form, only_zero, same_parts, abs_signed, abs_times, ten_some}
+use Rattle.sdf_values.proofs.Digits.{at_least as no_less}
+use Rattle.usda_values.specs.Scalars.{in_128_bits, tens_out, if_short, is_below_zero, decimal_of_whole, if_time, time_of}
+use Rattle.usda_values.proofs.TimeLaw.{if_within}
+use Rattle.usda_values.proofs.Wholes.{signed_back, strip}
 use Rattle.std.specs.Option.{is_some}
 use Rattle.value_shapes.specs.Held.{is_form}
 use Rattle.value_shapes.proofs.Forms.{at_least, form_found, held_size}
-use Rattle.value_shapes.proofs.Numbers.{whole_parts, signed_back, times_one, tens_joined, places_of, places}
-
--- a number without the tens that divide it
-record IsStripped (fuel n tens : ℕ) : Type 0 where
-  pub digits : ℕ
-  pub zeros : ℕ
-  pub whole : n ≡ digits * 10 ^ zeros
-  pub last : digits % 10 ≢ 0
-  pub few : zeros < fuel
-  pub is : stripped fuel n tens ≡ Some (digits, tens + zeros)
-
-strip : (fuel n tens : ℕ) → 0 < n → n < 10 ^ fuel → IsStripped fuel n tens
-strip zero n tens h low = absurd (omega (arith, h, low))
-strip (suc fuel) n tens h low = cases (n % 10 == 0) refl (λ some less. strip fuel (n / 10) (tens + 1) some less)
-  where
-    cases : (b : Bool) → (n % 10 == 0) ≡ b → (0 < n / 10 → n / 10 < 10 ^ fuel → IsStripped fuel (n / 10) (tens + 1)) → IsStripped (suc fuel) n tens
-    cases false e below = record {
-      digits = n;
-      zeros = 0;
-      whole = omega arith;
-      last = λ z. (let t : (n % 10 == 0) ≡ true = ap (λ k. k == 0) z in absurd cc);
-      few = omega arith;
-      is = ap (λ b. elim b as (λ _. Option (ℕ × ℕ)) [ true ↦ stripped fuel (n / 10) (tens + 1) | false ↦ Some (n, tens) ]) e ∙ ap (λ k. Some (n, k)) (let t : tens ≡ tens + 0 = omega arith in t);
-    }
-    cases true e below =
-        let none : n % 10 ≡ 0 = eqb-true (n % 10) 0 e in
-        let tenfold : n ≡ n / 10 * 10 = omega (arith, none) in
-        let p = below (omega (arith, h, tenfold)) (omega (arith, low, ten_suc fuel, tenfold)) in
-        record {
-          digits = p.digits;
-          zeros = suc p.zeros;
-          whole = tenfold ∙ ap (λ k. k * 10) p.whole ∙ mul_assoc p.digits (10 ^ p.zeros) 10 ∙ ap (λ k. p.digits * k) (sym (ten_suc p.zeros));
-          last = p.last;
-          few = omega (arith, p.few);
-          is = ap (λ b. elim b as (λ _. Option (ℕ × ℕ)) [ true ↦ stripped fuel (n / 10) (tens + 1) | false ↦ Some (n, tens) ]) e ∙ p.is
-              ∙ ap (λ k. Some (p.digits, k)) (let t : tens + 1 + p.zeros ≡ tens + suc p.zeros = omega arith in t);
-        }
+use Rattle.value_shapes.proofs.Numbers.{whole_parts, times_one, tens_joined, places_of, places}
 
 -- few digits and their tens
 short_is : (b : Bool) (m z : ℕ) → m < 10 ^ 34 → if_short b (Some (m, 0 + z)) ≡ Some (record { digits = signed b m; exp = pos (0 + z) })
@@ -80,9 +46,6 @@ decimal_found n d low good h = cases (unsigned_abs n == 0) refl
         ap (if_short (is_below_zero n)) p.is ∙ short_is (is_below_zero n) p.digits p.zeros few
         ∙ ap Some (same_parts made d (sym is.0) ((let t : pos (0 + p.zeros) ≡ pos 0 +ℤ pos p.zeros = omega (arith, ints) in t) ∙ sym is.1))
 
-no_less : (m t : ℕ) → 0 < t → m ≤ m * t
-no_less m t h = grind arith
-
 -- a whole number of few digits has a decimal
 few_digits : (n : ℤ) → unsigned_abs n < 10 ^ 34 → (d : DecimalNumber) × (decimal_of_whole n ≡ Some d)
 unfolding decimal_of_whole tens_out
@@ -98,15 +61,12 @@ few_digits n low = cases (unsigned_abs n == 0) refl
           ap (if_short (is_below_zero n)) p.is ∙ short_is (is_below_zero n) p.digits p.zeros few,
         )
 
-time_within : (t : ℤ) → IsTime t → if_time t ≡ Some t
-time_within t h = let test : nat_le (unsigned_abs t) (10 ^ 30) ≡ true = grind (arith, nat_tests) in ap (λ b. if b then Some t else None) test
-
 -- the time of a decimal without a fraction
 time_of_whole : (d : DecimalNumber) (z : ℕ) (t : ℤ) → d.exp ≡ pos z → d.digits *ℤ pos (10 ^ (z + 18)) ≡ t → IsTime t → time_of d ≡ Some t
 unfolding time_of
 time_of_whole d z t e is within =
     let high : int_le (negsuc 17) d.exp ≡ true = at_least (negsuc 17) d.exp (omega (arith, ints, e)) in
-    ap (λ b. if b then if_time (d.digits *ℤ pos (10 ^ places d)) else None) high ∙ ap if_time (ap (λ k. d.digits *ℤ pos (10 ^ k)) (places_of d z e) ∙ is) ∙ time_within t within
+    ap (λ b. if b then if_time (d.digits *ℤ pos (10 ^ places d)) else None) high ∙ ap if_time (ap (λ k. d.digits *ℤ pos (10 ^ k)) (places_of d z e) ∙ is) ∙ if_within t within
 
 -- the decimal of a whole number, and its time
 pub time_found_of : (n t : ℤ) → IsTime t → SameNumber n (pos 0) t (negsuc 17) → (d : DecimalNumber) × (decimal_of_whole n ≡ Some d) × (time_of d ≡ Some t)

@@ -4,8 +4,8 @@ use Rattle.sdf_values.specs.declared.value.DictItem.{DictItem, fold-DictItem}
 use Rattle.sdf_values.specs.declared.value.Value.{Value, fold-Value}
 use Rattle.sdf_values.specs.declared.value.Value.TheOpen.{Value-F, DictItem-F}
 use Rattle.sdf_values.specs.declared.value.Value.TheVariants as value
-use Rattle.value_shapes.proofs.Values as fold
-use Rattle.value_shapes.proofs.Values.{Each, Cases, by_cases}
+use Rattle.sdf_values.proofs.Values.{Each, Cases, by_cases}
+use Rattle.sdf_values.proofs.Values as fold
 
 -- a value again, and its members
 record Opened : Type 0 where

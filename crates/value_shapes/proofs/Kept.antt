@@ -2,7 +2,8 @@
 use Rattle.std.proofs.Common.{◌≡◌, ◌∙◌, ℕ, ◌&&◌, ◌==◌, not, Bool, true, false, List, [], ◌∷◌, length, map, Option, Some, None, Ok, Err, ap, sym, refl, eqb-true}
 use Rattle.std.specs.Prelude.{if◌then◌else◌, ℤ}
 use Rattle.std.proofs.lemmas.List.{length-map}
-use Rattle.sdf_values.specs.Conforms.{holds, holds_step, item_step, is_element, is_between, whole_bounds, all_hold, are_members, members_of, one}
+use Rattle.std.proofs.lemmas.Bool.{and_parts}
+use Rattle.sdf_values.specs.Conforms.{holds, holds_step, item_step, is_element, all_hold, are_members, members_of, one}
 use Rattle.sdf_values.specs.declared.decimal.Num.{Num}
 use Rattle.sdf_values.specs.declared.refusal.RefusalKind.TheVariants.{ValueShape}
 use Rattle.sdf_values.specs.declared.type_name.ElementType.{ElementType}
@@ -12,11 +13,11 @@ use Rattle.sdf_values.specs.declared.value.DictItem.{fold-DictItem}
 use Rattle.sdf_values.specs.declared.value.Value.{Value}
 use Rattle.sdf_values.specs.declared.value.Value.TheOpen.{Value-F}
 use Rattle.sdf_values.specs.declared.value.Value.TheVariants as value
-use Rattle.usda_values.specs.Scalars.{Taken, take_element, take_whole}
+use Rattle.sdf_values.proofs.Values.{Each, Cases, by_cases}
+use Rattle.usda_values.specs.Scalars.{Taken, take_element}
 use Rattle.usda_values.specs.Shaping.{Taking, TakenAll, before_all, take_all, take_counted, as_tuple, as_array, take_tuple, take_leaf, take_step, take_item, taken}
-use Rattle.value_shapes.proofs.Bools.{both}
-use Rattle.value_shapes.proofs.Values as fold
-use Rattle.value_shapes.proofs.Values.{Each, Cases, by_cases}
+use Rattle.usda_values.proofs.Wholes.{element_taken}
+use Rattle.sdf_values.proofs.Values as fold
 use Rattle.value_shapes.proofs.Elements.{Test}
 
 -- the value is taken as it is wherever it is one of the type
@@ -27,17 +28,6 @@ IsKept v = (t : TypeName) → holds v t ≡ true → taken v t ≡ Ok v
 truth_kept : (b : Bool) (e : ElementType) → is_element (Value-F.Bool b) e ≡ true → take_element e (value.Bool b) ≡ Ok (value.Bool b)
 truth_kept b element.Bool h = refl
 truth_kept b _ h = absurd cc
-
-whole_kept : (n : ℤ) (e : ElementType) → is_between (whole_bounds e) n ≡ true → take_whole e n ≡ Ok (value.Whole n)
-whole_kept n e h = ap (λ b. if b then Ok (value.Whole n) else Err ValueShape) h
-
-wholes_kept : (n : ℤ) (e : ElementType) → is_element (Value-F.Whole n) e ≡ true → take_element e (value.Whole n) ≡ Ok (value.Whole n)
-wholes_kept n element.Uchar h = whole_kept n element.Uchar h
-wholes_kept n element.Int h = whole_kept n element.Int h
-wholes_kept n element.Uint h = whole_kept n element.Uint h
-wholes_kept n element.Int64 h = whole_kept n element.Int64 h
-wholes_kept n element.Uint64 h = whole_kept n element.Uint64 h
-wholes_kept n _ h = absurd cc
 
 number_kept : (x : Num) (e : ElementType) → is_element (Value-F.Number x) e ≡ true → take_element e (value.Number x) ≡ Ok (value.Number x)
 number_kept x (element.Real p) h = refl
@@ -69,20 +59,20 @@ leaf v l is level each t h = is t ∙ leaf_cases v l each t.array t.element (sym
 all_kept : (vs : List Value) → Each IsKept vs → (t : TypeName) → all_hold (map holds vs) t ≡ true → take_all (map taken vs) t ≡ Ok vs
 all_kept [] each t h = refl
 all_kept (v ∷ vs) each t h =
-    let p = both (holds v t) (all_hold (map holds vs) t) h in
+    let p = and_parts (holds v t) (all_hold (map holds vs) t) h in
     ap (λ (r : Taken). elim r as (λ _. TakenAll) [ Ok w ↦ before_all w (take_all (map taken vs) t) | Err k ↦ Err k ]) (each.0 t p.0) ∙ ap (before_all v) (all_kept vs each.1 t p.1)
 
 counted_kept : (vs : List Value) → Each IsKept vs → (t : TypeName) → all_hold (map holds vs) t ≡ true → take_counted (length vs) (map taken vs) t ≡ Ok vs
 counted_kept [] each t h = refl
 counted_kept (v ∷ vs) each t h =
-    let p = both (holds v t) (all_hold (map holds vs) t) h in
+    let p = and_parts (holds v t) (all_hold (map holds vs) t) h in
     ap (λ (r : Taken). elim r as (λ _. TakenAll) [ Ok w ↦ before_all w (take_counted (length vs) (map taken vs) t) | Err k ↦ Err k ]) (each.0 t p.0)
     ∙ ap (before_all v) (counted_kept vs each.1 t p.1)
 
 tuple_members : (vs : List Value) → Each IsKept vs → (o : Option (ElementType × ℕ)) → are_members o (map holds vs) ≡ true → take_tuple o (map taken vs) ≡ Ok (value.Tuple vs)
 tuple_members vs each None h = absurd cc
 tuple_members vs each (Some m) h =
-    let p = both (length (map holds vs) == m.1) (all_hold (map holds vs) (one m.0)) h in
+    let p = and_parts (length (map holds vs) == m.1) (all_hold (map holds vs) (one m.0)) h in
     let count : length vs ≡ m.1 = sym (length-map vs holds) ∙ eqb-true (length (map holds vs)) m.1 p.0 in
     ap as_tuple (ap (λ n. take_counted n (map taken vs) (one m.0)) (sym count) ∙ counted_kept vs each (one m.0) p.1)
 
@@ -133,7 +123,7 @@ no_block _ = refl
 pub kept : (v : Value) → IsKept v
 kept = by_cases IsKept (λ i. Unit {0}) (record {
   bool = λ b. leaf (value.Bool b) (Value-F.Bool b) (λ t. ap (λ f. f t) (fold.of_bool Taking Taking take_step take_item b)) (λ t. ap (λ f. f t) (fold.of_bool Test Test holds_step item_step b)) (truth_kept b);
-  whole = λ n. leaf (value.Whole n) (Value-F.Whole n) (λ t. ap (λ f. f t) (fold.of_whole Taking Taking take_step take_item n)) (λ t. ap (λ f. f t) (fold.of_whole Test Test holds_step item_step n)) (wholes_kept n);
+  whole = λ n. leaf (value.Whole n) (Value-F.Whole n) (λ t. ap (λ f. f t) (fold.of_whole Taking Taking take_step take_item n)) (λ t. ap (λ f. f t) (fold.of_whole Test Test holds_step item_step n)) (element_taken n);
   number = λ x. leaf (value.Number x) (Value-F.Number x) (λ t. ap (λ f. f t) (fold.of_number Taking Taking take_step take_item x)) (λ t. ap (λ f. f t) (fold.of_number Test Test holds_step item_step x)) (number_kept x);
   time = λ x. leaf (value.Time x) (Value-F.Time x) (λ t. ap (λ f. f t) (fold.of_time Taking Taking take_step take_item x)) (λ t. ap (λ f. f t) (fold.of_time Test Test holds_step item_step x)) (time_kept x);
   text = λ s. leaf (value.Text s) (Value-F.Text s) (λ t. ap (λ f. f t) (fold.of_text Taking Taking take_step take_item s)) (λ t. ap (λ f. f t) (fold.of_text Test Test holds_step item_step s)) (text_kept s);

@@ -1,5 +1,3 @@
-pub mod Bools
-pub mod Values
 pub mod Numbers
 pub mod Elements
 pub mod Taken

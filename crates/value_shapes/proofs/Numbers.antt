@@ -10,18 +10,12 @@ use Rattle.sdf_values.specs.Scales.{IsTimeOf}
 use Rattle.sdf_values.proofs.Powers.{ten_next, signed_times, excess_above, excess_below}
 use Rattle.sdf_values.proofs.Times.{is_time}
 use Rattle.usda_values.specs.Scalars.{stripped, tens_out, if_short, is_below_zero, decimal_of_whole, if_time, time_of}
+use Rattle.usda_values.proofs.TimeLaw.{above}
+use Rattle.usda_values.proofs.Wholes.{abs_zero, signed_back}
 
 pub times_one : (z : ℤ) → z *ℤ pos 1 ≡ z
 times_one (pos n) = omega (arith, ints)
 times_one (negsuc n) = omega (arith, ints)
-
-pub signed_back : (n : ℤ) → signed (is_below_zero n) (unsigned_abs n) ≡ n
-signed_back (pos n) = refl
-signed_back (negsuc n) = refl
-
-pub abs_zero : (n : ℤ) → unsigned_abs n ≡ 0 → n ≡ pos 0
-abs_zero (pos n) h = ap pos h
-abs_zero (negsuc n) h = absurd (omega (arith, h))
 
 moved_ten : (q u : ℕ) → q * 10 * u ≡ q * (u * 10)
 moved_ten q u = grind arith
@@ -108,15 +102,6 @@ whole_same n d is =
     ap (λ k. n *ℤ pos (10 ^ k)) (excess_below (pos 0) d.exp is.tens far) ∙ times_one n ∙ is.whole
     ∙ sym (signed_times is.negative is.size (10 ^ is.tens)) ∙ ap (λ x. x *ℤ pos (10 ^ is.tens)) (sym is.digits)
     ∙ ap (λ k. d.digits *ℤ pos (10 ^ k)) (sym (excess_above d.exp (pos 0) is.tens far))
-
-natural_is : (z : ℤ) → pos 0 ≤ℤ z → z ≡ pos (natural z)
-natural_is (pos n) h = refl
-natural_is (negsuc n) h = absurd (omega (arith, ints, h))
-
-above : (e : ℤ) → negsuc 17 ≤ℤ e → e ≡ negsuc 17 +ℤ pos (natural (e +ℤ pos 18))
-above e h =
-    let z = natural_is (e +ℤ pos 18) (omega (arith, ints, h)) in
-    omega (arith, ints, z)
 
 abbrev pub places : DecimalNumber → ℕ
 places d = natural (d.exp +ℤ pos 18)

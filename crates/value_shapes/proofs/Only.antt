@@ -8,7 +8,7 @@ use Rattle.sdf_values.specs.declared.value.Value.TheVariants as value
 use Rattle.usda_values.specs.Shaping.{Taking, take_shape, take_shape_step, take_step, take_item, taken}
 use Rattle.value_shapes.specs.Held.{is_held}
 use Rattle.value_shapes.specs.Meanings.{SameMeaning, itself, whole_as_number, whole_as_time, number_as_time, number_as_truth, word_as_truth, tuple, array}
-use Rattle.value_shapes.proofs.Values as fold
+use Rattle.sdf_values.proofs.Values as fold
 use Rattle.value_shapes.proofs.Taken.{fits}
 use Rattle.value_shapes.proofs.Completes.{found}
 use Rattle.value_shapes.proofs.Whole.{shape_kept}

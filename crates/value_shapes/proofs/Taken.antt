@@ -2,6 +2,7 @@
 use Rattle.std.proofs.Common.{◌≡◌, ◌∙◌, ℕ, zero, suc, ◌&&◌, Bool, true, false, List, [], ◌∷◌, length, map, Option, Some, None, Ok, Err, ap, sym, refl, subst, eq-eqb}
 use Rattle.std.specs.Prelude.{if◌then◌else◌}
 use Rattle.std.proofs.lemmas.List.{length-map}
+use Rattle.std.proofs.lemmas.Bool.{and_parts}
 use Rattle.sdf_values.specs.Conforms.{holds, holds_step, item_step, all_hold, are_members, members_of, one}
 use Rattle.sdf_values.specs.declared.refusal.RefusalKind.TheVariants.{ValueShape}
 use Rattle.sdf_values.specs.declared.type_name.ElementType.{ElementType}
@@ -11,11 +12,10 @@ use Rattle.sdf_values.specs.declared.value.Value.TheVariants as value
 use Rattle.usda_values.specs.Scalars.{Taken, take_element}
 use Rattle.usda_values.specs.Shaping.{Taking, TakenAll, before_all, take_all, take_counted, as_tuple, as_array, take_tuple, take_leaf, take_step, take_item, taken}
 use Rattle.sdf_values.specs.Proper.{all_true}
+use Rattle.sdf_values.proofs.Values.{Each, Cases, by_cases}
 use Rattle.value_shapes.specs.Held.{is_held, held_step, held_item}
 use Rattle.value_shapes.specs.Meanings.{SameMeanings, tuple, array, none, more}
-use Rattle.value_shapes.proofs.Bools.{both}
-use Rattle.value_shapes.proofs.Values as fold
-use Rattle.value_shapes.proofs.Values.{Each, Cases, by_cases}
+use Rattle.sdf_values.proofs.Values as fold
 use Rattle.value_shapes.proofs.Elements.{Test, Fits, element_fits}
 
 -- whatever is taken of the value fits
@@ -46,7 +46,7 @@ more_members : (v w : Value) (vs ws : List Value) (t : TypeName) → Fits t v w 
 more_members v w vs ws t fits rest = record {
   all = ap (λ b. b && all_hold (map holds ws) t) fits.of_type ∙ rest.all;
   same = more v w vs ws fits.same rest.same;
-  held = λ h. (let p = both (is_held v) (all_true (map is_held vs)) h in ap (λ b. b && all_true (map is_held ws)) (fits.held p.0) ∙ rest.held p.1);
+  held = λ h. (let p = and_parts (is_held v) (all_true (map is_held vs)) h in ap (λ b. b && all_true (map is_held ws)) (fits.held p.0) ∙ rest.held p.1);
 }
 
 -- a member before those behind it

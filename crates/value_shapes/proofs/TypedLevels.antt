@@ -1,6 +1,7 @@
 -- The levels of a value that is read where a type is expected: what stands in them is of the types of their members.
 use Rattle.std.proofs.Common.{◌≡◌, ◌∙◌, ℕ, zero, suc, ◌+◌, ◌&&◌, ◌||◌, ◌==◌, Bool, true, false, List, [], ◌∷◌, ◌++◌, length, length-append, map, Some, Ok, Err, ap, sym, refl, subst, arith, eqb-true}
 use Rattle.std.specs.Prelude.{if◌then◌else◌}
+use Rattle.std.proofs.lemmas.Bool.{and_parts, or_right}
 use Rattle.plain_data.specs.Ends.{last, last-push, front-push}
 use Rattle.sdf_values.specs.Conforms.{holds, is_block, conforms, all_hold, members_of, one}
 use Rattle.sdf_values.specs.declared.refusal.RefusalKind.TheVariants.{ValueShape}
@@ -17,7 +18,6 @@ use Rattle.usda_values.specs.declared.level.Place.TheVariants as place
 use Rattle.usda_values.specs.declared.shape.Shape.TheVariants.{Typed}
 use Rattle.usda_values.specs.Drafts.{one_fewer, is_full, is_lacking, is_statement, give_member, give_to, give, behind_value, wrap_as, go_out}
 use Rattle.usda_values.specs.Shapes.{take_typed}
-use Rattle.value_shapes.proofs.Bools.{both, or_true}
 use Rattle.value_shapes.proofs.Taken.{typed, leaf_cases, holds_tuple, holds_array}
 use Rattle.value_shapes.proofs.Whole.{block_is}
 
@@ -56,13 +56,13 @@ abbrev pub MayStand : Level → Value → Type 0
 MayStand l v = (u : TypeName) → l.item ≡ Typed u → may_stand (is_statement l.bracket) v u ≡ true
 
 pub may_hold : (b : Bool) (v : Value) (u : TypeName) → holds v u ≡ true → may_stand b v u ≡ true
-may_hold true v u h = or_true (is_block v) (holds v u) h
+may_hold true v u h = or_right (is_block v) (holds v u) h
 may_hold false v u h = h
 
 all_more : (vs : List Value) (v : Value) (t : TypeName) → all_hold (map holds vs) t ≡ true → holds v t ≡ true → all_hold (map holds (vs ++ v ∷ [])) t ≡ true
 all_more [] v t h k = ap (λ b. b && true) k
 all_more (x ∷ xs) v t h k =
-    let p = both (holds x t) (all_hold (map holds xs) t) h in
+    let p = and_parts (holds x t) (all_hold (map holds xs) t) h in
     ap (λ b. b && all_hold (map holds (xs ++ v ∷ [])) t) p.0 ∙ all_more xs v t p.1 k
 
 one_longer : (vs : List Value) (v : Value) (k n : ℕ) → length vs + suc k ≡ n → length (vs ++ v ∷ []) + k ≡ n
@@ -78,7 +78,7 @@ given_to t outer l v = Good t (behind_value l.bracket) (give v l) outer
 by_bracket : (t : TypeName) (outer : List Level) (l : Level) (v : Value) (c : Bracket) → l.bracket ≡ c → Good t (behind_value c) (give_to c v l) outer → given_to t outer l v
 by_bracket t outer l v c b good = subst (λ x. Good t (behind_value x) (give_to x v l) outer) (sym b) good
 
-counted : (room : ℕ) → (room == 0) ≡ false → (k : ℕ) × (room ≡ suc k)
+pub counted : (room : ℕ) → (room == 0) ≡ false → (k : ℕ) × (room ≡ suc k)
 counted zero h = absurd cc
 counted (suc k) h = (k, refl)
 
@@ -113,7 +113,7 @@ gone_out p outer parent l c b =
 abbrev pub IsGood : TypeName → ValueDraft → Type 0
 IsGood t d = Good t d.place d.level d.outer
 
-none_left : (room : ℕ) → (if room == 0 then false else true) ≡ false → room ≡ 0
+pub none_left : (room : ℕ) → (if room == 0 then false else true) ≡ false → room ≡ 0
 none_left room h = test (room == 0) refl h
   where
     test : (b : Bool) → (room == 0) ≡ b → (if b then false else true) ≡ false → room ≡ 0

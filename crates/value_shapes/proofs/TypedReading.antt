@@ -27,7 +27,7 @@ use Rattle.value_shapes.proofs.Taken.{typed}
 use Rattle.value_shapes.proofs.TypedLevels.{is_open, Stack, bottom, tuple, array, Good, ongoing, finished, IsGood, type_of, placed, closed, typed_stands}
 
 -- a draft of these parts
-abbrev draft : Place → Level → List Level → ValueDraft
+abbrev pub draft : Place → Level → List Level → ValueDraft
 draft p l outer = record { place = p; level = l; outer = outer }
 
 -- the draft after an act

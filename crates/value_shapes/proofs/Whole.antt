@@ -1,15 +1,15 @@
 -- The laws, of a value as a whole: the block stands for a value of any type.
 use Rattle.std.proofs.Common.{◌≡◌, ◌∙◌, ◌||◌, Bool, true, false, Ok, ap, sym, refl, subst}
+use Rattle.std.proofs.lemmas.Bool.{or_right}
 use Rattle.sdf_values.specs.Conforms.{holds, is_block, is_block_step, is_block_item, conforms}
 use Rattle.sdf_values.specs.declared.type_name.TypeName.{TypeName}
 use Rattle.sdf_values.specs.declared.value.Value.{Value}
 use Rattle.sdf_values.specs.declared.value.Value.TheVariants as value
+use Rattle.sdf_values.proofs.Values.{Cases, by_cases}
 use Rattle.usda_values.specs.Shaping.{take_shape, take_shape_step}
 use Rattle.value_shapes.specs.Held.{is_held}
 use Rattle.value_shapes.specs.Meanings.{SameMeaning, itself}
-use Rattle.value_shapes.proofs.Bools.{or_true}
-use Rattle.value_shapes.proofs.Values as fold
-use Rattle.value_shapes.proofs.Values.{Cases, by_cases}
+use Rattle.sdf_values.proofs.Values as fold
 use Rattle.value_shapes.proofs.Elements.{Fits}
 use Rattle.value_shapes.proofs.Taken.{fits}
 use Rattle.value_shapes.proofs.Kept.{kept}
@@ -24,7 +24,7 @@ pub record FitsWhole (t : TypeName) (v w : Value) : Type 0 where
   pub held : is_held v ≡ true → is_held w ≡ true
 
 fits_whole : (t : TypeName) (v w : Value) → Fits t v w → FitsWhole t v w
-fits_whole t v w k = record { of_type = or_true (is_block w) (holds w t) k.of_type; same = k.same; held = k.held }
+fits_whole t v w k = record { of_type = or_right (is_block w) (holds w t) k.of_type; same = k.same; held = k.held }
 
 block_taken : (t : TypeName) (w : Value) → value.Block ≡ w → FitsWhole t value.Block w
 block_taken t w e = subst (λ x. FitsWhole t value.Block x) e (record { of_type = ap (λ b. b || holds value.Block t) block_is; same = itself value.Block; held = λ h. h })

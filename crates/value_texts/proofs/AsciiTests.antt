@@ -1,13 +1,19 @@
--- A test that only ASCII passes: a text has no such byte where it has no such character.
-use Rattle.std.proofs.Common.{◌≡◌, ◌∙◌, ℕ, suc, ◌<◌, ◌||◌, Bool, true, false, List, [], ◌∷◌, ◌++◌, append-nil, length, get_or, ap, sym, refl, arith}
+-- ASCII in front of a text, and a test that only ASCII passes: a text has no such byte where it has no such character.
+use Rattle.std.proofs.Common.{◌≡◌, ◌∙◌, ℕ, zero, suc, ◌<◌, ◌||◌, Bool, true, false, List, [], ◌∷◌, ◌++◌, append-nil, length, get_or, ap, sym, refl, arith}
 use Rattle.std.specs.Prelude.{encode_utf8}
 use Rattle.std.specs.List.{list_any}
-use Rattle.std.specs.Str.{chars, IsUtf8, encode_utf8_all}
-use Rattle.std.proofs.lemmas.Str.{encodes-chars, inside_one}
+use Rattle.std.specs.Str.{chars, IsUtf8, IsAscii, encode_utf8_all}
+use Rattle.std.proofs.lemmas.Str.{IsUtf8-append, IsUtf8-from_ascii, encodes-chars, inside_one}
+use Rattle.std.proofs.lemmas.Bool.{or_parts}
 
-pub or_parts : (a b : Bool) → (a || b) ≡ false → (a ≡ false) × (b ≡ false)
-or_parts true b h = absurd cc
-or_parts false b h = (refl, h)
+-- one character of ASCII
+pub one_ascii : (c : ℕ) → c < 128 → IsAscii (c ∷ [])
+one_ascii c h zero = h
+one_ascii c h (suc i) = omega arith
+
+-- a character of ASCII in front
+pub ascii_before : (c : ℕ) (t : List ℕ) → c < 128 → IsUtf8 t → IsUtf8 (c ∷ t)
+ascii_before c t low h = IsUtf8-append (c ∷ []) t (IsUtf8-from_ascii (c ∷ []) (one_ascii c low)) h
 
 module _ (P : ℕ → Bool) (low : (b : ℕ) → P b ≡ true → b < 128) where
   none_of : (xs : List ℕ) → ((k : ℕ) → k < length xs → P (get_or xs k 0) ≡ false) → list_any P xs ≡ false

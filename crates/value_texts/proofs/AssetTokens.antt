@@ -1,8 +1,9 @@
 -- An asset and a path between their delimiters are tokens, and mean what stands between them.
-use Rattle.std.proofs.Common.{◌≡◌, ◌∙◌, ℕ, zero, suc, ◌+◌, ◌-◌, ◌<◌, ◌&&◌, ◌||◌, ◌==◌, nat_le, not, Bool, true, false, List, [], ◌∷◌, ◌++◌, append_assoc, length, length-append, take, drop, get_or, Option, Some, None, Ok, ap, sym, refl, arith}
+use Rattle.std.proofs.Common.{◌≡◌, ◌∙◌, ℕ, zero, suc, ◌+◌, ◌-◌, ◌<◌, ◌&&◌, ◌||◌, ◌==◌, nat_le, Bool, true, false, List, [], ◌∷◌, ◌++◌, append_assoc, length, length-append, take, drop, get_or, Option, Some, None, Ok, ap, sym, refl, arith}
 use Rattle.std.specs.Prelude.{if◌then◌else◌, codes, slice_index}
 use Rattle.std.specs.List.{list_any}
 use Rattle.std.proofs.lemmas.Bool.Decides.{nat_tests}
+use Rattle.std.proofs.lemmas.Bool.{not-true, or_parts}
 use Rattle.sdf_values.specs.Print.{is_long_asset, asset_text}
 use Rattle.usda_lexer.specs.declared.token.TokenKind.TheVariants as kind
 use Rattle.usda_lexer.specs.Blanks.{begins}
@@ -14,15 +15,7 @@ use Rattle.value_texts.specs.Writable.{has_short_ats, is_writable_asset, is_writ
 use Rattle.value_texts.proofs.Pieces.{front}
 use Rattle.value_texts.proofs.MarkTokens.{at_sign, less}
 
-or_parts : (a b : Bool) → (a || b) ≡ false → (a ≡ false) × (b ≡ false)
-or_parts true b h = absurd cc
-or_parts false b h = (refl, h)
-
-not_true : (b : Bool) → not b ≡ true → b ≡ false
-not_true true h = absurd cc
-not_true false h = refl
-
-eq_refl : (c : ℕ) → (c == c) ≡ true
+pub eq_refl : (c : ℕ) → (c == c) ≡ true
 eq_refl c = grind (arith, nat_tests)
 
 -- a text without its closing delimiter and without line feeds
@@ -43,12 +36,12 @@ line_closes close n (c ∷ t) rest h =
 -- a path is a token
 pub path_found : (at : ℕ) (t rest : List ℕ) → is_writable_path t ≡ true → found at ((codes "<" ++ t ++ codes ">") ++ rest) ≡ Ok (kind.Path, length (codes "<" ++ t ++ codes ">"))
 path_found at t rest h =
-    ap (λ x. found at (60 ∷ x)) (append_assoc t (62 ∷ []) rest) ∙ less at (t ++ 62 ∷ rest) ∙ ap (if_closed at kind.Path) (line_closes 62 1 t rest (not_true _ h))
+    ap (λ x. found at (60 ∷ x)) (append_assoc t (62 ∷ []) rest) ∙ less at (t ++ 62 ∷ rest) ∙ ap (if_closed at kind.Path) (line_closes 62 1 t rest (not-true _ h))
     ∙ ap (λ n. Ok (kind.Path, n)) (let e : 1 + length t + 1 ≡ suc (length (t ++ 62 ∷ [])) = omega (arith, length-append t (62 ∷ [])) in e)
 
 -- a short asset
 no_more_ats : (t rest : List ℕ) → IsInside 64 t → begins_not 64 rest ≡ true → begins_twice 64 (t ++ 64 ∷ rest) ≡ false
-no_more_ats [] rest h k = not_true (begins 64 rest) k
+no_more_ats [] rest h k = not-true (begins 64 rest) k
 no_more_ats (c ∷ t) rest h k =
     let p = or_parts ((c == 64) || (c == 10)) (list_any (λ c. (c == 64) || (c == 10)) t) h in
     ap (λ b. b && begins 64 (t ++ 64 ∷ rest)) (or_parts (c == 64) (c == 10) p.0).0
@@ -63,7 +56,7 @@ short_found at t rest h k =
 -- a long asset: the first three `@` in a row that close it, and up to two before them
 none_more : (rest : List ℕ) → begins_not 64 rest ≡ true → more_ats rest ≡ 0
 none_more [] h = refl
-none_more (c ∷ cs) h = ap (λ b. if b then (if begins 64 cs then 2 else 1) else 0) (not_true (c == 64) h)
+none_more (c ∷ cs) h = ap (λ b. if b then (if begins 64 cs then 2 else 1) else 0) (not-true (c == 64) h)
 
 abbrev Longer : ℕ → ℕ → List ℕ → List ℕ → Type 0
 Longer run n t rest = closed_asset run n (t ++ 64 ∷ 64 ∷ 64 ∷ rest) ≡ Some (n + length t + 3)
@@ -71,7 +64,7 @@ Longer run n t rest = closed_asset run n (t ++ 64 ∷ 64 ∷ 64 ∷ rest) ≡ So
 ats_end : (run n : ℕ) (rest : List ℕ) → run < 3 → begins_not 64 rest ≡ true → Longer run n [] rest
 ats_end zero n rest h k = ap (λ m. Some (n + 1 + 1 + 1 + m)) (none_more rest k) ∙ ap Some (let e : n + 1 + 1 + 1 + 0 ≡ n + 0 + 3 = omega arith in e)
 ats_end (suc zero) n rest h k =
-    ap (λ b. Some (n + 1 + 1 + (if b then 2 else 1))) (not_true (begins 64 rest) k) ∙ ap Some (let e : n + 1 + 1 + 1 ≡ n + 0 + 3 = omega arith in e)
+    ap (λ b. Some (n + 1 + 1 + (if b then 2 else 1))) (not-true (begins 64 rest) k) ∙ ap Some (let e : n + 1 + 1 + 1 ≡ n + 0 + 3 = omega arith in e)
 ats_end (suc (suc zero)) n rest h k = ap Some (let e : n + 1 + 2 ≡ n + 0 + 3 = omega arith in e)
 ats_end (suc (suc (suc run))) n rest h k = absurd (omega (arith, h))
 
@@ -117,15 +110,15 @@ asset_found at t rest h k = test (is_long_asset t) refl
     test false e = short_found at t rest e k
 
 -- what stands behind the first of two texts
-at_seam : (xs ys : List ℕ) (c : ℕ) → get_or (xs ++ c ∷ ys) (length xs) 0 ≡ c
+pub at_seam : (xs ys : List ℕ) (c : ℕ) → get_or (xs ++ c ∷ ys) (length xs) 0 ≡ c
 at_seam [] ys c = refl
 at_seam (x ∷ xs) ys c = at_seam xs ys c
 
-last_at : (xs ys : List ℕ) (c k : ℕ) → k ≡ length xs → slice_index (xs ++ c ∷ ys) k ≡ c
+pub last_at : (xs ys : List ℕ) (c k : ℕ) → k ≡ length xs → slice_index (xs ++ c ∷ ys) k ≡ c
 last_at xs ys c k e = ap (λ j. slice_index (xs ++ c ∷ ys) j) e ∙ at_seam xs ys c
 
 -- a text without one delimiter on both sides
-one_off : (first close : ℕ) (t : List ℕ) → trimmed close 1 (first ∷ t ++ close ∷ []) ≡ t
+pub one_off : (first close : ℕ) (t : List ℕ) → trimmed close 1 (first ∷ t ++ close ∷ []) ≡ t
 one_off first close t =
     let text : List ℕ = first ∷ t ++ close ∷ [] in
     let len : length text ≡ length t + 2 = omega (arith, length-append t (close ∷ [])) in
@@ -135,7 +128,7 @@ one_off first close t =
     ∙ ap (λ c. if c == close then inside 1 text else text) closing ∙ ap (λ b. if b then inside 1 text else text) (eq_refl close)
     ∙ ap (λ n. take n (t ++ close ∷ [])) (let e : length text - 1 - 1 ≡ length t = omega (arith, len) in e) ∙ front t (close ∷ [])
 
-three_off : (t : List ℕ) → trimmed 64 3 (64 ∷ 64 ∷ 64 ∷ t ++ 64 ∷ 64 ∷ 64 ∷ []) ≡ t
+pub three_off : (t : List ℕ) → trimmed 64 3 (64 ∷ 64 ∷ 64 ∷ t ++ 64 ∷ 64 ∷ 64 ∷ []) ≡ t
 three_off t =
     let text : List ℕ = 64 ∷ 64 ∷ 64 ∷ t ++ 64 ∷ 64 ∷ 64 ∷ [] in
     let len : length text ≡ length t + 6 = omega (arith, length-append t (64 ∷ 64 ∷ 64 ∷ [])) in

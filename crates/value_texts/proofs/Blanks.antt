@@ -19,7 +19,7 @@ next_same : (at c : ℕ) (cs : List ℕ) → is_blank c ≡ true → next_word a
 unfolding next_word
 next_same at c cs h = ap (word_behind at (c ∷ cs)) (gap_blank c cs h) ∙ up_behind at c cs (gap Blank 0 0 cs)
 
-abbrev Ends : ℕ → Result (Option Word) LexFault → Type 0
+abbrev pub Ends : ℕ → Result (Option Word) LexFault → Type 0
 Ends at (Ok (Some w)) = at < w.end
 Ends at (Ok None) = Unit {0}
 Ends at (Err f) = Unit {0}

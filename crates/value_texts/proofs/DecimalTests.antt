@@ -1,16 +1,12 @@
 -- The test for the one form of a decimal number.
-use Rattle.std.proofs.Common.{◌≡◌, ◌∙◌, ◌<◌, ◌^◌, ◌%◌, ◌&&◌, ◌||◌, ◌==◌, not, nat_lt, Bool, true, false, ap, refl, arith, eqb-true}
-use Rattle.std.specs.Prelude.{ℤ, pos, negsuc, ◌≤ℤ◌, ◌↔◌, unsigned_abs}
+use Rattle.std.proofs.Common.{◌≡◌, ◌∙◌, ◌^◌, ◌%◌, ◌&&◌, ◌||◌, ◌==◌, not, nat_lt, Bool, true, false, ap, refl, arith, eqb-true}
+use Rattle.std.specs.Prelude.{◌↔◌, unsigned_abs}
 use Rattle.std.proofs.lemmas.Bool.Decides.{nat_tests}
-use Rattle.std.proofs.lemmas.Int.{ints}
 use Rattle.sdf_values.specs.Numbers.{DecimalNumber, IsDecimal, zero_number}
 use Rattle.usda_lexer.specs.Decimals.{is_exponent_in_range}
+use Rattle.usda_lexer.proofs.DecimalLaw.{range_in}
 use Rattle.value_texts.specs.Writable.{is_decimal, is_zero_exponent}
 use Rattle.value_texts.proofs.TokenCuts.{good_decimal}
-
-range_in : (e : ℤ) → negsuc 399 ≤ℤ e → e ≤ℤ pos 400 → is_exponent_in_range e ≡ true
-range_in (pos n) low high = let lt : n < 401 = omega (arith, ints) in grind (arith, nat_tests)
-range_in (negsuc n) low high = let lt : n < 400 = omega (arith, ints) in grind (arith, nat_tests)
 
 pub decimal_good : (d : DecimalNumber) → IsDecimal d → is_decimal d ≡ true
 decimal_good d is =

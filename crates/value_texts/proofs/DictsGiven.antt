@@ -3,6 +3,7 @@ use Rattle.std.proofs.Common.{◌≡◌, ◌∙◌, ℕ, suc, ◌+◌, ◌<◌, 
 use Rattle.std.specs.Prelude.{if◌then◌else◌, codes}
 use Rattle.std.specs.Str.{is_utf8}
 use Rattle.std.proofs.lemmas.Bool.Decides.{nat_tests}
+use Rattle.std.proofs.lemmas.Bool.{and_parts}
 use Rattle.usd_names.specs.Names.{is_name}
 use Rattle.sdf_values.specs.Proper.{is_below, all_true, are_keys_behind, are_keys_in_order, all_proper, keys_of}
 use Rattle.sdf_values.specs.TypeNames.{element_name}
@@ -16,6 +17,7 @@ use Rattle.sdf_values.specs.declared.value.DictItem.{DictItem}
 use Rattle.sdf_values.specs.declared.value.Value.{Value}
 use Rattle.sdf_values.specs.declared.value.Value.TheOpen.{Value-F}
 use Rattle.sdf_values.specs.declared.value.Value.TheVariants as value
+use Rattle.sdf_values.proofs.Values.{Each}
 use Rattle.usda_lexer.specs.declared.token.TokenKind.TheVariants as kind
 use Rattle.usda_values.specs.declared.shape.Shape.{Shape}
 use Rattle.usda_values.specs.declared.shape.Shape.TheVariants.{Untyped, Metadata, Typed, Dictionary}
@@ -33,11 +35,9 @@ use Rattle.value_texts.specs.Acts.{acts}
 use Rattle.value_texts.specs.Writable.{is_writable, is_writable_item, writable_step, writable_item}
 use Rattle.value_texts.specs.ValueWords.{words_of_value, words_of_item, said_step, said_item, entries_said, type_said, dict_type_said, key_said, name_said, string_said, equals, open_brace, close_brace, open_bracket, close_bracket}
 use Rattle.value_texts.specs.Readable.{Reading, is_read_as, is_read_entry, reading_step, reading_item, depth, item_depth, depth_step, depth_item, deepest}
-use Rattle.value_texts.proofs.NumberParts.{both}
 use Rattle.value_texts.proofs.StringTokens.{string_means}
 use Rattle.value_texts.proofs.TypeTexts.{type_is_found, type_is_no_dictionary}
-use Rattle.value_texts.proofs.Values as fold
-use Rattle.value_texts.proofs.Values.{Each}
+use Rattle.sdf_values.proofs.Values as fold
 use Rattle.value_texts.proofs.Given.{acts_one, acts_then, first_token, went_out, closed, IsGiven}
 use Rattle.value_texts.proofs.KeysInOrder.{table_of, items_back, AllBelow, no_key, put_last, table_more, all_below_next}
 
@@ -120,7 +120,7 @@ pub item_given : (k : List ℕ) (t : DictType) (v : Value) → IsGiven v → IsG
 unfolding value_act
 item_given k t v given p item key ty entries outer h w r none deep =
     let i : DictItem = record { key = k; ty = t; value = v } in
-    let parts = both (is_utf8 k) (is_writable v) (sym (fold.of_item Bool Bool writable_step writable_item i) ∙ w) in
+    let parts = and_parts (is_utf8 k) (is_writable v) (sym (fold.of_item Bool Bool writable_step writable_item i) ∙ w) in
     let read : is_read_as v (entry_shape t) false ≡ true = sym (ap (λ e. e.1) (fold.of_item Reading (List ℕ × Bool) reading_step reading_item i)) ∙ r in
     let low : depth v + length outer ≤ 64 = subst (λ n. n + length outer ≤ 64) (fold.of_item ℕ ℕ depth_step depth_item i) deep in
     let typed = dict_type_given item key ty entries outer t p h in
@@ -138,7 +138,7 @@ InOrder done (i ∷ is) = AllBelow done i.key × (are_keys_behind i.key (map (λ
 next_in_order : (done : List DictItem) (i : DictItem) (is : List DictItem) → InOrder done (i ∷ is) → InOrder (done ++ i ∷ []) is
 next_in_order done i [] h = tt
 next_in_order done i (j ∷ js) h =
-    let p = both (is_below i.key j.key) (are_keys_behind j.key (map (λ (j : DictItem). j.key) js)) h.1 in
+    let p = and_parts (is_below i.key j.key) (are_keys_behind j.key (map (λ (j : DictItem). j.key) js)) h.1 in
     (all_below_next done i j.key h.0 p.0, p.1)
 
 closes_dict : (p : Place) (d : ValueDraft) → types p ≡ true → act_at p close_brace.kind close_brace.text d ≡ close_act d
@@ -155,8 +155,8 @@ entries_given l outer [] done p item key ty h each w r order deep =
     acts_one close_brace [] d (closed l outer (value.Dict (items_of (table_of done)))) (closes_dict p d h ∙ went_out l outer d refl refl)
     ∙ ap (λ x. Ok (closed l outer (value.Dict x))) (items_back done ∙ sym (append-nil done))
 entries_given l outer (i ∷ is) done p item key ty h each w r order deep =
-    let x = both (is_writable_item i) (all_true (map is_writable_item is)) w in
-    let y = both (is_read_entry i).1 (all_proper (map is_read_entry is)) r in
+    let x = and_parts (is_writable_item i) (all_true (map is_writable_item is)) w in
+    let y = and_parts (is_read_entry i).1 (all_proper (map is_read_entry is)) r in
     let d : ValueDraft = in_dict p item key ty (table_of done) (outer ++ l ∷ []) in
     let rest : List Said = entries_said (map words_of_item is) ++ close_brace ∷ [] in
     ap (λ t. acts t d) (append_assoc (words_of_item i) (entries_said (map words_of_item is)) (close_brace ∷ []))
@@ -207,7 +207,7 @@ pub dict_from : (items : List DictItem) → Each IsGivenItem items → (d : Valu
 dict_from items each d first room w r deep =
     let s : Bool = is_statement d.level.bracket in
     let read = reads_dict (map is_read_entry items) d.level.item s (sym (ap (λ f. f d.level.item s) (fold.of_dict Reading (List ℕ × Bool) reading_step reading_item items)) ∙ r) in
-    let parts = both (are_keys_in_order (keys_of (map is_read_entry items))) (all_proper (map is_read_entry items)) read.1 in
+    let parts = and_parts (are_keys_in_order (keys_of (map is_read_entry items))) (all_proper (map is_read_entry items)) read.1 in
     let order : are_keys_in_order (map (λ (j : DictItem). j.key) items) ≡ true = sym (ap are_keys_in_order (read_keys items)) ∙ parts.0 in
     let level : suc (deepest (map item_depth items)) + length d.outer ≤ 64 = subst (λ n. n + length d.outer ≤ 64) (fold.of_dict ℕ ℕ depth_step depth_item items) deep in
     let inner : ValueDraft = in_dict place.EntryType Untyped [] dict.Dictionary [] (d.outer ++ d.level ∷ []) in

@@ -4,10 +4,11 @@ use Rattle.std.specs.Prelude.{codes}
 use Rattle.std.specs.Str.{chars, is_utf8}
 use Rattle.std.proofs.lemmas.Str.{chars-nil}
 use Rattle.std.proofs.lemmas.Bool.Decides.{nat_tests}
+use Rattle.std.proofs.lemmas.Bool.{and_parts, not-true}
 use Rattle.usd_names.specs.Names.{is_start, is_name, spells_joined, is_number_word}
 use Rattle.sdf_values.specs.NumberTexts.{is_digit}
 use Rattle.unicode_ident.proofs.Computing.{unicode_ident}
-use Rattle.usda_grammar.specs.declared.kinds.TokenKind.{TokenKind}
+use Rattle.usda_grammar.specs.declared.kinds.WordKind.{WordKind}
 use Rattle.usda_lexer.specs.declared.token.TokenKind.TheVariants as kind
 use Rattle.usda_lexer.specs.Forms.{digits_len}
 use Rattle.usda_lexer.specs.Words.{Word as Token, Lexing, lexing_from}
@@ -17,7 +18,6 @@ use Rattle.value_texts.specs.Cuts.{before}
 use Rattle.value_texts.specs.Words.{told_of, as_word, IsWorded}
 use Rattle.value_texts.specs.Follows.{ends_name}
 use Rattle.value_texts.specs.ValueWords.{name_said, dot}
-use Rattle.value_texts.proofs.NumberParts.{both}
 use Rattle.value_texts.proofs.NumberTokens.{starts_no_digit}
 use Rattle.value_texts.proofs.NameTokens.{chars_ascii, name_begins, name_found}
 use Rattle.value_texts.proofs.MarkTokens as found
@@ -25,21 +25,17 @@ use Rattle.value_texts.proofs.Pieces.{word_at, token_lexed}
 
 -- a name is no empty text
 name_some : (t : List ℕ) → is_name t ≡ true → 0 < length t
-name_some [] h = absurd (let p : spells_joined false [] ≡ true = ap (spells_joined false) (sym chars-nil) ∙ (both _ _ h).0 in cc)
+name_some [] h = absurd (let p : spells_joined false [] ≡ true = ap (spells_joined false) (sym chars-nil) ∙ (and_parts _ _ h).0 in cc)
 name_some (c ∷ t) h = omega arith
-
-not_true : (b : Bool) → not b ≡ true → b ≡ false
-not_true true h = absurd cc
-not_true false h = refl
 
 -- a name and the tokens behind it
 name_lexed : (at : ℕ) (t rest : List ℕ) → is_utf8 t ≡ true → is_name t ≡ true → ends_name rest ≡ true
     → lexing_from 0 at (t ++ rest) ≡ before (word_at at kind.Name t ∷ []) (lexing_from 0 (at + length t) rest)
 name_lexed at [] rest u h e = absurd (omega (arith, name_some [] h))
 name_lexed at (c ∷ t) rest u h e =
-    let p = both (spells_joined false (chars (c ∷ t))) (not (is_number_word (c ∷ t))) h in
+    let p = and_parts (spells_joined false (chars (c ∷ t))) (not (is_number_word (c ∷ t))) h in
     token_lexed at kind.Name c t rest (name_begins c t (t ++ rest) u p.0)
-    (name_found at (c ∷ t) rest u p.0 e (omega arith) ∙ ap (λ b. Ok ((cond b kind.Number kind.Name), length (c ∷ t))) (not_true (is_number_word (c ∷ t)) p.1))
+    (name_found at (c ∷ t) rest u p.0 e (omega arith) ∙ ap (λ b. Ok ((cond b kind.Number kind.Name), length (c ∷ t))) (not-true (is_number_word (c ∷ t)) p.1))
 
 -- no digit begins a name
 no_digit : (t rest : List ℕ) → is_utf8 t ≡ true → is_name t ≡ true → digits_len (t ++ rest) ≡ 0
@@ -50,17 +46,17 @@ no_digit (c ∷ t) rest u h = ap (λ b. cond b (1 + digits_len (t ++ rest)) 0) (
     first false e = refl
     first true e =
         let low : c < 128 = grind (arith, nat_tests) in
-        let starts : is_start c ≡ true = (both (is_start c) (spells_joined true (chars t)) (ap (spells_joined false) (sym (chars_ascii c t low)) ∙ (both _ _ h).0)).0 in
+        let starts : is_start c ≡ true = (and_parts (is_start c) (spells_joined true (chars t)) (ap (spells_joined false) (sym (chars_ascii c t low)) ∙ (and_parts _ _ h).0)).0 in
         absurd (let none = starts_no_digit c e in cc)
 
-joined : (b : Before) (start : ℕ) (k : TokenKind) → start ≡ b.end → kind_behind b start k ≡ k
+joined : (b : Before) (start : ℕ) (k : WordKind) → start ≡ b.end → kind_behind b start k ≡ k
 joined b start k e = ap (λ x. if_joined ((b.is_dot || is_dot k) && not x) k) (eq-eqb start b.end e) ∙ never (b.is_dot || is_dot k)
   where
     never : (x : Bool) → if_joined (x && false) k ≡ k
     never true = refl
     never false = refl
 
-plain : (b : Before) (start : ℕ) (k : TokenKind) → b.is_dot ≡ false → is_dot k ≡ false → kind_behind b start k ≡ k
+plain : (b : Before) (start : ℕ) (k : WordKind) → b.is_dot ≡ false → is_dot k ≡ false → kind_behind b start k ≡ k
 plain b start k h e = ap (λ x. if_joined ((x || is_dot k) && not (start == b.end)) k) h ∙ ap (λ x. if_joined (x && not (start == b.end)) k) e
 
 told_as : (b : Before) (t : Token) → kind_behind b t.start (kind_of t.kind t.text) ≡ kind_of t.kind t.text → told_of (worded_at b t) ≡ as_word (record { kind = t.kind; text = t.text })

@@ -3,6 +3,7 @@ use Rattle.std.proofs.Common.{◌≡◌, ◌∙◌, ℕ, ◌==◌, nat_le, Bool,
 use Rattle.std.specs.Prelude.{if◌then◌else◌, ◌↔◌, ◌⊎◌, codes}
 use Rattle.std.specs.List.{list_all}
 use Rattle.std.specs.Cmp.Lexicographic.{pointwise, bytes_decides}
+use Rattle.std.proofs.lemmas.Bool.{and_parts}
 use Rattle.plain_data.specs.Ends.{last, front, last-push, front-push}
 use Rattle.sdf_values.specs.declared.refusal.RefusalKind.TheVariants.{Syntax, ValueShape, TooDeep, DuplicateSpec}
 use Rattle.sdf_values.specs.declared.type_name.ElementType.{ElementType}
@@ -15,13 +16,13 @@ use Rattle.usda_grammar.specs.Values.{dictionary_entries}
 use Rattle.usda_grammar.specs.Words.{keyword_of, prim_word, property_word, field_word, layer_word, or_else, is}
 use Rattle.usda_grammar.specs.declared.kinds.Keyword.{Keyword}
 use Rattle.usda_grammar.specs.declared.kinds.Keyword.TheVariants as word
-use Rattle.usda_grammar.specs.declared.kinds.TokenKind.{TokenKind}
-use Rattle.usda_grammar.specs.declared.kinds.TokenKind.TheVariants as kind
+use Rattle.usda_grammar.specs.declared.kinds.WordKind.{WordKind}
+use Rattle.usda_grammar.specs.declared.kinds.WordKind.TheVariants as kind
 use Rattle.usda_grammar.specs.declared.symbols.Symbol.{Symbol}
 use Rattle.usda_grammar.specs.declared.symbols.Symbol.TheVariants as symbol
 use Rattle.usda_lexer.specs.Meanings.{string_text, path_text}
 use Rattle.usda_lexer.specs.declared.token.Mark.TheVariants as mark
-use Rattle.usda_lexer.specs.declared.token.TokenKind.{TokenKind as Form}
+use Rattle.usda_lexer.specs.declared.token.TokenKind.{TokenKind}
 use Rattle.usda_lexer.specs.declared.token.TokenKind.TheVariants as form
 use Rattle.usda_values.specs.Drafts.{Acted, value_act, act_at, act_value, act_entry, act_key, put_act, given, give, behind_value, is_full, is_lacking, is_statement, is_complete, is_complete_at, open_members, open_dict, deeper, close_act, go_out, wrap_as, new_level, type_act, typed_entry, find_element, key_act}
 use Rattle.usda_values.specs.Entries.{has_key}
@@ -42,11 +43,10 @@ use Rattle.usda_lexer.specs.declared.token.LexFault.TheVariants as lex_fault
 use Rattle.usda_words.specs.Words.{Word, kind_of, words_behind, if_joined, is_dot, behind, at_start}
 use Rattle.usda_words.specs.declared.word.Before.{Before}
 use Rattle.value_texts.specs.Following.{awaited, awaited_at, awaited_behind, awaited_outside, awaited_entry, is_formed, is_place_of, is_inner, are_levels, IsNoPath, GoesWith, IsOfToken, AreOfTokens, AreFollowing}
-use Rattle.value_texts.proofs.NumberParts.{both}
 use Rattle.value_texts.proofs.LevelsFollow.{outside_push, levels_push, levels_pop, Pushed, stands_in, draft, formed, give_bracket, behind_goes}
 use Rattle.value_texts.proofs.PlainTakes.{Plain, plain_value, Said, said}
 
-module _ (f : Form) (text : List ℕ) (below : List Symbol) where
+module _ (f : TokenKind) (text : List ℕ) (below : List Symbol) where
   -- ---- a level more
 
   deeper_goes : (p : Place) (n : Level) (d : ValueDraft) (after : List Symbol) → is_statement n.bracket ≡ false → is_place_of p n.bracket ≡ true → are_levels d.outer d.level.bracket ≡ true
@@ -192,11 +192,11 @@ entry_begins _ = refl
 -- ---- each place
 
 -- What the draft answers goes with what the grammar does: it takes the token and leaves these symbols, or it does not.
-abbrev pub Agrees : Form → List ℕ → List Symbol → Acted → Option (Symbol × List Symbol) → Type 0
+abbrev pub Agrees : TokenKind → List ℕ → List Symbol → Acted → Option (Symbol × List Symbol) → Type 0
 Agrees f text below r None = r ≡ Err Syntax
 Agrees f text below r (Some s) = GoesWith f text below s.1 r
 
-value_goes : (f : Form) (text : List ℕ) (below : List Symbol) (d : ValueDraft) → are_levels d.outer d.level.bracket ≡ true
+value_goes : (f : TokenKind) (text : List ℕ) (below : List Symbol) (d : ValueDraft) → are_levels d.outer d.level.bracket ≡ true
     → Agrees f text below (act_value f text d) (step (symbol.Value ∷ ((awaited_behind d.level.bracket ++ awaited_outside d.outer) ++ below)) (kind_of f text))
 unfolding token_value
 value_goes (form.Mark mark.OpenParen) text below d h =
@@ -219,7 +219,7 @@ within p b l outer = draft p (record l { bracket = b }) outer
 -- a draft agrees with the grammar at a place
 abbrev pub AgreesAt : Place → Bracket → Type 0
 AgreesAt p b =
-    (f : Form) (text : List ℕ) (below : List Symbol) (l : Level) (outer : List Level) → are_levels outer b ≡ true
+    (f : TokenKind) (text : List ℕ) (below : List Symbol) (l : Level) (outer : List Level) → are_levels outer b ≡ true
     → Agrees f text below (act_at p f text (within p b l outer)) (step (awaited (within p b l outer) ++ below) (kind_of f text))
 
 at_value : (b : Bracket) → AgreesAt place.Value b
@@ -267,13 +267,13 @@ type_goes p text below l outer h =
     by_word true = (h, refl)
     by_word false = by_element (find_element ELEMENTS text)
 
-entry_goes : (p : Place) (f : Form) (text : List ℕ) (below : List Symbol) (l : Level) (outer : List Level) → are_levels outer bracket.Dict ≡ true
+entry_goes : (p : Place) (f : TokenKind) (text : List ℕ) (below : List Symbol) (l : Level) (outer : List Level) → are_levels outer bracket.Dict ≡ true
     → Agrees f text below (act_entry f text (within p bracket.Dict l outer)) (step (symbol.DictionaryEntries ∷ symbol.CloseBrace ∷ (awaited_outside outer ++ below)) (kind_of f text))
 entry_goes p (form.Mark mark.CloseBrace) text below l outer h = close_goes (form.Mark mark.CloseBrace) text below (within p bracket.Dict l outer) (awaited_outside outer ++ below) h refl refl
 entry_goes p form.Name text below l outer h = type_goes p text below l outer h
 entry_goes p _ text below l outer h = refl
 
-key_goes : (p : Place) (f : Form) (text : List ℕ) (below : List Symbol) (l : Level) (outer : List Level) → are_levels outer bracket.Dict ≡ true
+key_goes : (p : Place) (f : TokenKind) (text : List ℕ) (below : List Symbol) (l : Level) (outer : List Level) → are_levels outer bracket.Dict ≡ true
     → Agrees f text below (act_key f text (within p bracket.Dict l outer)) (step ((awaited_entry ++ awaited_outside outer) ++ below) (kind_of f text))
 key_goes p form.Name text below l outer h =
     key_goes_on form.Name text below (within p bracket.Dict l outer) (((symbol.Equals ∷ symbol.Value ∷ awaited_behind bracket.Dict) ++ awaited_outside outer) ++ below) (Some text) refl h refl
@@ -319,10 +319,10 @@ agrees_at place.BehindEntry bracket.Dict fits open' = behind_entry
 agrees_at place.Dictionary bracket.Statement fits open' = dictionary
 agrees_at _ _ fits open' = absurd cc
 
-agrees : (d : ValueDraft) (f : Form) (text : List ℕ) (below : List Symbol) → is_formed d ≡ true → is_complete d ≡ false → Agrees f text below (value_act f text d) (step (awaited d ++ below) (kind_of f text))
+agrees : (d : ValueDraft) (f : TokenKind) (text : List ℕ) (below : List Symbol) → is_formed d ≡ true → is_complete d ≡ false → Agrees f text below (value_act f text d) (step (awaited d ++ below) (kind_of f text))
 unfolding value_act
 agrees d f text below h open' =
-    let p = both (is_place_of d.place d.level.bracket) (are_levels d.outer d.level.bracket) h in
+    let p = and_parts (is_place_of d.place d.level.bracket) (are_levels d.outer d.level.bracket) h in
     agrees_at d.place d.level.bracket p.0 open' f text below d.level d.outer p.1
 
 -- no place takes a fault
@@ -346,13 +346,13 @@ pub taken : (d : ValueDraft) (w : Word) (below : List Symbol) (s : Symbol) (afte
 taken d w below s after h open' (inl is) e =
     subst (Agrees w.token w.text below (value_act w.token w.text d)) (ap (step (awaited d ++ below)) (sym is) ∙ e) (agrees d w.token w.text below h open')
 taken d w below s after h open' (inr is) e =
-    let fits = (both (is_place_of d.place d.level.bracket) (are_levels d.outer d.level.bracket) h).0 in
+    let fits = (and_parts (is_place_of d.place d.level.bracket) (are_levels d.outer d.level.bracket) h).0 in
     let none : step (awaited d ++ below) w.kind ≡ None =
     ap (step (awaited d ++ below)) is ∙ ap (λ x. step x kind.Fault) (append_assoc (awaited_at d.place d.level.bracket) (awaited_outside d.outer) below)
     ∙ no_fault d.place d.level.bracket (awaited_outside d.outer ++ below) fits open' in
     absurd cc
 
-pub refused : (d : ValueDraft) (f : Form) (text : List ℕ) (below : List Symbol) → is_formed d ≡ true → is_complete d ≡ false
+pub refused : (d : ValueDraft) (f : TokenKind) (text : List ℕ) (below : List Symbol) → is_formed d ≡ true → is_complete d ≡ false
     → step (awaited d ++ below) (kind_of f text) ≡ None → value_act f text d ≡ Err Syntax
 refused d f text below h open' e = subst (Agrees f text below (value_act f text d)) e (agrees d f text below h open')
 
@@ -360,14 +360,14 @@ refused d f text below h open' e = subst (Agrees f text below (value_act f text 
 
 pub complete : (d : ValueDraft) → is_formed d ≡ true → is_complete d ≡ true → awaited d ≡ []
 complete d h e =
-    let p = both (is_place_of d.place d.level.bracket) (are_levels d.outer d.level.bracket) h in
+    let p = and_parts (is_place_of d.place d.level.bracket) (are_levels d.outer d.level.bracket) h in
     at d.place d.level.bracket d.outer e p.0 p.1
   where
     at : (p : Place) (b : Bracket) (outer : List Level) → is_complete_at p ≡ true → is_place_of p b ≡ true → are_levels outer b ≡ true → awaited_at p b ++ awaited_outside outer ≡ []
     at place.Complete bracket.Statement [] is fits levels = refl
     at place.Complete bracket.Statement (l ∷ ls) is fits levels =
-        let p = both (is_statement l.bracket) (list_all is_inner ls && false) levels in
-        let q = both (list_all is_inner ls) false p.1 in
+        let p = and_parts (is_statement l.bracket) (list_all is_inner ls && false) levels in
+        let q = and_parts (list_all is_inner ls) false p.1 in
         absurd (cc q.1)
     at _ _ outer is fits levels = absurd cc
 
@@ -417,7 +417,7 @@ too_long d text at = number_at d.place d.level.bracket d.level d.outer text at
 
 -- ---- the words of a text
 
-joined : (k : TokenKind) (b : Bool) → (if_joined b k ≡ k) ⊎ (if_joined b k ≡ kind.Fault)
+joined : (k : WordKind) (b : Bool) → (if_joined b k ≡ k) ⊎ (if_joined b k ≡ kind.Fault)
 joined k true = inr refl
 joined k false = inl refl
 

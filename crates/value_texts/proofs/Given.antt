@@ -1,12 +1,14 @@
 -- Tokens that are given to a draft.
-use Rattle.std.proofs.Common.{◌≡◌, ◌∙◌, ℕ, zero, suc, ◌+◌, ◌<◌, ◌≤◌, ◌==◌, nat_le, Bool, true, false, List, [], ◌∷◌, ◌++◌, append_assoc, append-nil, length, length-append, map, Option, Some, None, Ok, Err, ap, sym, refl, arith}
+use Rattle.std.proofs.Common.{◌≡◌, ◌∙◌, ℕ, zero, suc, ◌+◌, ◌<◌, ◌≤◌, ◌==◌, nat_le, true, false, List, [], ◌∷◌, ◌++◌, append_assoc, append-nil, length, length-append, map, Option, Some, None, Ok, Err, ap, sym, refl, arith}
 use Rattle.std.specs.Prelude.{if◌then◌else◌}
 use Rattle.std.proofs.lemmas.Bool.Decides.{nat_tests}
+use Rattle.std.proofs.lemmas.Bool.{and_parts}
 use Rattle.plain_data.specs.Ends.{last, front, last-push, front-push}
 use Rattle.sdf_values.specs.Proper.{all_true}
 use Rattle.sdf_values.specs.declared.refusal.RefusalKind.TheVariants.{ValueShape, TooDeep}
 use Rattle.sdf_values.specs.declared.value.DictType.TheVariants as dict
 use Rattle.sdf_values.specs.declared.value.Value.{Value}
+use Rattle.sdf_values.proofs.Values.{Each}
 use Rattle.usda_lexer.specs.declared.token.TokenKind.{TokenKind}
 use Rattle.usda_values.specs.declared.shape.Shape.{Shape}
 use Rattle.usda_values.specs.declared.level.Bracket.{Bracket}
@@ -16,21 +18,19 @@ use Rattle.usda_values.specs.declared.level.Level.{Level}
 use Rattle.usda_values.specs.declared.draft.ValueDraft.{ValueDraft}
 use Rattle.usda_values.specs.Scalars.{token_value}
 use Rattle.usda_values.specs.Shapes.{take_value, Members}
-use Rattle.usda_values.specs.Drafts.{Acted, new_level, one_fewer, is_full, is_lacking, give, give_act, given, put_act, is_statement, behind_value, deeper, open_members, close_act, go_out, wrap_as, closes, act_value, act_at, value_act}
+use Rattle.usda_values.specs.Drafts.{Acted, new_level, one_fewer, is_full, is_lacking, give, give_act, given, put_act, is_statement, behind_value, deeper, open_members, close_act, go_out, wrap_as, closes, act_value, act_at, value_act, awaits_value}
 use Rattle.value_texts.specs.Cuts.{Said}
 use Rattle.value_texts.specs.Acts.{acts}
 use Rattle.value_texts.specs.Writable.{is_writable}
 use Rattle.value_texts.specs.ValueWords.{words_of_value, more_said, listed_said, comma}
 use Rattle.value_texts.specs.Readable.{is_read_as, all_read, depth, deepest}
-use Rattle.value_texts.proofs.NumberParts.{both}
-use Rattle.value_texts.proofs.Values.{Each}
 use Rattle.value_texts.proofs.Leaves.{Gives}
 
 -- one token, and then the others
 pub acts_one : (w : Said) (ws : List Said) (d e : ValueDraft) → value_act w.kind w.text d ≡ Ok e → acts (w ∷ ws) d ≡ acts ws e
 acts_one w ws d e h = ap (λ (r : Acted). elim r as (λ _. Acted) [ Ok next ↦ acts ws next | Err k ↦ Err k ]) h
 
-abbrev Then : List Said → Acted → Acted
+abbrev pub Then : List Said → Acted → Acted
 Then ws r = elim r as (λ _. Acted) [ Ok next ↦ acts ws next | Err k ↦ Err k ]
 
 pub acts_then : (a b : List Said) (d e : ValueDraft) → acts a d ≡ Ok e → acts (a ++ b) d ≡ acts b e
@@ -41,26 +41,20 @@ acts_then (w ∷ a) b d e h = cases (value_act w.kind w.text d) h (λ next k. ac
     cases (Ok next) k more = more next k
     cases (Err k) g more = absurd cc
 
--- a value has to come
-abbrev pub awaits : Place → Bool
-awaits place.Value = true
-awaits place.ValueOrEnd = true
-awaits p = false
-
 abbrev pub ClosesNone : TokenKind → Type 0
 ClosesNone k = (b : Bracket) → closes b k ≡ false
 
-pub first_token : (k : TokenKind) (text : List ℕ) (d : ValueDraft) → awaits d.place ≡ true → ClosesNone k → value_act k text d ≡ act_value k text d
+pub first_token : (k : TokenKind) (text : List ℕ) (d : ValueDraft) → awaits_value d.place ≡ true → ClosesNone k → value_act k text d ≡ act_value k text d
 unfolding value_act
 first_token k text d h none = at_place d.place h
   where
-    at_place : (p : Place) → awaits p ≡ true → act_at p k text d ≡ act_value k text d
+    at_place : (p : Place) → awaits_value p ≡ true → act_at p k text d ≡ act_value k text d
     at_place place.Value e = refl
     at_place place.ValueOrEnd e = ap (λ b. if b then close_act d else act_value k text d) (none d.level.bracket)
     at_place _ e = absurd cc
 
 -- a value of one token
-pub leaf_given : (w : Said) (v : Value) (d : ValueDraft) → awaits d.place ≡ true → is_full d.level.room ≡ false → ClosesNone w.kind → act_value w.kind w.text d ≡ put_act (token_value w.kind w.text) d
+pub leaf_given : (w : Said) (v : Value) (d : ValueDraft) → awaits_value d.place ≡ true → is_full d.level.room ≡ false → ClosesNone w.kind → act_value w.kind w.text d ≡ put_act (token_value w.kind w.text) d
     → Gives w.kind w.text d.level.item (is_statement d.level.bracket) v → acts (w ∷ []) d ≡ Ok (give_act v d)
 leaf_given w v d h room none put gives =
     acts_one w [] d (give_act v d)
@@ -70,7 +64,7 @@ leaf_given w v d h room none put gives =
 -- what is to be shown of a value: its tokens put it into a draft
 abbrev pub IsGiven : Value → Type 0
 IsGiven v =
-    (d : ValueDraft) → awaits d.place ≡ true → is_full d.level.room ≡ false → is_writable v ≡ true → is_read_as v d.level.item (is_statement d.level.bracket) ≡ true
+    (d : ValueDraft) → awaits_value d.place ≡ true → is_full d.level.room ≡ false → is_writable v ≡ true → is_read_as v d.level.item (is_statement d.level.bracket) ≡ true
     → depth v + length d.outer ≤ 64 → acts (words_of_value v) d ≡ Ok (give_act v d)
 
 -- so many members are to come
@@ -129,7 +123,7 @@ module _ (b : Bracket) (close : Said) (wrap : List Value → Value) (is : IsList
       (is.ends item room values (outer ++ l ∷ []) ∙ went_out l outer d refl h ∙ ap (λ v. Ok (closed l outer v)) (is.wraps item room values (outer ++ l ∷ [])))
 
   -- one member, where it has to come
-  one_given : (v : Value) (p : Place) (room : Option ℕ) (values : List Value) → IsGiven v → awaits p ≡ true → is_full room ≡ false → is_writable v ≡ true → is_read_as v item false ≡ true
+  one_given : (v : Value) (p : Place) (room : Option ℕ) (values : List Value) → IsGiven v → awaits_value p ≡ true → is_full room ≡ false → is_writable v ≡ true → is_read_as v item false ≡ true
       → depth v + suc (length outer) ≤ 64 → acts (words_of_value v) (within p b item room values (outer ++ l ∷ [])) ≡ Ok (within place.BehindMember b item (one_fewer room) (values ++ v ∷ []) (outer ++ l ∷ []))
   one_given v p room values given h full w r deep =
       given (within p b item room values (outer ++ l ∷ [])) h full w (ap (is_read_as v item) is.inner ∙ r) (omega (arith, deep, length-append outer (l ∷ [])))
@@ -140,8 +134,8 @@ module _ (b : Bracket) (close : Said) (wrap : List Value → Value) (is : IsList
       → acts (more_said (map words_of_value vs) ++ close ∷ []) (within place.BehindMember b item room values (outer ++ l ∷ [])) ≡ Ok (closed l outer (wrap (values ++ vs)))
   more_given [] room values each w r deep fits = ended room values (fits_all room fits) ∙ ap (λ x. Ok (closed l outer (wrap x))) (sym (append-nil values))
   more_given (v ∷ vs) room values each w r deep fits =
-      let p = both (is_writable v) (all_true (map is_writable vs)) w in
-      let q = both (is_read_as v item false) (all_read (map is_read_as vs) item) r in
+      let p = and_parts (is_writable v) (all_true (map is_writable vs)) w in
+      let q = and_parts (is_read_as v item false) (all_read (map is_read_as vs) item) r in
       let f = fits_more room (length vs) fits in
       let more : List Said = more_said (map words_of_value vs) in
       acts_one comma ((words_of_value v ++ more) ++ close ∷ []) (within place.BehindMember b item room values (outer ++ l ∷ [])) (within place.ValueOrEnd b item room values (outer ++ l ∷ [])) (is.parts item room values (outer ++ l ∷ []))
@@ -151,12 +145,12 @@ module _ (b : Bracket) (close : Said) (wrap : List Value → Value) (is : IsList
       ∙ more_given vs (one_fewer room) (values ++ v ∷ []) each.1 p.1 q.1 (omega (arith, deep)) f.1
       ∙ ap (λ x. Ok (closed l outer (wrap x))) (append_assoc values (v ∷ []) vs)
 
-  pub listed_given : (v : Value) (vs : List Value) (p : Place) (room : Option ℕ) → awaits p ≡ true → Each IsGiven (v ∷ vs) → all_true (map is_writable (v ∷ vs)) ≡ true → all_read (map is_read_as (v ∷ vs)) item ≡ true
+  pub listed_given : (v : Value) (vs : List Value) (p : Place) (room : Option ℕ) → awaits_value p ≡ true → Each IsGiven (v ∷ vs) → all_true (map is_writable (v ∷ vs)) ≡ true → all_read (map is_read_as (v ∷ vs)) item ≡ true
       → deepest (map depth (v ∷ vs)) + suc (length outer) ≤ 64 → Fits room (suc (length vs))
       → acts (listed_said (map words_of_value (v ∷ vs)) ++ close ∷ []) (within p b item room [] (outer ++ l ∷ [])) ≡ Ok (closed l outer (wrap (v ∷ vs)))
   listed_given v vs p room h each w r deep fits =
-      let x = both (is_writable v) (all_true (map is_writable vs)) w in
-      let y = both (is_read_as v item false) (all_read (map is_read_as vs) item) r in
+      let x = and_parts (is_writable v) (all_true (map is_writable vs)) w in
+      let y = and_parts (is_read_as v item false) (all_read (map is_read_as vs) item) r in
       let f = fits_more room (length vs) fits in
       let more : List Said = more_said (map words_of_value vs) in
       ap (λ x. acts x (within p b item room [] (outer ++ l ∷ []))) (append_assoc (words_of_value v) more (close ∷ []))

@@ -6,6 +6,7 @@ use Rattle.std.specs.Prelude.{if◌then◌else◌, codes, ℤ, unsigned_abs, nat
 use Rattle.std.specs.Option.{is_none}
 use Rattle.std.specs.Str.{is_utf8}
 use Rattle.std.proofs.lemmas.Bool.Decides.{nat_tests}
+use Rattle.std.proofs.lemmas.Bool.{not-true}
 use Rattle.sdf_values.specs.Numbers.{DecimalNumber, IsDecimal}
 use Rattle.sdf_values.specs.Scales.{IsTime}
 use Rattle.sdf_values.specs.Conforms.{is_element, holds_step}
@@ -231,16 +232,12 @@ word_token : (t : List ℕ) → is_none_word t ≡ false → token_value kind.Na
 unfolding token_value
 word_token t h = ap (λ b. Ok (if b then value.Block else value.Word t)) h
 
-not_true : (b : Bool) → not b ≡ true → b ≡ false
-not_true true h = absurd cc
-not_true false h = refl
-
 no_word : (x : List ℕ) (e : ElementType) → is_element (Value-F.Word x) e ≡ true → ⊥
 no_word x _ h = cc
 
 pub word_gives : (t : List ℕ) (shape : Shape) (s : Bool) → reading_step (Value-F.Word t) shape s ≡ true → Gives kind.Name t shape s (value.Word t)
-word_gives t Untyped s h = (value.Word t, word_token t (not_true (is_none_word t) h), refl)
-word_gives t Metadata s h = (value.Word t, word_token t (not_true (is_none_word t) h), refl)
+word_gives t Untyped s h = (value.Word t, word_token t (not-true (is_none_word t) h), refl)
+word_gives t Metadata s h = (value.Word t, word_token t (not-true (is_none_word t) h), refl)
 word_gives t (Typed ty) s h =
     let p = no_array ty.array (is_element (Value-F.Word t) ty.element) (typed_part s (holds_step (Value-F.Word t) ty) h) in
     absurd (no_word t ty.element p.1)

@@ -76,7 +76,7 @@ short : (at n : ℕ) (d : Option DecimalNumber) → 0 < n → IsLong (if_short a
 short at n None h = tt
 short at n (Some d) h = h
 
-some_len : (n : ℕ) → (n == 0) ≡ false → 0 < n
+pub some_len : (n : ℕ) → (n == 0) ≡ false → 0 < n
 some_len n h = grind (arith, nat_tests)
 
 number : (at n : ℕ) (bytes : List ℕ) → IsLong (number_or_mark at n bytes)

@@ -10,7 +10,6 @@ pub mod NumberTokens
 pub mod MarkTokens
 pub mod StringTokens
 pub mod AssetTokens
-pub mod Values
 pub mod Tens
 pub mod PrintedNumbers
 pub mod TypeTexts
@@ -32,6 +31,8 @@ pub mod TypedReads
 pub mod PathsWritable
 pub mod Dotted
 pub mod AsciiTests
+pub mod EachOf
+pub mod Tests
 pub mod QuotedNames
 pub mod DecimalTests
 pub mod ListCuts

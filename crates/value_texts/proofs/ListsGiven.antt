@@ -1,6 +1,7 @@
 -- Tuples and arrays that are given to a draft.
 use Rattle.std.proofs.Common.{◌≡◌, ◌∙◌, ℕ, suc, ◌+◌, ◌≤◌, ◌&&◌, ◌==◌, Bool, true, false, List, [], ◌∷◌, ◌++◌, length, map, Option, Some, None, Ok, ap, sym, refl, subst, arith, eqb-true}
 use Rattle.std.specs.Prelude.{if◌then◌else◌}
+use Rattle.std.proofs.lemmas.Bool.{and_parts}
 use Rattle.sdf_values.specs.Proper.{all_true}
 use Rattle.sdf_values.specs.Conforms.{count_of, role_width, matrix_width, one, members_of, all_hold, are_members, holds_step}
 use Rattle.sdf_values.specs.declared.type_name.Width.{Width}
@@ -11,6 +12,7 @@ use Rattle.sdf_values.specs.declared.type_name.TypeName.{TypeName}
 use Rattle.sdf_values.specs.declared.value.Value.{Value}
 use Rattle.sdf_values.specs.declared.value.Value.TheOpen.{Value-F}
 use Rattle.sdf_values.specs.declared.value.Value.TheVariants as value
+use Rattle.sdf_values.proofs.Values.{Each}
 use Rattle.usda_values.specs.declared.shape.Shape.{Shape}
 use Rattle.usda_values.specs.declared.shape.Shape.TheVariants.{Untyped, Metadata, Typed, Dictionary}
 use Rattle.usda_values.specs.declared.level.Bracket.{Bracket}
@@ -24,9 +26,7 @@ use Rattle.value_texts.specs.Acts.{acts}
 use Rattle.value_texts.specs.Writable.{is_writable, writable_step, writable_item}
 use Rattle.value_texts.specs.ValueWords.{words_of_value, said_step, said_item, listed_said, open_paren, close_paren, open_bracket, close_bracket}
 use Rattle.value_texts.specs.Readable.{Reading, is_read_as, reading_step, reading_item, all_read, is_some_list, typed, depth, depth_step, depth_item, deepest}
-use Rattle.value_texts.proofs.NumberParts.{both}
-use Rattle.value_texts.proofs.Values as fold
-use Rattle.value_texts.proofs.Values.{Each}
+use Rattle.sdf_values.proofs.Values as fold
 use Rattle.value_texts.proofs.Leaves.{typed_part, no_array}
 use Rattle.value_texts.proofs.Given.{acts_one, first_token, opened, went_out, within, closed, IsList, IsGiven, Fits, fits_all as none_lacking, listed_given}
 
@@ -81,7 +81,7 @@ length_typed (r ∷ rs) = ap suc (length_typed rs)
 counted : (o : Option (ElementType × ℕ)) (rs : List Reading) → are_members o (map typed rs) ≡ true → Expects (counted_members o) rs
 counted None rs h = absurd cc
 counted (Some m) rs h =
-    let p = both (length (map typed rs) == m.1) (all_hold (map typed rs) (one m.0)) h in
+    let p = and_parts (length (map typed rs) == m.1) (all_hold (map typed rs) (one m.0)) h in
     record {
       item = Typed (one m.0);
       room = Some m.1;
@@ -91,8 +91,8 @@ counted (Some m) rs h =
     }
 
 expects_tuple : (rs : List Reading) (shape : Shape) (s : Bool) → reading_step (Value-F.Tuple rs) shape s ≡ true → Expects (tuple_members shape) rs
-expects_tuple rs Untyped s h = let p = both (is_some_list rs) (all_read rs Untyped) h in record { item = Untyped; room = None; is = refl; read = p.1; fits = tt }
-expects_tuple rs Metadata s h = let p = both (is_some_list rs) (all_read rs Metadata) h in record { item = Metadata; room = None; is = refl; read = p.1; fits = tt }
+expects_tuple rs Untyped s h = let p = and_parts (is_some_list rs) (all_read rs Untyped) h in record { item = Untyped; room = None; is = refl; read = p.1; fits = tt }
+expects_tuple rs Metadata s h = let p = and_parts (is_some_list rs) (all_read rs Metadata) h in record { item = Metadata; room = None; is = refl; read = p.1; fits = tt }
 expects_tuple rs (Typed t) s h =
     let p = no_array t.array (are_members (members_of t.element) (map typed rs)) (typed_part s (holds_step (Value-F.Tuple (map typed rs)) t) h) in
     let e = counted (members_of t.element) rs p.1 in
@@ -131,7 +131,7 @@ expects_array : (rs : List Reading) (shape : Shape) (s : Bool) → reading_step 
 expects_array rs Untyped s h = record { item = Untyped; room = None; is = refl; read = h; fits = tt }
 expects_array rs Metadata s h = record { item = Metadata; room = None; is = refl; read = h; fits = tt }
 expects_array rs (Typed t) s h =
-    let p = both t.array (all_hold (map typed rs) (one t.element)) (typed_part s (holds_step (Value-F.Array (map typed rs)) t) h) in
+    let p = and_parts t.array (all_hold (map typed rs) (one t.element)) (typed_part s (holds_step (Value-F.Array (map typed rs)) t) h) in
     record {
       item = Typed (one t.element);
       room = None;

@@ -7,6 +7,7 @@ use Rattle.usda_lexer.specs.declared.token.Mark.TheVariants.{Dot, OpenParen, Clo
 use Rattle.usda_lexer.specs.declared.token.TokenKind.TheVariants as kind
 use Rattle.usda_lexer.specs.Forms.{digits_len, scaled_len, number_len}
 use Rattle.usda_lexer.specs.Words.{found, name_or_other, number_or_mark, quoted_or_mark}
+use Rattle.sdf_paths.proofs.NameRuns.{start_dot}
 use Rattle.value_texts.proofs.NumberTokens.{no_name}
 
 no_starts : (is_start 40 ≡ false) × (is_start 41 ≡ false) × (is_start 123 ≡ false) × (is_start 125 ≡ false) × (is_start 91 ≡ false) × (is_start 93 ≡ false) × (is_start 61 ≡ false) × (is_start 44 ≡ false)
@@ -54,13 +55,9 @@ at_sign at cs = other at 64 cs (omega arith) no_starts.10
 pub less : (at : ℕ) (cs : List ℕ) → found at (60 ∷ cs) ≡ quoted_or_mark at 60 cs
 less at cs = other at 60 cs (omega arith) no_starts.11
 
-no_dot_start : is_start 46 ≡ false
-unfolding unicode_ident is_start
-no_dot_start = refl
-
 point_len : (cs : List ℕ) → digits_len cs ≡ 0 → number_len (46 ∷ cs) ≡ 0
 point_len cs none = ap (λ n. scaled_len 0 (if (if n == 0 then false else true) then 0 + 1 + n else 0) (46 ∷ cs)) none
 
 -- a point behind which no digit stands is a mark
 pub dot : (at : ℕ) (cs : List ℕ) → digits_len cs ≡ 0 → found at (46 ∷ cs) ≡ Ok (kind.Mark Dot, 1)
-dot at cs none = other at 46 cs (omega arith) no_dot_start ∙ ap (λ n. number_or_mark at n (46 ∷ cs)) (point_len cs none)
+dot at cs none = other at 46 cs (omega arith) start_dot ∙ ap (λ n. number_or_mark at n (46 ∷ cs)) (point_len cs none)

@@ -1,8 +1,8 @@
 -- A name behind which no name goes on is a token.
-use Rattle.std.proofs.Common.{◌≡◌, ◌∙◌, ℕ, zero, suc, ◌+◌, ◌<◌, ◌≤◌, ◌&&◌, ◌||◌, ◌==◌, nat_lt, not, Bool, true, false, List, [], ◌∷◌, ◌++◌, length, length-append, take, Some, None, Ok, ap, sym, refl, subst, arith, eqb-true, inl, inr}
+use Rattle.std.proofs.Common.{◌≡◌, ◌∙◌, ℕ, ◌+◌, ◌<◌, ◌≤◌, ◌&&◌, ◌||◌, ◌==◌, nat_lt, not, Bool, true, false, List, [], ◌∷◌, ◌++◌, length, length-append, take, Some, None, Ok, ap, sym, refl, subst, arith, eqb-true, inl, inr}
 use Rattle.std.specs.Prelude.{if◌then◌else◌, encode_utf8}
 use Rattle.std.specs.Char.{len_utf8}
-use Rattle.std.specs.Str.{chars, is_utf8, IsUtf8, IsAscii, encode_utf8_all}
+use Rattle.std.specs.Str.{chars, is_utf8, IsUtf8, encode_utf8_all}
 use Rattle.std.proofs.lemmas.Bool.Decides.{nat_tests}
 use Rattle.std.proofs.lemmas.Str.{chars-append, chars-nil, chars-IsAscii, encodes-chars, length-encode, IsUtf8-from_is_utf8, IsUtf8-from_ascii}
 use Rattle.unicode_ident.specs.Ident.{is_xid_continue}
@@ -13,19 +13,11 @@ use Rattle.usda_lexer.specs.Words.{found, name_or_other, name_kind, number_or_ma
 use Rattle.usda_lexer.specs.Forms.{number_len}
 use Rattle.usda_lexer.specs.Blanks.{is_blank, begins, between_from}
 use Rattle.usda_lexer.specs.declared.blanks.Between.TheVariants.{Blank, Slash, Line, Opening}
-use Rattle.std.proofs.lemmas.Bool.{cases_lt}
+use Rattle.std.proofs.lemmas.Bool.{cases_lt, and_parts}
 use Rattle.sdf_values.proofs.Fractions.{not_zero}
 use Rattle.value_texts.specs.Follows.{ends_name}
 use Rattle.value_texts.proofs.Pieces.{front}
-
-both : (a b : Bool) → (a && b) ≡ true → (a ≡ true) × (b ≡ true)
-both true b e = (refl, e)
-both false b e = absurd cc
-
--- ASCII in front
-one_ascii : (c : ℕ) → c < 128 → IsAscii (c ∷ [])
-one_ascii c h zero = h
-one_ascii c h (suc i) = omega arith
+use Rattle.value_texts.proofs.AsciiTests.{one_ascii}
 
 pub chars_ascii : (c : ℕ) (cs : List ℕ) → c < 128 → chars (c ∷ cs) ≡ c ∷ chars cs
 chars_ascii c cs h =
@@ -34,8 +26,8 @@ chars_ascii c cs h =
 no_more : (n : ℕ) (rest : List ℕ) → ends_name rest ≡ true → name_end true n n (chars rest) ≡ n
 no_more n [] h = ap (name_end true n n) chars-nil
 no_more n (c ∷ cs) h =
-    let x = both (nat_lt c 128) (not (c == 58) && not (is_xid_continue c)) h in
-    let y = both (not (c == 58)) (not (is_xid_continue c)) x.1 in
+    let x = and_parts (nat_lt c 128) (not (c == 58) && not (is_xid_continue c)) h in
+    let y = and_parts (not (c == 58)) (not (is_xid_continue c)) x.1 in
     let low : c < 128 = grind (arith, nat_tests, x.0) in
     ap (name_end true n n) (chars_ascii c cs low)
     ∙ stops (c == 58) (is_xid_continue c) y.0 y.1
@@ -47,10 +39,10 @@ no_more n (c ∷ cs) h =
     stops false false e f = refl
 
 -- how many bytes some characters have
-abbrev width : List ℕ → ℕ
+abbrev pub width : List ℕ → ℕ
 width cs = length (encode_utf8_all cs)
 
-one_wider : (c : ℕ) (cs : List ℕ) (n : ℕ) → (n + len_utf8 c) + width cs ≡ n + width (c ∷ cs)
+pub one_wider : (c : ℕ) (cs : List ℕ) (n : ℕ) → (n + len_utf8 c) + width cs ≡ n + width (c ∷ cs)
 one_wider c cs n = omega (arith, length-append (encode_utf8 c) (encode_utf8_all cs), length-encode c)
 
 whole_name : (begun : Bool) (end n : ℕ) (cs rest : List ℕ) → spells_joined begun cs ≡ true → ends_name rest ≡ true → (begun ≡ true → end ≡ n)
@@ -58,7 +50,7 @@ whole_name : (begun : Bool) (end n : ℕ) (cs rest : List ℕ) → spells_joined
 whole_name true end n [] rest s h e = ap (λ k. name_end true k n (chars rest)) (e refl) ∙ no_more n rest h ∙ omega arith
 whole_name false end n [] rest s h e = absurd cc
 whole_name false end n (c ∷ cs) rest s h e =
-    let p = both (is_start c) (spells_joined true cs) s in
+    let p = and_parts (is_start c) (spells_joined true cs) s in
     ap (λ b. elim b as (λ _. ℕ) [ true ↦ name_end true (n + len_utf8 c) (n + len_utf8 c) (cs ++ chars rest) | false ↦ end ]) p.0
     ∙ whole_name true (n + len_utf8 c) (n + len_utf8 c) cs rest p.1 h (λ _. refl) ∙ one_wider c cs n
 whole_name true end n (c ∷ cs) rest s h e =
@@ -75,7 +67,7 @@ whole_name true end n (c ∷ cs) rest s h e =
         ]) is ∙ f joined ∙ one_wider c cs n
     cases false is f g =
         let joined : (is_xid_continue c && spells_joined true cs) ≡ true = sym (ap (λ b. if b then spells_joined false cs else (is_xid_continue c && spells_joined true cs)) is) ∙ s in
-        let p = both (is_xid_continue c) (spells_joined true cs) joined in
+        let p = and_parts (is_xid_continue c) (spells_joined true cs) joined in
         ap (λ b. elim b as (λ _. ℕ) [
           | true ↦ name_end false end (n + len_utf8 c) (cs ++ chars rest)
           | false ↦ elim (is_xid_continue c) as (λ _. ℕ) [ true ↦ name_end true (n + len_utf8 c) (n + len_utf8 c) (cs ++ chars rest) | false ↦ end ]
@@ -121,14 +113,14 @@ large_begins c cs h =
 
 starts_with : (cs : List ℕ) → spells_joined false cs ≡ true → (c : ℕ) × (ds : List ℕ) × (cs ≡ c ∷ ds) × (is_start c ≡ true)
 starts_with [] h = absurd cc
-starts_with (c ∷ cs) h = (c, cs, refl, (both (is_start c) (spells_joined true cs) h).0)
+starts_with (c ∷ cs) h = (c, cs, refl, (and_parts (is_start c) (spells_joined true cs) h).0)
 
 -- the first byte of a name begins no blank and no comment
 pub name_begins : (b : ℕ) (t rest : List ℕ) → is_utf8 (b ∷ t) ≡ true → spells_joined false (chars (b ∷ t)) ≡ true → between_from b rest ≡ None
 name_begins b t rest u s = elim (cases_lt b 128) [ inl low ↦ ascii low | inr high ↦ large_begins b rest high ]
   where
     ascii : b < 128 → between_from b rest ≡ None
-    ascii low = start_begins b rest (both (is_start b) (spells_joined true (chars t)) (ap (spells_joined false) (sym (chars_ascii b t low)) ∙ s)).0
+    ascii low = start_begins b rest (and_parts (is_start b) (spells_joined true (chars t)) (ap (spells_joined false) (sym (chars_ascii b t low)) ∙ s)).0
 
 -- a name is a token
 pub name_found : (at : ℕ) (t rest : List ℕ) → is_utf8 t ≡ true → spells_joined false (chars t) ≡ true → ends_name rest ≡ true → 0 < length t → found at (t ++ rest) ≡ Ok (name_kind t, length t)

@@ -2,12 +2,13 @@
 use Rattle.std.proofs.Common.{◌≡◌, ◌∙◌, ℕ, zero, suc, ◌+◌, ◌<◌, ◌&&◌, ◌==◌, cond, not, Bool, true, false, List, [], ◌∷◌, ◌++◌, append_assoc, length, length-append, drop, ap, sym, refl, subst, arith}
 use Rattle.std.specs.Prelude.{if◌then◌else◌}
 use Rattle.std.proofs.lemmas.Bool.Decides.{nat_tests}
+use Rattle.std.proofs.lemmas.Bool.{and_parts, not-true}
 use Rattle.sdf_values.proofs.Fractions.{not_zero}
 use Rattle.sdf_values.specs.NumberTexts.{is_digit, is_sign, is_mark, is_digits, is_some_digits, is_exponent, is_unsigned, is_number}
 use Rattle.usda_lexer.specs.Forms.{digits_len, sign_len, with_digits, exponent_len, pointed_len, mantissa_len, scaled_len, behind_sign_len, number_len}
 use Rattle.value_texts.specs.Follows.{ends_number}
 use Rattle.value_texts.proofs.Pieces.{back}
-use Rattle.value_texts.proofs.NumberParts.{both, Back, bare, scaled, unsigned_by}
+use Rattle.value_texts.proofs.NumberParts.{Back, bare, scaled, unsigned_by}
 
 -- no digit in front
 abbrev NoDigit : List ℕ → Type 0
@@ -16,24 +17,20 @@ NoDigit rest = digits_len rest ≡ 0
 no_digit : (c : ℕ) (cs : List ℕ) → is_digit c ≡ false → NoDigit (c ∷ cs)
 no_digit c cs h = ap (λ b. cond b (1 + digits_len cs) 0) h
 
-not_true : (b : Bool) → not b ≡ true → b ≡ false
-not_true true h = absurd cc
-not_true false h = refl
-
 rest_no_digit : (rest : List ℕ) → ends_number rest ≡ true → NoDigit rest
 rest_no_digit [] h = refl
-rest_no_digit (c ∷ cs) h = no_digit c cs (not_true (is_digit c) (both (not (is_digit c)) _ h).0)
+rest_no_digit (c ∷ cs) h = no_digit c cs (not-true (is_digit c) (and_parts (not (is_digit c)) _ h).0)
 
 rest_no_exponent : (rest : List ℕ) → ends_number rest ≡ true → exponent_len rest ≡ 0
 rest_no_exponent [] h = refl
 rest_no_exponent (c ∷ cs) h =
-    let p = both (not (c == 46)) (not (is_mark c)) (both (not (is_digit c)) _ h).1 in
-    ap (λ b. if b then with_digits (1 + sign_len cs) (drop (sign_len cs) cs) else 0) (not_true (is_mark c) p.1)
+    let p = and_parts (not (c == 46)) (not (is_mark c)) (and_parts (not (is_digit c)) _ h).1 in
+    ap (λ b. if b then with_digits (1 + sign_len cs) (drop (sign_len cs) cs) else 0) (not-true (is_mark c) p.1)
 
 pub digits_whole : (ds rest : List ℕ) → is_digits ds ≡ true → NoDigit rest → digits_len (ds ++ rest) ≡ length ds
 digits_whole [] rest h k = k
 digits_whole (c ∷ ds) rest h k =
-    let p = both (is_digit c) (is_digits ds) h in
+    let p = and_parts (is_digit c) (is_digits ds) h in
     ap (λ b. cond b (1 + digits_len (ds ++ rest)) 0) p.0 ∙ ap (λ n. 1 + n) (digits_whole ds rest p.1 k) ∙ omega arith
 
 some_with : (before : ℕ) (ds rest : List ℕ) → is_digits ds ≡ true → 0 < length ds → NoDigit rest → with_digits before (ds ++ rest) ≡ before + length ds
@@ -79,7 +76,7 @@ no_point n rest x cs h = ap (λ b. if b && (if n == 0 then (if digits_len cs == 
 
 rest_no_point : (n : ℕ) (rest : List ℕ) → ends_number rest ≡ true → pointed_len n rest ≡ n
 rest_no_point n [] h = refl
-rest_no_point n (c ∷ cs) h = no_point n [] c cs (not_true (c == 46) (both (not (c == 46)) (not (is_mark c)) (both (not (is_digit c)) _ h).1).0)
+rest_no_point n (c ∷ cs) h = no_point n [] c cs (not-true (c == 46) (and_parts (not (c == 46)) (not (is_mark c)) (and_parts (not (is_digit c)) _ h).1).0)
 
 back_no_point : {b : List ℕ} → Back b → (n : ℕ) (rest : List ℕ) → ends_number rest ≡ true → pointed_len n (b ++ rest) ≡ n
 back_no_point bare n rest h = rest_no_point n rest h

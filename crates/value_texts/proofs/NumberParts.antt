@@ -1,10 +1,7 @@
 -- The parts of a number's text.
 use Rattle.std.proofs.Common.{◌≡◌, ◌∙◌, ℕ, ◌+◌, ◌<◌, ◌&&◌, ◌==◌, Bool, true, false, List, [], ◌∷◌, ◌++◌, length, ap, sym, refl, subst, arith, eqb-true}
+use Rattle.std.proofs.lemmas.Bool.{and_parts}
 use Rattle.sdf_values.specs.NumberTexts.{is_digit, is_mark, is_digits, is_exponent, ends_fraction, starts_fraction, ends_whole, is_unsigned}
-
-pub both : (a b : Bool) → (a && b) ≡ true → (a ≡ true) × (b ≡ true)
-both true b e = (refl, e)
-both false b e = absurd cc
 
 -- nothing, or an exponent with its mark
 pub data Back : List ℕ → Type 0 where
@@ -21,7 +18,7 @@ fraction_by P f (c ∷ t) h = cases (is_digit c) refl (λ k. fraction_by (λ x. 
     cases : (b : Bool) → is_digit c ≡ b → (is_digit c ≡ true → ends_fraction t ≡ true → P (c ∷ t)) → P (c ∷ t)
     cases true e more = more e (sym (ap (λ b. elim b [ true ↦ ends_fraction t | false ↦ is_mark c && is_exponent t ]) e) ∙ h)
     cases false e more =
-        let p = both (is_mark c) (is_exponent t) (sym (ap (λ b. elim b [ true ↦ ends_fraction t | false ↦ is_mark c && is_exponent t ]) e) ∙ h) in
+        let p = and_parts (is_mark c) (is_exponent t) (sym (ap (λ b. elim b [ true ↦ ends_fraction t | false ↦ is_mark c && is_exponent t ]) e) ∙ h) in
         f [] (c ∷ t) refl (scaled p.0 p.1)
 
 -- digits and an exponent or none, or digits, a point, digits and an exponent or none
@@ -43,7 +40,7 @@ whole_by P f g (c ∷ t) h =
 
     other : (b : Bool) → (c == 46) ≡ b → elim b [ true ↦ ends_fraction t | false ↦ is_mark c && is_exponent t ] ≡ true → P (c ∷ t)
     other true e k = point c e k
-    other false e k = (let p = both (is_mark c) (is_exponent t) k in f [] (c ∷ t) refl (scaled p.0 p.1))
+    other false e k = (let p = and_parts (is_mark c) (is_exponent t) k in f [] (c ∷ t) refl (scaled p.0 p.1))
 
     cases : (b : Bool) → is_digit c ≡ b → (is_digit c ≡ true → ends_whole t ≡ true → P (c ∷ t)) → P (c ∷ t)
     cases true e more = more e (sym (ap (λ b. elim b [ true ↦ ends_whole t | false ↦ elim (c == 46) [ true ↦ ends_fraction t | false ↦ is_mark c && is_exponent t ] ]) e) ∙ h)
@@ -61,7 +58,7 @@ unsigned_by P f g (c ∷ t) h = cases (is_digit c) refl
     pointed : (u : List ℕ) → starts_fraction u ≡ true → P (46 ∷ u)
     pointed [] k = absurd cc
     pointed (d ∷ u) k =
-        let p = both (is_digit d) (ends_fraction u) k in
+        let p = and_parts (is_digit d) (ends_fraction u) k in
         fraction_by (λ x. P (46 ∷ d ∷ x)) (λ fs b e back. g [] (d ∷ fs) b refl (with d fs p.0 e) (omega arith) back) u p.1
 
     cases : (b : Bool) → is_digit c ≡ b → P (c ∷ t)
@@ -69,5 +66,5 @@ unsigned_by P f g (c ∷ t) h = cases (is_digit c) refl
         whole_by (λ x. P (c ∷ x)) (λ ds b d back. f (c ∷ ds) b (with c ds e d) (omega arith) back) (λ ds fs b d k back. g (c ∷ ds) fs b (with c ds e d) k (omega arith) back) t
         (sym (ap (λ b. elim b [ true ↦ ends_whole t | false ↦ (c == 46) && starts_fraction t ]) e) ∙ h)
     cases false e =
-        let p = both (c == 46) (starts_fraction t) (sym (ap (λ b. elim b [ true ↦ ends_whole t | false ↦ (c == 46) && starts_fraction t ]) e) ∙ h) in
+        let p = and_parts (c == 46) (starts_fraction t) (sym (ap (λ b. elim b [ true ↦ ends_whole t | false ↦ (c == 46) && starts_fraction t ]) e) ∙ h) in
         subst (λ x. P (x ∷ t)) (sym (eqb-true c 46 p.0)) (pointed t p.1)

@@ -6,6 +6,7 @@ use Rattle.std.specs.Char.{len_utf8}
 use Rattle.std.specs.Option.{option_map}
 use Rattle.std.specs.Cmp.Lexicographic.{pointwise, bytes_decides}
 use Rattle.std.proofs.lemmas.Bool.Decides.{nat_tests}
+use Rattle.std.proofs.lemmas.Bool.{and_parts}
 use Rattle.unicode_ident.proofs.Computing.{unicode_ident}
 use Rattle.usd_names.specs.Names.{is_start, spells_joined, is_number_word}
 use Rattle.sdf_values.specs.Numbers.{DecimalNumber, IsDecimal}
@@ -24,7 +25,6 @@ use Rattle.usda_lexer.specs.Words.{found, name_or_other, number_or_mark, minus_o
 use Rattle.usda_lexer.proofs.DecimalLaw.{decimal_law}
 use Rattle.value_texts.specs.Follows.{ends_name, ends_number}
 use Rattle.value_texts.proofs.Pieces.{front}
-use Rattle.value_texts.proofs.NumberParts.{both}
 use Rattle.value_texts.proofs.NumberLengths.{number_whole}
 use Rattle.value_texts.proofs.NameTokens.{chars_ascii, name_whole, name_found}
 use Rattle.value_texts.proofs.Borders.{either, at_one}
@@ -39,7 +39,7 @@ number_first c t h = cases (is_sign c) refl
     unsigned : (b : Bool) → is_digit c ≡ b → (x : Bool) → is_sign c ≡ x → is_unsigned (c ∷ t) ≡ true → is_first c ≡ true
     unsigned true e x s u = ap (λ b. b || (is_sign c || (c == 46))) e
     unsigned false e x s u =
-        let p = both (c == 46) _ (sym (ap (λ b. elim b [ true ↦ ends_whole t | false ↦ (c == 46) && starts_fraction t ]) e) ∙ u) in
+        let p = and_parts (c == 46) _ (sym (ap (λ b. elim b [ true ↦ ends_whole t | false ↦ (c == 46) && starts_fraction t ]) e) ∙ u) in
         grind (arith, nat_tests)
 
     cases : (b : Bool) → is_sign c ≡ b → is_first c ≡ true

@@ -5,6 +5,7 @@ use Rattle.std.specs.List.{list_any}
 use Rattle.std.specs.Str.{chars, is_utf8, IsUtf8, IsAscii}
 use Rattle.std.proofs.lemmas.Bool.Decides.{nat_tests}
 use Rattle.std.proofs.lemmas.Str.{IsUtf8-from_is_utf8, IsUtf8-from_ascii, IsUtf8-append, IsUtf8-drop}
+use Rattle.std.proofs.lemmas.Bool.{and_parts}
 use Rattle.unicode_ident.proofs.Computing.{unicode_ident}
 use Rattle.usd_names.specs.Names.{is_start, is_variant_character}
 use Rattle.sdf_paths.specs.Reader.{step, step_open, after, after_all, start}
@@ -12,15 +13,15 @@ use Rattle.sdf_paths.specs.declared.element.Element.{Element}
 use Rattle.sdf_paths.specs.declared.reader.Open.{Open}
 use Rattle.sdf_paths.specs.declared.reader.Open.TheVariants.{Nothing, Name, Set, AfterSet, Variant, Selected, PropertyName}
 use Rattle.sdf_paths.specs.declared.reader.Reader.{Reader}
+use Rattle.sdf_paths.proofs.NameRuns.{after_none}
 use Rattle.usda_lexer.specs.Blanks.{begins}
 use Rattle.usda_values.specs.PathTexts.{finishes, is_path, begins_up, behind_ups, is_path_below, is_path_text}
 use Rattle.usda_values.proofs.Ups.{up_step, up_cut, no_up, is_up}
 use Rattle.value_texts.specs.Writable.{is_writable_path}
-use Rattle.value_texts.proofs.AsciiTests.{no_byte}
-use Rattle.value_texts.proofs.NumberParts.{both}
+use Rattle.value_texts.proofs.AsciiTests.{no_byte, one_ascii}
 
 -- what closes a path, or ends its line
-abbrev closes : ℕ → Bool
+abbrev pub closes : ℕ → Bool
 closes c = (c == 62) || (c == 10)
 
 -- no path goes on with it
@@ -60,17 +61,13 @@ stops r c h = cases (c == 62) refl
         let feed : (c == 10) ≡ true = sym (ap (λ b. b || (c == 10)) e) ∙ h in
         ap (step_open r.elements r.names r.open_part) (eqb-true c 10 feed) ∙ no_line r.elements r.names r.open_part
 
-none_after : (cs : List ℕ) → after_all cs None ≡ None
-none_after [] = refl
-none_after (c ∷ cs) = refl
-
 -- the characters of a path
 read_none : (cs : List ℕ) (r last : Reader) → after_all cs (Some r) ≡ Some last → list_any closes cs ≡ false
 read_none [] r last h = refl
 read_none (c ∷ cs) r last h = cases (step r c) refl h (λ next k. read_none cs next last k)
   where
     cases : (o : Option Reader) → step r c ≡ o → after_all cs o ≡ Some last → ((next : Reader) → after_all cs (Some next) ≡ Some last → list_any closes cs ≡ false) → (closes c || list_any closes cs) ≡ false
-    cases None e k more = absurd (let none = none_after cs in cc)
+    cases None e k more = absurd (let none = after_none cs in cc)
     cases (Some next) e k more = plain (closes c) refl
       where
         plain : (b : Bool) → closes c ≡ b → (b || list_any closes cs) ≡ false
@@ -78,12 +75,12 @@ read_none (c ∷ cs) r last h = cases (step r c) refl h (λ next k. read_none cs
         plain true f = absurd (let none = stops r c f in cc)
 
 -- their bytes
-closes_low : (b : ℕ) → closes b ≡ true → b < 128
+pub closes_low : (b : ℕ) → closes b ≡ true → b < 128
 closes_low b h = grind (arith, nat_tests)
 
 path_none : (text : List ℕ) → IsUtf8 text → is_path text ≡ true → list_any closes text ≡ false
 unfolding is_path
-path_none text utf8 h = cases (after (chars text)) refl (both (nat_le (length text) 4096) (finishes (after (chars text))) h).1
+path_none text utf8 h = cases (after (chars text)) refl (and_parts (nat_le (length text) 4096) (finishes (after (chars text))) h).1
   where
     cases : (o : Option Reader) → after (chars text) ≡ o → finishes o ≡ true → list_any closes text ≡ false
     cases None e f = absurd cc
@@ -93,10 +90,6 @@ ascii_two : (a b : ℕ) → a < 128 → b < 128 → IsAscii (a ∷ b ∷ [])
 ascii_two a b h k zero = h
 ascii_two a b h k (suc zero) = k
 ascii_two a b h k (suc (suc i)) = omega arith
-
-ascii_one : (a : ℕ) → a < 128 → IsAscii (a ∷ [])
-ascii_one a h zero = h
-ascii_one a h (suc i) = omega arith
 
 below_none : (text : List ℕ) → IsUtf8 text → is_path_below text ≡ true → list_any closes text ≡ false
 below_none [] utf8 h = absurd cc
@@ -108,7 +101,7 @@ below_none (c ∷ cs) utf8 h = cases (begins 46 (c ∷ cs)) refl
         path_none (codes "/a" ++ c ∷ cs) (IsUtf8-append (codes "/a") (c ∷ cs) (IsUtf8-from_ascii (codes "/a") (ascii_two 47 97 (omega arith) (omega arith))) utf8) path
     cases false e =
         let path : is_path (codes "/" ++ c ∷ cs) ≡ true = sym (ap (λ b. elim b as (λ _. Bool) [ true ↦ is_path (codes "/a" ++ c ∷ cs) | false ↦ is_path (codes "/" ++ c ∷ cs) ]) e) ∙ h in
-        path_none (codes "/" ++ c ∷ cs) (IsUtf8-append (codes "/") (c ∷ cs) (IsUtf8-from_ascii (codes "/") (ascii_one 47 (omega arith))) utf8) path
+        path_none (codes "/" ++ c ∷ cs) (IsUtf8-append (codes "/") (c ∷ cs) (IsUtf8-from_ascii (codes "/") (one_ascii 47 (omega arith))) utf8) path
 
 -- `../` in front
 ups_none : (text : List ℕ) → IsUtf8 text → is_path_below (behind_ups 0 text) ≡ true → list_any closes text ≡ false

@@ -13,7 +13,7 @@ use Rattle.sdf_values.specs.declared.type_name.TypeName.{TypeName}
 use Rattle.sdf_values.specs.declared.value.Value.{Value}
 use Rattle.sdf_values.specs.declared.value.Value.TheVariants as value
 use Rattle.usda_lexer.specs.Meanings.{string_text, path_text, number_of}
-use Rattle.usda_lexer.specs.declared.token.TokenKind.{TokenKind as Form}
+use Rattle.usda_lexer.specs.declared.token.TokenKind.{TokenKind}
 use Rattle.usda_lexer.specs.declared.token.TokenKind.TheVariants as form
 use Rattle.usda_values.specs.PathTexts.{is_path_text}
 use Rattle.usda_values.specs.Scalars.{Taken, token_value, number_value, string_value, take_element, take_bool, take_bool_word, take_bit, take_real, take_decimal, take_timecode, take_number_time, take_time, take_whole_time, take_text, take_asset, take_whole_value, time_of, decimal_of_whole}
@@ -115,15 +115,15 @@ plain_value (shape.Typed t) b v = plain_typed b t v
 plain_value shape.Dictionary b v = no_shape
 
 -- what a token is as a value
-abbrev pub Said : Form → List ℕ → Taken → Type 0
+abbrev pub Said : TokenKind → List ℕ → Taken → Type 0
 Said f text (Ok v) = Unit {0}
 Said f text (Err k) = k ≡ Syntax → IsNoPath f text
 
-said_number : (f : Form) (text t : List ℕ) (x : Option Num) → Said f text (number_value t x)
+said_number : (f : TokenKind) (text t : List ℕ) (x : Option Num) → Said f text (number_value t x)
 said_number f text t (Some x) = tt
 said_number f text t None = λ e. absurd cc
 
-said_string : (f : Form) (text : List ℕ) (x : Option (List ℕ)) → Said f text (string_value x)
+said_string : (f : TokenKind) (text : List ℕ) (x : Option (List ℕ)) → Said f text (string_value x)
 said_string f text (Some x) = tt
 said_string f text None = λ e. absurd cc
 
@@ -132,11 +132,11 @@ said_path text true h = tt
 said_path text false h = λ e. (refl, h)
 
 -- a token that is no mark
-abbrev pub is_said : Form → Bool
+abbrev pub is_said : TokenKind → Bool
 is_said (form.Mark m) = false
 is_said f = true
 
-pub said : (f : Form) (text : List ℕ) → is_said f ≡ true → Said f text (token_value f text)
+pub said : (f : TokenKind) (text : List ℕ) → is_said f ≡ true → Said f text (token_value f text)
 unfolding token_value
 said form.Name text h = tt
 said form.Number text h = said_number form.Number text text (number_of text)

@@ -11,20 +11,13 @@ use Rattle.sdf_values.specs.Numbers.{DecimalNumber, IsDecimal, SameNumber, zero_
 use Rattle.sdf_values.specs.NumberTexts.{signed}
 use Rattle.sdf_values.specs.Scales.{IsTime, IsTimeOf}
 use Rattle.sdf_values.specs.Print.{sign_text, point_text, scaled_text, decimal_text, time_text, magnitude_text, whole_text, whole_scaled}
-use Rattle.sdf_values.proofs.Powers.{IsForm, only_form, only_zero, IsDecimal-zero, moved_zeros, same_parts, abs_signed, signed_times, ten_some, excess_above, excess_below}
+use Rattle.sdf_values.proofs.Powers.{IsForm, only_form, only_zero, IsDecimal-zero, moved_zeros, same_parts, abs_signed, signed_times, ten_some, excess_above, excess_below, some_digits}
 use Rattle.sdf_values.proofs.Fractions.{not_zero}
 use Rattle.usda_values.specs.Scalars.{in_128_bits, power_of, times_power, whole_of, is_below_zero, tens_out, if_short, decimal_of_whole, time_of}
 use Rattle.usda_values.proofs.Powers.{small_power}
 use Rattle.usda_values.proofs.TimeLaw.{time_found}
-use Rattle.value_texts.proofs.Tens.{strip, point_zeros, point_whole, decimal_zeros, scaled_all}
-
-signed_back : (n : ℤ) → signed (is_below_zero n) (unsigned_abs n) ≡ n
-signed_back (pos n) = refl
-signed_back (negsuc n) = refl
-
-some_digits : (m : ℕ) → m % 10 ≢ 0 → 0 < m
-some_digits zero h = absurd (h refl)
-some_digits (suc m) h = omega arith
+use Rattle.usda_values.proofs.Wholes.{abs_zero, signed_back, strip}
+use Rattle.value_texts.proofs.Tens.{point_zeros, point_whole, decimal_zeros, scaled_all}
 
 sign_of : (b : Bool) (m : ℕ) → 0 < m → sign_text (signed b m) ≡ sign_text (if b then negsuc 0 else pos 0)
 sign_of b zero h = absurd (omega (arith, h))
@@ -57,10 +50,6 @@ pub record IsKept (n : ℤ) (d : DecimalNumber) : Type 0 where
   pub good : IsDecimal d
   pub text : whole_text n ≡ decimal_text d
   pub back : in_128_bits n ≡ Some n → whole_of d ≡ Some n
-
-abs_zero : (n : ℤ) → unsigned_abs n ≡ 0 → n ≡ pos 0
-abs_zero (pos n) h = ap pos h
-abs_zero (negsuc n) h = absurd (omega (arith, h))
 
 zero_back : whole_of zero_number ≡ Some (pos 0)
 unfolding whole_of

@@ -8,7 +8,7 @@ use Rattle.sdf_values.specs.declared.value.Value.TheOpen.{Value-F}
 use Rattle.sdf_values.specs.declared.value.Value.TheVariants as value
 use Rattle.usda_values.specs.declared.shape.Shape.{Shape}
 use Rattle.value_texts.specs.Readable.{Reading, is_read_as, is_read_entry, reading_step, reading_item}
-use Rattle.value_texts.proofs.Values as fold
+use Rattle.sdf_values.proofs.Values as fold
 
 pub reads_bool : (b : Bool) (shape : Shape) (s : Bool) → is_read_as (value.Bool b) shape s ≡ reading_step (Value-F.Bool b) shape s
 reads_bool b shape s = ap (λ f. f shape s) (fold.of_bool Reading (List ℕ × Bool) reading_step reading_item b)

@@ -1,8 +1,9 @@
 -- A string between quotes is a token, and means the string.
-use Rattle.std.proofs.Common.{◌≡◌, ◌∙◌, ℕ, suc, ◌+◌, ◌-◌, ◌*◌, ◌/◌, ◌%◌, ◌<◌, ◌≤◌, ◌&&◌, ◌==◌, nat_lt, nat_le, not, Bool, true, false, List, [], ◌∷◌, ◌++◌, append_assoc, length, length-append, take, drop, Option, Some, None, Ok, ap, sym, refl, subst, arith, eqb-true}
+use Rattle.std.proofs.Common.{◌≡◌, ◌∙◌, ℕ, suc, ◌+◌, ◌-◌, ◌*◌, ◌/◌, ◌%◌, ◌<◌, ◌≤◌, ◌&&◌, ◌==◌, nat_lt, nat_le, Bool, true, false, List, [], ◌∷◌, ◌++◌, append_assoc, length, length-append, take, drop, Option, Some, None, Ok, ap, sym, refl, subst, arith, eqb-true}
 use Rattle.std.specs.Prelude.{if◌then◌else◌}
 use Rattle.std.specs.Str.{is_utf8}
 use Rattle.std.proofs.lemmas.Bool.Decides.{nat_tests}
+use Rattle.std.proofs.lemmas.Bool.{not-true}
 use Rattle.sdf_values.specs.Print.{hex_digit, is_escaped, escape, escaped, quoted}
 use Rattle.usda_lexer.specs.declared.token.TokenKind.TheVariants as kind
 use Rattle.usda_lexer.specs.Blanks.{begins}
@@ -103,12 +104,8 @@ NoQuote x = (cs : List ℕ) → begins 34 (x ++ cs) ≡ false
 no_quote : (c : ℕ) → NoQuote (written c (is_escaped c))
 no_quote = written_by (λ c x. NoQuote x) (escape_by (λ c x. NoQuote x) (λ cs. refl) (λ cs. refl) (λ cs. refl) (λ cs. refl) (λ cs. refl) (λ c low cs. refl)) (λ c h cs. (plain_tests c h).1)
 
-not_back : (b : Bool) → not b ≡ true → b ≡ false
-not_back true h = absurd cc
-not_back false h = refl
-
 never_three : (t rest : List ℕ) → begins_not 34 rest ≡ true → begins_twice 34 (escaped t ++ 34 ∷ rest) ≡ false
-never_three [] rest h = not_back (begins 34 rest) h
+never_three [] rest h = not-true (begins 34 rest) h
 never_three (c ∷ t) rest h =
     let x : List ℕ = written c (is_escaped c) in
     ap (begins_twice 34) (append_assoc x (escaped t) (34 ∷ rest)) ∙ ap (λ b. b && begins 34 (drop 1 (x ++ (escaped t ++ 34 ∷ rest)))) (no_quote c (escaped t ++ 34 ∷ rest))

@@ -1,5 +1,5 @@
 -- Numbers and the tens that divide them, as they are printed.
-use Rattle.std.proofs.Common.{◌≡◌, ◌≢◌, ◌∙◌, ℕ, zero, suc, ◌+◌, ◌-◌, ◌*◌, ◌/◌, ◌%◌, ◌^◌, ◌<◌, ◌≤◌, ◌==◌, nat_le, Bool, true, false, List, [], ◌∷◌, ◌++◌, append_assoc, append-nil, replicate, Option, Some, ap, sym, refl, subst, arith, eqb-true}
+use Rattle.std.proofs.Common.{◌≡◌, ◌≢◌, ◌∙◌, ℕ, zero, suc, ◌+◌, ◌-◌, ◌*◌, ◌/◌, ◌%◌, ◌^◌, ◌<◌, ◌≤◌, ◌==◌, nat_le, Bool, true, false, List, [], ◌∷◌, ◌++◌, append_assoc, append-nil, replicate, ap, sym, refl, subst, arith, eqb-true}
 use Rattle.std.specs.Prelude.{if◌then◌else◌}
 use Rattle.std.specs.Fmt.{decimal}
 use Rattle.std.proofs.lemmas.Fmt.{decimal_step_wide}
@@ -11,7 +11,6 @@ use Rattle.std.proofs.Math.Pow.{pow-add}
 use Rattle.sdf_values.specs.Print.{fraction_digits, fraction_text, point_text, whole_scaled}
 use Rattle.sdf_values.proofs.Powers.{ten_some, ten_suc, some_product}
 use Rattle.sdf_values.proofs.Fractions.{no_fraction, next_digit, not_zero, rest_below}
-use Rattle.usda_values.specs.Scalars.{stripped}
 
 -- zeros at the end of a number
 pub decimal_zeros : (m e : ℕ) → 0 < m → m * 10 ^ e < 10 ^ 64 → decimal (m * 10 ^ e) ≡ decimal m ++ replicate e 48
@@ -24,42 +23,6 @@ decimal_zeros m (suc e) h low =
     ∙ ap (λ n. decimal n ++ (48 + k * 10 % 10) ∷ []) (mul-div_left k (let t : 0 < 10 = omega arith in t)) ∙ ap (λ n. decimal k ++ (48 + n) ∷ []) (mul-mod_left k 10)
     ∙ ap (λ l. l ++ 48 ∷ []) (decimal_zeros m e h (omega (arith, low, is, some)))
     ∙ append_assoc (decimal m) (replicate e 48) (48 ∷ []) ∙ ap (λ l. decimal m ++ l) (replicate-append-replicate e 1 48 ∙ ap (λ n. replicate n 48) (let t : e + 1 ≡ suc e = omega arith in t))
-
--- a number without the tens that divide it
-pub record IsStripped (fuel n tens : ℕ) : Type 0 where
-  pub digits : ℕ
-  pub zeros : ℕ
-  pub whole : n ≡ digits * 10 ^ zeros
-  pub last : digits % 10 ≢ 0
-  pub few : zeros < fuel
-  pub is : stripped fuel n tens ≡ Some (digits, tens + zeros)
-
-pub strip : (fuel n tens : ℕ) → 0 < n → n < 10 ^ fuel → IsStripped fuel n tens
-strip zero n tens h low = absurd (omega (arith, h, low))
-strip (suc fuel) n tens h low = cases (n % 10 == 0) refl (λ some less. strip fuel (n / 10) (tens + 1) some less)
-  where
-    cases : (b : Bool) → (n % 10 == 0) ≡ b → (0 < n / 10 → n / 10 < 10 ^ fuel → IsStripped fuel (n / 10) (tens + 1)) → IsStripped (suc fuel) n tens
-    cases false e below = record {
-      digits = n;
-      zeros = 0;
-      whole = omega arith;
-      last = λ z. (let t : (n % 10 == 0) ≡ true = ap (λ k. k == 0) z in absurd cc);
-      few = omega arith;
-      is = ap (λ b. elim b as (λ _. Option (ℕ × ℕ)) [ true ↦ stripped fuel (n / 10) (tens + 1) | false ↦ Some (n, tens) ]) e ∙ ap (λ k. Some (n, k)) (let t : tens ≡ tens + 0 = omega arith in t);
-    }
-    cases true e below =
-        let none : n % 10 ≡ 0 = eqb-true (n % 10) 0 e in
-        let tenfold : n ≡ n / 10 * 10 = omega (arith, none) in
-        let p = below (omega (arith, h, tenfold)) (omega (arith, low, ten_suc fuel, tenfold)) in
-        record {
-          digits = p.digits;
-          zeros = suc p.zeros;
-          whole = tenfold ∙ ap (λ k. k * 10) p.whole ∙ mul_assoc p.digits (10 ^ p.zeros) 10 ∙ ap (λ k. p.digits * k) (sym (ten_suc p.zeros));
-          last = p.last;
-          few = omega (arith, p.few);
-          is = ap (λ b. elim b as (λ _. Option (ℕ × ℕ)) [ true ↦ stripped fuel (n / 10) (tens + 1) | false ↦ Some (n, tens) ]) e ∙ p.is
-              ∙ ap (λ k. Some (p.digits, k)) (let t : tens + 1 + p.zeros ≡ tens + suc p.zeros = omega arith in t);
-        }
 
 -- the rest of a division is as many times larger as both numbers are
 scaled_rest : (x y t : ℕ) → 0 < y → 0 < t → (x * t) % (y * t) ≡ (x % y) * t

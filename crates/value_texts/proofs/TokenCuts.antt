@@ -1,13 +1,13 @@
 -- Each kind of token is cut off, where what follows ends it.
 use Rattle.std.proofs.Common.{◌≡◌, ◌∙◌, ℕ, zero, suc, ◌+◌, ◌*◌, ◌<◌, ◌&&◌, ◌||◌, ◌==◌, not, Bool, true, false, List, [], ◌∷◌, ◌++◌, length, replicate, Option, Some, None, Ok, ap, sym, refl, subst, arith, eqb-true, eq-eqb}
-use Rattle.std.specs.Prelude.{if◌then◌else◌, codes, ℤ, unsigned_abs, nat_le, nat_lt, ◌^◌, ◌%◌, pos, negsuc, ◌≤ℤ◌}
+use Rattle.std.specs.Prelude.{if◌then◌else◌, codes, ℤ, unsigned_abs, nat_le, nat_lt, ◌^◌, ◌%◌, pos, negsuc}
 use Rattle.std.specs.Option.{is_some}
 use Rattle.std.specs.Str.{chars, is_utf8}
 use Rattle.std.proofs.lemmas.Str.{chars-nil}
 use Rattle.std.proofs.lemmas.Bool.Decides.{nat_tests}
 use Rattle.unicode_ident.proofs.Computing.{unicode_ident}
 use Rattle.usd_names.specs.Names.{is_start, spells_joined, is_number_word, is_name}
-use Rattle.std.proofs.lemmas.Int.{ints}
+use Rattle.std.proofs.lemmas.Bool.{and_parts, not-true}
 use Rattle.sdf_values.specs.Numbers.{DecimalNumber, IsDecimal, zero_number}
 use Rattle.sdf_values.proofs.Powers.{same_parts}
 use Rattle.sdf_values.specs.NumberTexts.{is_number}
@@ -19,19 +19,21 @@ use Rattle.usda_lexer.specs.declared.token.TokenKind.TheVariants as kind
 use Rattle.usda_lexer.specs.Decimals.{decimal_of, is_exponent_in_range}
 use Rattle.usda_lexer.specs.Forms.{digits_len}
 use Rattle.usda_lexer.specs.Words.{name_kind, Found, found as found_token}
+use Rattle.usda_lexer.proofs.DecimalLaw.{in_range}
 use Rattle.usda_values.specs.Scalars.{in_128_bits, decimal_of_whole}
+use Rattle.usda_values.proofs.Wholes.{abs_zero}
 use Rattle.value_texts.specs.Cuts.{Said, IsCut}
 use Rattle.value_texts.specs.Follows.{ends_name, ends_number, begins_not}
 use Rattle.value_texts.specs.Writable.{is_writable_asset, is_writable_path, is_writable_number, is_writable_whole, is_decimal, is_zero_exponent}
 use Rattle.value_texts.specs.ValueWords.{name_said, number_said, string_said, asset_said, path_said, key_said, open_paren, close_paren, open_bracket, close_bracket, open_brace, close_brace, comma, equals, semicolon, dot}
 use Rattle.value_texts.proofs.Pieces.{token_cut, both_cut, nothing_cut, blank_cut}
-use Rattle.value_texts.proofs.NumberParts.{both}
 use Rattle.value_texts.proofs.NameTokens.{name_begins, name_found}
 use Rattle.value_texts.proofs.NumberTokens.{number_begins, number_found, printed_decimal, printed_number, inf_found, nan_found, minus_inf_found}
 use Rattle.value_texts.proofs.MarkTokens as found
 use Rattle.value_texts.proofs.StringTokens.{string_found}
 use Rattle.value_texts.proofs.AssetTokens.{asset_found, path_found}
 use Rattle.value_texts.proofs.PrintedNumbers.{IsKept, whole_kept, time_kept}
+use Rattle.value_texts.proofs.Tests.{implied}
 
 pub recut : (at : ℕ) (s t : List ℕ) (a b : List Said) (rest : List ℕ) → s ≡ t → a ≡ b → IsCut at s a rest → IsCut at t b rest
 recut at s t a b rest e f c = subst (λ x. IsCut at x b rest) e (subst (λ x. IsCut at s x rest) f c)
@@ -90,12 +92,8 @@ pub name_cut : (at : ℕ) (t rest : List ℕ) → is_utf8 t ≡ true → spells_
 name_cut at t rest u s w h =
     recut at t t (record { kind = name_kind t; text = t } ∷ []) (name_said t ∷ []) rest refl (ap (λ b. record { kind = if b then kind.Number else kind.Name; text = t } ∷ []) w) (any_name_cut at t rest u s h)
 
-not_true : (b : Bool) → not b ≡ true → b ≡ false
-not_true true h = absurd cc
-not_true false h = refl
-
 pub word_cut : (at : ℕ) (t rest : List ℕ) → is_utf8 t ≡ true → is_name t ≡ true → ends_name rest ≡ true → IsCut at t (name_said t ∷ []) rest
-word_cut at t rest u is h = let p = both (spells_joined false (chars t)) (not (is_number_word t)) is in name_cut at t rest u p.0 (not_true (is_number_word t) p.1) h
+word_cut at t rest u is h = let p = and_parts (spells_joined false (chars t)) (not (is_number_word t)) is in name_cut at t rest u p.0 (not-true (is_number_word t) p.1) h
 
 -- keywords
 true_named : (is_utf8 (codes "true") ≡ true) × (spells_joined false (chars (codes "true")) ≡ true)
@@ -138,34 +136,22 @@ decimal_cut at d rest is h = digits_cut at (decimal_text d) rest d (printed_numb
 pub same_cut : (at : ℕ) (t : List ℕ) (d : DecimalNumber) (rest : List ℕ) → IsDecimal d → t ≡ decimal_text d → ends_number rest ≡ true → IsCut at t (number_said t ∷ []) rest
 same_cut at t d rest is e h = subst (λ x. IsCut at x (number_said x ∷ []) rest) (sym e) (decimal_cut at d rest is h)
 
-in_range : (e : ℤ) → is_exponent_in_range e ≡ true → (negsuc 399 ≤ℤ e) × (e ≤ℤ pos 400)
-in_range (pos n) h = let lt : n < 401 = grind (arith, nat_tests) in (omega (arith, ints), omega (arith, ints))
-in_range (negsuc n) h = let lt : n < 400 = grind (arith, nat_tests) in (omega (arith, ints), omega (arith, ints))
-
-no_size : (z : ℤ) → unsigned_abs z ≡ 0 → z ≡ pos 0
-no_size (pos n) h = ap pos h
-no_size (negsuc n) h = absurd (omega (arith, h))
-
 no_exponent : (z : ℤ) → is_zero_exponent z ≡ true → z ≡ pos 0
 no_exponent (pos n) h = ap pos (eqb-true n 0 h)
 no_exponent (negsuc n) h = absurd cc
 
-or_right : (a b : Bool) → a ≡ true → (not a || b) ≡ true → b ≡ true
-or_right true b e h = h
-or_right false b e h = absurd cc
-
 pub good_decimal : (d : DecimalNumber) → is_decimal d ≡ true → IsDecimal d
 good_decimal d h =
-    let p = both (nat_lt (unsigned_abs d.digits) (10 ^ 34)) _ h in
-    let q = both (is_exponent_in_range d.exp) (not (unsigned_abs d.digits % 10 == 0) || ((unsigned_abs d.digits == 0) && is_zero_exponent d.exp)) p.1 in
+    let p = and_parts (nat_lt (unsigned_abs d.digits) (10 ^ 34)) _ h in
+    let q = and_parts (is_exponent_in_range d.exp) (not (unsigned_abs d.digits % 10 == 0) || ((unsigned_abs d.digits == 0) && is_zero_exponent d.exp)) p.1 in
     let range = in_range d.exp q.0 in
     record {
       short = (let few = p.0 in grind (arith, nat_tests));
       least = range.0;
       most = range.1;
       reduced = λ e.
-          (let zero = both (unsigned_abs d.digits == 0) (is_zero_exponent d.exp) (or_right (unsigned_abs d.digits % 10 == 0) _ (eq-eqb (unsigned_abs d.digits % 10) 0 e) q.1) in
-          same_parts d zero_number (no_size d.digits (eqb-true (unsigned_abs d.digits) 0 zero.0)) (no_exponent d.exp zero.1));
+          (let zero = and_parts (unsigned_abs d.digits == 0) (is_zero_exponent d.exp) (implied (unsigned_abs d.digits % 10 == 0) _ (eq-eqb (unsigned_abs d.digits % 10) 0 e) q.1) in
+          same_parts d zero_number (abs_zero d.digits (eqb-true (unsigned_abs d.digits) 0 zero.0)) (no_exponent d.exp zero.1));
     }
 
 pub number_cut : (at : ℕ) (x : Num) (rest : List ℕ) → is_writable_number x ≡ true → ends_name rest ≡ true → ends_number rest ≡ true → IsCut at (num_text x) (number_said (num_text x) ∷ []) rest
@@ -185,7 +171,7 @@ fits_same (negsuc n) h = some_same (nat_lt n (2 ^ 127)) (negsuc n) h
 -- the decimal of a whole number that can be written
 pub written_whole : (n : ℤ) → is_writable_whole n ≡ true → (d : DecimalNumber) × (decimal_of_whole n ≡ Some d) × (in_128_bits n ≡ Some n) × IsKept n d
 written_whole n w =
-    let p = both (is_some (in_128_bits n)) (is_some (decimal_of_whole n)) w in
+    let p = and_parts (is_some (in_128_bits n)) (is_some (decimal_of_whole n)) w in
     let fits : in_128_bits n ≡ Some n = fits_same n p.0 in
     found_decimal (decimal_of_whole n) refl p.1 fits
   where

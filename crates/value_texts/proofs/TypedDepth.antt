@@ -1,5 +1,6 @@
 -- A value of a type is at most three levels deep: an array of matrices.
 use Rattle.std.proofs.Common.{◌≡◌, ◌∙◌, ℕ, suc, ◌+◌, ◌≤◌, ◌&&◌, ◌||◌, not, Bool, true, false, List, [], ◌∷◌, map, ap, sym, refl, subst, arith}
+use Rattle.std.proofs.lemmas.Bool.{and_parts}
 use Rattle.sdf_values.specs.declared.type_name.Precision.TheVariants.{Double}
 use Rattle.sdf_values.specs.Conforms.{is_element, holds, holds_step, item_step, is_block, is_block_step, is_block_item, conforms, all_hold, are_members, members_of, one, matrix_width}
 use Rattle.sdf_values.specs.declared.type_name.ElementType.{ElementType}
@@ -9,10 +10,9 @@ use Rattle.sdf_values.specs.declared.value.DictItem.{DictItem, fold-DictItem}
 use Rattle.sdf_values.specs.declared.value.Value.{Value}
 use Rattle.sdf_values.specs.declared.value.Value.TheOpen.{Value-F}
 use Rattle.sdf_values.specs.declared.value.Value.TheVariants as value
+use Rattle.sdf_values.proofs.Values.{Each, Cases, by_cases}
 use Rattle.value_texts.specs.Readable.{depth, depth_step, depth_item, deepest}
-use Rattle.value_texts.proofs.NumberParts.{both}
-use Rattle.value_texts.proofs.Values as fold
-use Rattle.value_texts.proofs.Values.{Each, Cases, by_cases}
+use Rattle.sdf_values.proofs.Values as fold
 use Rattle.value_texts.proofs.Leaves.{no_array}
 
 abbrev Test : Type 0
@@ -39,15 +39,15 @@ flat v d is none t h = subst (λ n. n ≤ levels t.array + rank t.element) (sym 
 all_shallow : (vs : List Value) → Each Shallow vs → (t : TypeName) → all_hold (map holds vs) t ≡ true → deepest (map depth vs) ≤ levels t.array + rank t.element
 all_shallow [] each t h = omega arith
 all_shallow (v ∷ vs) each t h =
-    let p = both (holds v t) (all_hold (map holds vs) t) h in
+    let p = and_parts (holds v t) (all_hold (map holds vs) t) h in
     omega (arith, each.0 t p.0, all_shallow vs each.1 t p.1)
 
 -- the members of a tuple have a level less
 lower : (e : ElementType) (cs : List Test) → are_members (members_of e) cs ≡ true → (f : ElementType) × (all_hold cs (one f) ≡ true) × (suc (rank f) ≤ rank e)
-lower (element.Ints w) cs h = (element.Int, (both _ _ h).1, omega arith)
-lower (element.Reals p w) cs h = (element.Real p, (both _ _ h).1, omega arith)
-lower (element.Role r p) cs h = (element.Real p, (both _ _ h).1, omega arith)
-lower (element.Matrix m) cs h = (element.Reals Double (matrix_width m), (both _ _ h).1, omega arith)
+lower (element.Ints w) cs h = (element.Int, (and_parts _ _ h).1, omega arith)
+lower (element.Reals p w) cs h = (element.Real p, (and_parts _ _ h).1, omega arith)
+lower (element.Role r p) cs h = (element.Real p, (and_parts _ _ h).1, omega arith)
+lower (element.Matrix m) cs h = (element.Reals Double (matrix_width m), (and_parts _ _ h).1, omega arith)
 lower _ cs h = absurd cc
 
 shallow_tuple : (vs : List Value) → Each Shallow vs → Shallow (value.Tuple vs)
@@ -64,7 +64,7 @@ array_level false h = absurd cc
 shallow_array : (vs : List Value) → Each Shallow vs → Shallow (value.Array vs)
 shallow_array vs each t h =
     let is : holds_step (Value-F.Array (map holds vs)) t ≡ true = sym (ap (λ f. f t) (fold.of_array Test Test holds_step item_step vs)) ∙ h in
-    let p = both t.array (all_hold (map holds vs) (one t.element)) is in
+    let p = and_parts t.array (all_hold (map holds vs) (one t.element)) is in
     subst (λ n. n ≤ levels t.array + rank t.element) (sym (fold.of_array ℕ ℕ depth_step depth_item vs)) (omega (arith, array_level t.array p.0, all_shallow vs each (one t.element) p.1))
 
 no_dict : (a : Bool) (e : ElementType) (cs : List Test) → (not a && is_element (Value-F.Dict cs) e) ≡ true → ⊥

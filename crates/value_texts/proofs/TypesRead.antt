@@ -7,10 +7,10 @@ use Rattle.sdf_values.specs.declared.value.DictItem.{fold-DictItem}
 use Rattle.sdf_values.specs.declared.value.Value.{Value}
 use Rattle.sdf_values.specs.declared.value.Value.TheOpen.{Value-F}
 use Rattle.sdf_values.specs.declared.value.Value.TheVariants as value
+use Rattle.sdf_values.proofs.Values.{Each, Cases, by_cases}
 use Rattle.usda_values.specs.declared.shape.Shape.TheVariants.{Typed}
 use Rattle.value_texts.specs.Readable.{Reading, is_read_as, reading_step, reading_item, typed}
-use Rattle.value_texts.proofs.Values as fold
-use Rattle.value_texts.proofs.Values.{Each, Cases, by_cases}
+use Rattle.sdf_values.proofs.Values as fold
 
 abbrev Test : Type 0
 Test = TypeName → Bool

@@ -2,6 +2,7 @@
 use Rattle.std.proofs.Common.{◌≡◌, ◌∙◌, ℕ, ◌+◌, ◌&&◌, Bool, true, false, List, [], ◌∷◌, ◌++◌, append_assoc, append-nil, length, map, ap, sym, refl}
 use Rattle.std.specs.Prelude.{if◌then◌else◌, codes, ℤ}
 use Rattle.std.specs.Str.{is_utf8}
+use Rattle.std.proofs.lemmas.Bool.{and_parts}
 use Rattle.usd_names.specs.Names.{is_name}
 use Rattle.sdf_values.specs.Proper.{all_true}
 use Rattle.sdf_values.specs.Print.{print, print_step, print_item, listed, more_listed, lines, deeper, dict_type_text, key_text, blanks}
@@ -15,18 +16,17 @@ use Rattle.sdf_values.specs.declared.value.DictItem.{DictItem, fold-DictItem}
 use Rattle.sdf_values.specs.declared.value.Value.{Value}
 use Rattle.sdf_values.specs.declared.value.Value.TheOpen.{Value-F}
 use Rattle.sdf_values.specs.declared.value.Value.TheVariants as value
+use Rattle.sdf_values.proofs.Values.{Each, Cases, by_cases}
 use Rattle.value_texts.specs.Cuts.{Said, IsCut}
 use Rattle.value_texts.specs.Follows.{may_follow, ends_name, is_border}
 use Rattle.value_texts.specs.Writable.{writable_step, writable_item, is_writable, is_writable_item}
 use Rattle.value_texts.specs.ValueWords.{name_said, said_step, said_item, words_of_value, words_of_item, more_said, listed_said, entries_said, type_said, dict_type_said, key_said, comma, equals, open_paren, close_paren, open_bracket, close_bracket, open_brace, close_brace}
 use Rattle.value_texts.proofs.Pieces.{both_cut, nothing_cut}
-use Rattle.value_texts.proofs.NumberParts.{both}
 use Rattle.value_texts.proofs.Borders.{border_name, border_number, border_string, border_asset}
 use Rattle.value_texts.proofs.TypeTexts.{type_is_text, type_is_name, type_is_word}
 use Rattle.value_texts.proofs.TokenCuts as cut
 use Rattle.value_texts.proofs.TokenCuts.{recut}
-use Rattle.value_texts.proofs.Values as fold
-use Rattle.value_texts.proofs.Values.{Each, Cases, by_cases}
+use Rattle.sdf_values.proofs.Values as fold
 
 abbrev Texts : Type 0
 Texts = ℕ → List ℕ
@@ -58,7 +58,7 @@ more_cut : (close : ℕ) (said : Said) → is_border close ≡ true → Closing 
     → IsCut at (more_listed (map print vs) indent ++ close ∷ []) (more_said (map words_of_value vs) ++ said ∷ []) rest
 more_cut close said h c [] each is indent at rest = c at rest
 more_cut close said h c (v ∷ vs) each is indent at rest =
-    let p = both (is_writable v) (all_true (map is_writable vs)) is in
+    let p = and_parts (is_writable v) (all_true (map is_writable vs)) is in
     let more : List ℕ = more_listed (map print vs) indent ++ close ∷ [] in
     let words : List Said = more_said (map words_of_value vs) ++ said ∷ [] in
     recut at (44 ∷ 32 ∷ (print v indent ++ more)) (more_listed (map print (v ∷ vs)) indent ++ close ∷ []) (comma ∷ (words_of_value v ++ words)) (more_said (map words_of_value (v ∷ vs)) ++ said ∷ []) rest
@@ -73,7 +73,7 @@ listed_cut : (close : ℕ) (said : Said) → is_border close ≡ true → Closin
     → IsCut at (listed (map print vs) indent ++ close ∷ []) (listed_said (map words_of_value vs) ++ said ∷ []) rest
 listed_cut close said h c [] each is indent at rest = c at rest
 listed_cut close said h c (v ∷ vs) each is indent at rest =
-    let p = both (is_writable v) (all_true (map is_writable vs)) is in
+    let p = and_parts (is_writable v) (all_true (map is_writable vs)) is in
     let more : List ℕ = more_listed (map print vs) indent ++ close ∷ [] in
     let words : List Said = more_said (map words_of_value vs) ++ said ∷ [] in
     recut at (print v indent ++ more) (listed (map print (v ∷ vs)) indent ++ close ∷ []) (words_of_value v ++ words) (listed_said (map words_of_value (v ∷ vs)) ++ said ∷ []) rest
@@ -106,7 +106,7 @@ one_line b f l = append_assoc (b ++ f) (codes "\n") l ∙ append_assoc b f (10 �
 lines_cut : (items : List DictItem) → Each IsSaidItem items → all_true (map is_writable_item items) ≡ true → (indent at : ℕ) (rest : List ℕ) → IsCut at (lines_of items indent) (entries_said (map words_of_item items)) rest
 lines_cut [] each is indent at rest = nothing_cut at rest
 lines_cut (item ∷ items) each is indent at rest =
-    let p = both (is_writable_item item) (all_true (map is_writable_item items)) is in
+    let p = and_parts (is_writable_item item) (all_true (map is_writable_item items)) is in
     let text : List ℕ = item_text item indent in
     let more : List ℕ = lines_of items indent in
     let words : List Said = entries_said (map words_of_item items) in
@@ -161,7 +161,7 @@ item_parts t k v = append_assoc ((t ++ codes " ") ++ k) (codes " = ") v ∙ appe
 entry_cut : (k : List ℕ) (t : DictType) (v : Value) → IsSaid v → (is_utf8 k && is_writable v) ≡ true → (indent at : ℕ) (rest : List ℕ) → may_follow rest ≡ true
     → IsCut at (print_item (record { key = k; ty = t; value = print v }) indent) (said_item (record { key = k; ty = t; value = words_of_value v })) rest
 entry_cut k t v said is indent at rest h =
-    let p = both (is_utf8 k) (is_writable v) is in
+    let p = and_parts (is_utf8 k) (is_writable v) is in
     let text : List ℕ = print v indent in
     let behind : List ℕ = 32 ∷ 61 ∷ 32 ∷ text in
     let ty : List ℕ = dict_type_text t in
@@ -227,7 +227,7 @@ said_path t =
 said_word : (t : List ℕ) → IsSaid (value.Word t)
 said_word t =
     of_level (value.Word t) (Value-F.Word t) (Value-F.Word t) (Value-F.Word t) (fold.of_word Texts Texts print_step print_item t) (fold.of_word (List Said) (List Said) said_step said_item t)
-    (fold.of_word Bool Bool writable_step writable_item t) (λ is indent at rest h. let p = both (is_utf8 t) (is_name t) is in cut.word_cut at t rest p.0 p.1 (border_name rest h))
+    (fold.of_word Bool Bool writable_step writable_item t) (λ is indent at rest h. let p = and_parts (is_utf8 t) (is_name t) is in cut.word_cut at t rest p.0 p.1 (border_name rest h))
 
 said_block : IsSaid value.Block
 said_block =

@@ -1,10 +1,11 @@
 -- A value that was printed is read.
-use Rattle.std.proofs.Common.{◌≡◌, ◌∙◌, cond, ℕ, ◌+◌, ◌≤◌, Bool, true, false, List, [], ◌∷◌, ◌++◌, append-nil, length, drop, map, Option, Result, Ok, Err, ap, sym, refl, arith}
+use Rattle.std.proofs.Common.{◌≡◌, ◌∙◌, cond, ℕ, ◌+◌, ◌≤◌, Bool, true, false, List, [], ◌∷◌, ◌++◌, append-nil, length, map, Option, Result, Ok, Err, ap, sym, refl, arith}
 use Rattle.sdf_values.specs.declared.value.Value.{Value}
 use Rattle.sdf_values.specs.declared.value.Value.TheVariants as value
 use Rattle.sdf_values.specs.declared.value.Value.TheOpen.{Value-F}
 use Rattle.sdf_values.specs.declared.value.DictItem.{DictItem}
 use Rattle.sdf_values.specs.Print.{print}
+use Rattle.sdf_values.proofs.Values.{Each, by_cases}
 use Rattle.usda_lexer.specs.declared.token.LexFault.{LexFault}
 use Rattle.usda_lexer.specs.Words.{Word, Lexing, lexing_from, Lexer, left}
 use Rattle.usda_values.specs.declared.level.Place.{Place}
@@ -24,17 +25,15 @@ use Rattle.value_texts.specs.Writable.{is_writable}
 use Rattle.value_texts.specs.ValueWords.{words_of_value}
 use Rattle.value_texts.specs.Readable.{Reading as Reads, is_read_as, reading_step, depth}
 use Rattle.value_texts.specs.ValueWords.{open_brace}
-use Rattle.value_texts.proofs.Values.{Each, by_cases}
 use Rattle.value_texts.proofs.ReadingSteps as level
 use Rattle.value_texts.proofs.ValueCuts.{value_cut, dict_cut}
 use Rattle.value_texts.proofs.DictsGiven.{IsGivenItem, item_given, dict_from}
 use Rattle.value_texts.proofs.ValuesGiven.{value_given}
-
-abbrev Then : List Said → Acted → Acted
-Then ws r = elim r as (λ _. Acted) [ Ok next ↦ acts ws next | Err k ↦ Err k ]
+use Rattle.value_texts.proofs.Pieces.{back}
+use Rattle.value_texts.proofs.Given.{Then}
 
 -- nothing comes behind a complete value
-after_complete : (w : Said) (ws : List Said) (d e : ValueDraft) → is_complete d ≡ true → acts (w ∷ ws) d ≡ Ok e → ⊥
+pub after_complete : (w : Said) (ws : List Said) (d e : ValueDraft) → is_complete d ≡ true → acts (w ∷ ws) d ≡ Ok e → ⊥
 unfolding value_act
 after_complete w ws d e h k = at_place d.place h k
   where
@@ -129,17 +128,13 @@ dictionary_value_read = by_cases IsReadThere (λ i. Unit {0}) (record {
   item = λ k t v h. tt;
 })
 
-same_behind : (s t : List ℕ) → drop (length s) (s ++ t) ≡ t
-same_behind [] t = refl
-same_behind (c ∷ s) t = same_behind s t
-
 pub source_read : (v : Value) (shape : Shape) (rest : List ℕ) → is_writable v ≡ true → is_read_as v shape true ≡ true → depth v ≤ 64 → may_follow rest ≡ true
     → reads_left (record { source = print v 0 ++ rest; at = 0 }) (draft_of place.Value shape) ≡ got v (left (record { source = print v 0 ++ rest; at = length (print v 0) }))
 unfolding left
 source_read v shape rest w r deep follows =
     value_read v shape 0 0 (length (print v 0 ++ rest)) rest w r deep follows
     ∙ ap (λ n. got v (lexing_from 0 n rest)) (let e : 0 + length (print v 0) ≡ length (print v 0) = omega arith in e)
-    ∙ ap (λ t. got v (lexing_from 0 (length (print v 0)) t)) (sym (same_behind (print v 0) rest))
+    ∙ ap (λ t. got v (lexing_from 0 (length (print v 0)) t)) (sym (back (print v 0) rest))
 
 -- what reading answers of the text of a value
 pub reading_back : (r : Result Value ValueFault) (v : Value) (shape : Shape) (old new : Lexer) → is_writable v ≡ true → is_read_as v shape true ≡ true → depth v ≤ 64 → old ≡ record { source = print v 0; at = 0 }

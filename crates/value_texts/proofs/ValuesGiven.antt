@@ -5,6 +5,7 @@ use Rattle.sdf_values.specs.Print.{num_text, time_text, whole_text, quoted, asse
 use Rattle.sdf_values.specs.declared.value.Value.{Value}
 use Rattle.sdf_values.specs.declared.value.Value.TheOpen.{Value-F}
 use Rattle.sdf_values.specs.declared.value.Value.TheVariants as value
+use Rattle.sdf_values.proofs.Values.{Cases, by_cases}
 use Rattle.usda_values.specs.declared.level.Bracket.TheVariants as bracket
 use Rattle.usda_values.specs.declared.shape.Shape.{Shape}
 use Rattle.usda_values.specs.declared.draft.ValueDraft.{ValueDraft}
@@ -15,8 +16,7 @@ use Rattle.value_texts.specs.Acts.{acts}
 use Rattle.value_texts.specs.Writable.{is_writable, writable_step, writable_item}
 use Rattle.value_texts.specs.ValueWords.{words_of_value, said_step, said_item, name_said, number_said, string_said, asset_said, path_said}
 use Rattle.value_texts.specs.Readable.{Reading, is_read_as, reading_step, reading_item}
-use Rattle.value_texts.proofs.Values as fold
-use Rattle.value_texts.proofs.Values.{Cases, by_cases}
+use Rattle.sdf_values.proofs.Values as fold
 use Rattle.value_texts.proofs.Leaves.{Gives, bool_text, bool_gives, number_gives, time_gives, text_gives, asset_gives, path_gives, word_gives, block_gives}
 use Rattle.value_texts.proofs.WholeLeaves.{whole_gives}
 use Rattle.value_texts.proofs.Given.{ClosesNone, leaf_given, IsGiven}
@@ -36,7 +36,7 @@ number_none t bracket.Tuple = refl
 number_none t bracket.Array = refl
 number_none t bracket.Dict = refl
 
-string_none : (t : List ℕ) → ClosesNone (string_said t).kind
+pub string_none : (t : List ℕ) → ClosesNone (string_said t).kind
 string_none t bracket.Statement = refl
 string_none t bracket.Tuple = refl
 string_none t bracket.Array = refl

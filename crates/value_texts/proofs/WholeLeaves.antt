@@ -1,5 +1,5 @@
 -- A whole number, where it is expected.
-use Rattle.std.proofs.Common.{◌≡◌, ◌∙◌, ℕ, ◌+◌, ◌-◌, ◌/◌, ◌%◌, ◌<◌, ◌≤◌, ◌^◌, ◌&&◌, ◌==◌, Bool, true, false, List, [], ◌∷◌, ◌++◌, Some, Ok, Err, ap, refl, arith, None, suc, ◌*◌, nat_lt}
+use Rattle.std.proofs.Common.{◌≡◌, ◌∙◌, ℕ, ◌+◌, ◌-◌, ◌/◌, ◌%◌, ◌<◌, ◌≤◌, ◌^◌, ◌&&◌, ◌==◌, Bool, true, false, List, [], ◌∷◌, ◌++◌, Some, Ok, ap, refl, arith, None, suc, nat_lt}
 use Rattle.std.specs.Prelude.{if◌then◌else◌, ℤ, pos, negsuc, unsigned_abs, int_le}
 use Rattle.std.specs.Fmt.{decimal, signed_decimal}
 use Rattle.std.specs.List.{list_all}
@@ -8,9 +8,8 @@ use Rattle.std.proofs.lemmas.List.Folds.{list_all-append}
 use Rattle.std.proofs.lemmas.Bool.Decides.{nat_tests}
 use Rattle.std.proofs.lemmas.Int.{ints}
 use Rattle.std.proofs.Math.Nat.{mod-eq_of_lt, mod-lt}
-use Rattle.sdf_values.specs.declared.refusal.RefusalKind.TheVariants.{ValueShape}
 use Rattle.sdf_values.specs.Numbers.{DecimalNumber, IsDecimal, zero_number}
-use Rattle.sdf_values.specs.Conforms.{whole_bounds, is_between, is_element, holds_step}
+use Rattle.sdf_values.specs.Conforms.{is_element, holds_step}
 use Rattle.sdf_values.specs.Print.{decimal_text, whole_text, sign_text, magnitude_text, whole_scaled}
 use Rattle.sdf_values.specs.declared.decimal.Num.TheVariants as num
 use Rattle.sdf_values.specs.declared.type_name.ElementType.{ElementType}
@@ -20,20 +19,21 @@ use Rattle.sdf_values.specs.declared.value.Value.TheVariants as value
 use Rattle.sdf_values.proofs.Fractions.{not_zero}
 use Rattle.usda_lexer.specs.declared.token.TokenKind.TheVariants as kind
 use Rattle.usda_lexer.specs.Meanings.{number_of}
-use Rattle.usda_values.specs.Scalars.{is_plain_byte, is_plain, whole_or, by_value, as_written, whole_of, take_element, take_whole, in_128_bits, decimal_of_whole, tens_out, is_below_zero, if_short}
+use Rattle.usda_values.specs.Scalars.{is_plain_byte, is_plain, whole_or, by_value, as_written, whole_of, in_128_bits, decimal_of_whole, tens_out, is_below_zero, if_short}
 use Rattle.usda_values.specs.Shapes.{for_metadata}
 use Rattle.usda_values.specs.declared.shape.Shape.{Shape}
 use Rattle.usda_values.specs.declared.shape.Shape.TheVariants.{Untyped, Metadata, Typed, Dictionary}
+use Rattle.usda_values.proofs.Wholes.{strip, element_taken}
 use Rattle.value_texts.specs.Readable.{reading_step}
 use Rattle.value_texts.specs.Writable.{is_writable_whole}
-use Rattle.value_texts.proofs.NumberParts.{both}
 use Rattle.value_texts.proofs.NumberTokens.{printed_decimal, printed_number, decimal_number_of}
 use Rattle.value_texts.proofs.TokenCuts.{written_whole}
 use Rattle.value_texts.proofs.Leaves.{Gives, number_token, by_element, typed_part, no_array}
 use Rattle.std.specs.Option.{is_some}
+use Rattle.std.proofs.lemmas.Bool.{and_parts}
 use Rattle.sdf_values.specs.NumberTexts.{signed}
 use Rattle.sdf_values.proofs.Powers.{ten_some}
-use Rattle.value_texts.proofs.Tens.{strip}
+use Rattle.sdf_values.proofs.Digits.{at_least}
 
 -- the digits of a number
 abbrev AllPlain : List ℕ → Type 0
@@ -74,7 +74,7 @@ whole_plain n low =
 
 -- the types of whole numbers
 near : (n low high : ℤ) (l h : ℕ) → unsigned_abs low ≤ l → unsigned_abs high ≤ l → (int_le low n && int_le n high) ≡ true → unsigned_abs n ≤ l
-near n low high l h a b is = let p = both (int_le low n) (int_le n high) is in omega (arith, ints, p.0, p.1, a, b)
+near n low high l h a b is = let p = and_parts (int_le low n) (int_le n high) is in omega (arith, ints, p.0, p.1, a, b)
 
 bounded : (n : ℤ) (e : ElementType) → is_element (Value-F.Whole n) e ≡ true → unsigned_abs n < 10 ^ 35
 bounded n element.Uchar h = omega (arith, near n (pos 0) (pos (2 ^ 8 - 1)) (2 ^ 64) 0 (omega arith) (omega arith) h)
@@ -83,17 +83,6 @@ bounded n element.Uint h = omega (arith, near n (pos 0) (pos (2 ^ 32 - 1)) (2 ^ 
 bounded n element.Int64 h = omega (arith, near n (negsuc (2 ^ 63 - 1)) (pos (2 ^ 63 - 1)) (2 ^ 64) 0 (omega arith) (omega arith) h)
 bounded n element.Uint64 h = omega (arith, near n (pos 0) (pos (2 ^ 64 - 1)) (2 ^ 64) 0 (omega arith) (omega arith) h)
 bounded n _ h = absurd cc
-
-taken_whole : (e : ElementType) (n : ℤ) → is_between (whole_bounds e) n ≡ true → take_whole e n ≡ Ok (value.Whole n)
-taken_whole e n h = ap (λ b. if b then Ok (value.Whole n) else Err ValueShape) h
-
-element_takes : (n : ℤ) (e : ElementType) → is_element (Value-F.Whole n) e ≡ true → take_element e (value.Whole n) ≡ Ok (value.Whole n)
-element_takes n element.Uchar h = taken_whole element.Uchar n h
-element_takes n element.Int h = taken_whole element.Int n h
-element_takes n element.Uint h = taken_whole element.Uint n h
-element_takes n element.Int64 h = taken_whole element.Int64 n h
-element_takes n element.Uint64 h = taken_whole element.Uint64 n h
-element_takes n _ h = absurd cc
 
 -- the token of a whole number
 pub whole_read : (n : ℤ) → is_writable_whole n ≡ true → (d : DecimalNumber) × (number_of (whole_text n) ≡ Some (num.Finite d)) × (whole_of d ≡ Some n)
@@ -126,7 +115,7 @@ whole_gives n w (Typed t) s h =
     let plain : is_plain (whole_text n) ≡ true = whole_plain n (bounded n t.element p.1) in (
       value.Whole n,
       number_token (whole_text n) (num.Finite k.0) k.1 ∙ ap Ok (whole_written (is_plain (whole_text n)) k.0 n plain k.2),
-      by_element s t (value.Whole n) (value.Whole n) (λ s. refl) p.0 (element_takes n t.element p.1),
+      by_element s t (value.Whole n) (value.Whole n) (λ s. refl) p.0 (element_taken n t.element p.1),
     )
 whole_gives n w Dictionary s h = absurd cc
 
@@ -138,9 +127,6 @@ plain_decimal (negsuc n) low = ap (λ t. 45 ∷ t) (plain_magnitude (suc n) low)
 fits : (n : ℤ) → unsigned_abs n < 10 ^ 34 → is_some (in_128_bits n) ≡ true
 fits (pos n) low = let test : nat_lt n (2 ^ 127) ≡ true = (let l : n < 2 ^ 127 = omega (arith, low) in grind (arith, nat_tests)) in ap (λ b. is_some (if b then Some (pos n) else None)) test
 fits (negsuc n) low = let test : nat_lt n (2 ^ 127) ≡ true = (let l : n < 2 ^ 127 = omega (arith, low) in grind (arith, nat_tests)) in ap (λ b. is_some (if b then Some (negsuc n) else None)) test
-
-at_least : (m t : ℕ) → 0 < t → m ≤ m * t
-at_least m t h = grind arith
 
 kept : (n : ℤ) → unsigned_abs n < 10 ^ 34 → is_some (decimal_of_whole n) ≡ true
 unfolding decimal_of_whole tens_out

@@ -4,6 +4,7 @@ use Rattle.std.specs.Prelude.{if◌then◌else◌}
 use Rattle.std.specs.List.{list_all}
 use Rattle.std.proofs.lemmas.List.{map-append}
 use Rattle.std.proofs.lemmas.List.Folds.{list_all-append}
+use Rattle.std.proofs.lemmas.Bool.{and_parts, not-true}
 use Rattle.usd_names.specs.Names.{is_name}
 use Rattle.sdf_values.specs.Print.{print, quoted}
 use Rattle.sdf_values.specs.TypeNames.{element_name}
@@ -11,6 +12,7 @@ use Rattle.sdf_values.specs.declared.value.DictType.{DictType}
 use Rattle.sdf_values.specs.declared.value.DictType.TheVariants as dict_type
 use Rattle.sdf_values.specs.declared.value.DictItem.{DictItem}
 use Rattle.sdf_values.specs.declared.value.Value.{Value}
+use Rattle.sdf_values.proofs.Values.{Each, Cases, by_cases}
 use Rattle.usda_lexer.specs.declared.token.LexFault.{LexFault}
 use Rattle.usda_lexer.specs.Words.{Word as Token, lexing_from}
 use Rattle.usda_words.specs.Words.{Word, kind_of, is_dot, if_joined, kind_behind, word_at, behind, words_behind, words_in}
@@ -20,18 +22,12 @@ use Rattle.value_texts.specs.Words.{told_of, as_word, is_no_dot, IsWorded}
 use Rattle.value_texts.specs.Follows.{may_follow}
 use Rattle.value_texts.specs.Writable.{is_writable}
 use Rattle.value_texts.specs.ValueWords.{name_said, string_said, words_of_value, words_of_item, said_step, said_item, more_said, listed_said, entries_said, dict_type_said, key_said, close_paren, open_bracket, close_bracket, close_brace, equals}
-use Rattle.value_texts.proofs.NumberParts.{both}
-use Rattle.value_texts.proofs.Values as fold
-use Rattle.value_texts.proofs.Values.{Each, Cases, by_cases}
+use Rattle.sdf_values.proofs.Values as fold
 use Rattle.value_texts.proofs.ValueCuts.{value_cut}
 
 -- no `.` among these
 abbrev pub NoDots : List Said → Type 0
 NoDots said = list_all is_no_dot said ≡ true
-
-not_true : (b : Bool) → not b ≡ true → b ≡ false
-not_true true h = absurd cc
-not_true false h = refl
 
 plain_kind : (b : Before) (t : Token) → b.is_dot ≡ false → is_dot (kind_of t.kind t.text) ≡ false → kind_behind b t.start (kind_of t.kind t.text) ≡ kind_of t.kind t.text
 plain_kind b t h k = ap (λ x. if_joined ((x || is_dot (kind_of t.kind t.text)) && not (t.start == b.end)) (kind_of t.kind t.text)) h ∙ ap (λ x. if_joined (x && not (t.start == b.end)) (kind_of t.kind t.text)) k
@@ -47,8 +43,8 @@ record AreWorded (b : Before) (ts more : List Token) (f : Option LexFault) : Typ
 are_worded : (b : Before) (ts more : List Token) (f : Option LexFault) → b.is_dot ≡ false → NoDots (map said_of ts) → AreWorded b ts more f
 are_worded b [] more f h n = record { words = []; told = refl; last = b; plain = h; worded = refl }
 are_worded b (t ∷ ts) more f h n =
-    let p = both (is_no_dot (said_of t)) (list_all is_no_dot (map said_of ts)) n in
-    let k : is_dot (kind_of t.kind t.text) ≡ false = not_true (is_dot (kind_of t.kind t.text)) p.0 in
+    let p = and_parts (is_no_dot (said_of t)) (list_all is_no_dot (map said_of ts)) n in
+    let k : is_dot (kind_of t.kind t.text) ≡ false = not-true (is_dot (kind_of t.kind t.text)) p.0 in
     let rest = are_worded (behind t) ts more f k p.1 in
     record {
       words = word_at b t ∷ rest.words;

@@ -3,12 +3,12 @@ use Rattle.std.specs.Prelude.{◌≡◌, ◌↔◌, ◌⊎◌, ℕ, Bool, true, 
 use Rattle.std.specs.List.{list_all}
 use Rattle.sdf_values.specs.declared.refusal.RefusalKind.TheVariants.{Syntax}
 use Rattle.usda_grammar.specs.Machine.{step}
-use Rattle.usda_grammar.specs.declared.kinds.TokenKind.TheVariants as kind
+use Rattle.usda_grammar.specs.declared.kinds.WordKind.TheVariants as kind
 use Rattle.usda_grammar.specs.declared.symbols.Symbol.{Symbol}
 use Rattle.usda_grammar.specs.declared.symbols.Symbol.TheVariants as symbol
 use Rattle.usda_lexer.specs.Meanings.{path_text}
 use Rattle.usda_lexer.specs.declared.token.LexFault.TheVariants.{NumberTooLong}
-use Rattle.usda_lexer.specs.declared.token.TokenKind.{TokenKind as Form}
+use Rattle.usda_lexer.specs.declared.token.TokenKind.{TokenKind}
 use Rattle.usda_lexer.specs.declared.token.TokenKind.TheVariants as form
 use Rattle.usda_values.specs.Drafts.{Acted, draft_of, value_act, is_complete, is_statement}
 use Rattle.usda_values.specs.PathTexts.{is_path_text}
@@ -101,12 +101,12 @@ is_formed d = is_place_of d.place d.level.bracket && are_levels d.outer d.level.
 -- ---- the law
 
 -- a path between `<` and `>` whose text is no path
-abbrev pub IsNoPath : Form → List ℕ → Type 0
+abbrev pub IsNoPath : TokenKind → List ℕ → Type 0
 IsNoPath f text = (f ≡ form.Path) × (is_path_text (path_text text) ≡ false)
 
 -- What the draft makes of a token that the grammar takes, where these symbols are left above those below: the draft that awaits them.
 -- Where it refuses the token, it is not for the grammar's sake, but for a path that is none.
-abbrev pub GoesWith : Form → List ℕ → List Symbol → List Symbol → Acted → Type 0
+abbrev pub GoesWith : TokenKind → List ℕ → List Symbol → List Symbol → Acted → Type 0
 GoesWith f text below after (Ok next) = (is_formed next ≡ true) × (after ≡ awaited next ++ below)
 GoesWith f text below after (Err r) = r ≡ Syntax → IsNoPath f text
 
@@ -131,7 +131,7 @@ pub record AreFollowing : Type 0 where
   pub taken : (d : ValueDraft) (w : Word) (below : List Symbol) (s : Symbol) (after : List Symbol) → is_formed d ≡ true → is_complete d ≡ false → IsOfToken w
       → step (awaited d ++ below) w.kind ≡ Some (s, after) → GoesWith w.token w.text below after (value_act w.token w.text d)
   -- a token that the grammar does not take
-  pub refused : (d : ValueDraft) (f : Form) (text : List ℕ) (below : List Symbol) → is_formed d ≡ true → is_complete d ≡ false
+  pub refused : (d : ValueDraft) (f : TokenKind) (text : List ℕ) (below : List Symbol) → is_formed d ≡ true → is_complete d ≡ false
       → step (awaited d ++ below) (kind_of f text) ≡ None → value_act f text d ≡ Err Syntax
   -- a path that is none, wherever it stands
   pub no_path : (d : ValueDraft) (text : List ℕ) → is_path_text (path_text text) ≡ false → value_act form.Path text d ≡ Err Syntax

@@ -11,3 +11,4 @@ pub mod Backs
 pub mod Pieces
 pub mod Lists
 pub mod Following
+pub mod Each

@@ -1,7 +1,7 @@
 -- Texts that are cut into words.
 use Rattle.std.specs.Prelude.{◌≡◌, ℕ, ◌+◌, Bool, false, not, List, ◌++◌, length, map}
-use Rattle.usda_grammar.specs.declared.kinds.TokenKind.{TokenKind}
-use Rattle.usda_lexer.specs.declared.token.TokenKind.{TokenKind as Form}
+use Rattle.usda_grammar.specs.declared.kinds.WordKind.{WordKind}
+use Rattle.usda_lexer.specs.declared.token.TokenKind.{TokenKind}
 use Rattle.usda_lexer.specs.Words.{lexing_from}
 use Rattle.usda_words.specs.Words.{Word, kind_of, is_dot, words_in}
 use Rattle.usda_words.specs.declared.word.Before.{Before}
@@ -9,8 +9,8 @@ use Rattle.value_texts.specs.Cuts.{Said}
 
 -- what a word says, wherever it stands
 pub record Told : Type 0 where
-  pub kind : TokenKind
-  pub token : Form
+  pub kind : WordKind
+  pub token : TokenKind
   pub text : List ℕ
   pub too_long : Bool
 

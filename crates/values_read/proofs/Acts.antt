@@ -1,16 +1,14 @@
 -- Each word of a layer keeps the open value sound.
-use Rattle.std.proofs.Common.{◌≡◌, ◌∙◌, ℕ, Bool, true, false, List, Some, None, Result, Ok, Err, ap, sym, refl, subst, inl, inr}
+use Rattle.std.proofs.Common.{◌≡◌, ◌∙◌, Bool, true, false, List, Some, None, Result, Ok, Err, ap, sym, refl, subst, inl, inr}
 use Rattle.std.specs.Prelude.{if◌then◌else◌}
 use Rattle.sdf_paths.specs.Paths.{IsPath}
 use Rattle.sdf_values.specs.declared.refusal.RefusalKind.{RefusalKind}
-use Rattle.sdf_values.specs.declared.refusal.RefusalKind.TheVariants.{NumberTooLong}
-use Rattle.usda_drafts.specs.Acts.{bodies_act, act}
+use Rattle.usda_drafts.specs.Acts.{act}
 use Rattle.usda_drafts.specs.Drafts.{blank}
-use Rattle.usda_drafts.specs.Refusals.{Acted, refused}
 use Rattle.usda_drafts.specs.Values.{completed, after_token, token_act, first_act, with_value_begun, is_selections}
 use Rattle.usda_drafts.specs.declared.draft.Draft.{Draft}
 use Rattle.usda_grammar.specs.Table.{starts}
-use Rattle.usda_grammar.specs.declared.kinds.TokenKind.TheVariants as kind
+use Rattle.usda_grammar.specs.declared.kinds.WordKind.TheVariants as kind
 use Rattle.usda_grammar.specs.declared.symbols.Symbol.{Symbol}
 use Rattle.usda_grammar.specs.declared.symbols.Symbol.TheVariants as symbol
 use Rattle.usda_statements.specs.OpenValues.{no_value, is_open, given, value_in}
@@ -18,18 +16,18 @@ use Rattle.usda_statements.specs.declared.open_value.OpenValue.{OpenValue}
 use Rattle.usda_words.specs.Words.{Word}
 use Rattle.text_syntax.specs.Open.{begins_value, IsOfValue}
 use Rattle.text_syntax.proofs.Kept.{Has, bodies_has, completed_has}
-use Rattle.text_syntax.proofs.Tokens.{act_is}
+use Rattle.text_syntax.proofs.Tokens.{begun_by, acted_by}
 use Rattle.values_read.specs.Sound.{IsSoundDraft}
 use Rattle.values_read.specs.Tokens.{is_lexed, IsLexedWord}
 use Rattle.values_read.specs.Words.{IsOpenSound, ValueGoesOn, still_open, complete, WordsKeepValuesSound}
 use Rattle.values_read.proofs.Open.{open_sound}
 
 -- no symbol takes a fault
-no_start : (s : Symbol) → starts s kind.Fault ≡ None
+pub no_start : (s : Symbol) → starts s kind.Fault ≡ None
 no_start symbol.Value = refl
 no_start _ = refl
 
-is_token : (s : Symbol) (w : Word) (after : List Symbol) → IsLexedWord w → starts s w.kind ≡ Some after → is_lexed w.token w.text ≡ true
+pub is_token : (s : Symbol) (w : Word) (after : List Symbol) → IsLexedWord w → starts s w.kind ≡ Some after → is_lexed w.token w.text ≡ true
 is_token s w after (inl is) took = is
 is_token s w after (inr fault) took = absurd (let none : None ≡ Some after = sym (no_start s) ∙ ap (starts s) (sym fault) ∙ took in cc)
 
@@ -57,21 +55,7 @@ first_goes : (w : Word) (d next : Draft) → is_lexed w.token w.text ≡ true �
 unfolding first_act
 first_goes w d next lexed path h = begun_goes w d next (token_goes w (with_value_begun d) next lexed path (open_sound.begun d.aim.shape (is_selections d.aim.goal)) h)
 
-begun_by : (s : Symbol) (w : Word) (d : Draft) → begins_value s ≡ true → bodies_act s w d ≡ first_act w d
-unfolding bodies_act
-begun_by symbol.Value w d h = refl
-begun_by symbol.Dictionary w d h = refl
-begun_by _ w d h = absurd cc
-
 -- ---- each word
-
--- a number that is too long is refused
-unless_long : (b : Bool) (at : ℕ) (r : Acted) (next : Draft) → (if b then Err (refused NumberTooLong at) else r) ≡ Ok next → r ≡ Ok next
-unless_long true at r next h = absurd cc
-unless_long false at r next h = h
-
-acted : (s : Symbol) (w : Word) (d next : Draft) (b : Bool) → is_open d.value ≡ b → act s w d ≡ Ok next → (if b then token_act w d else bodies_act s w d) ≡ Ok next
-acted s w d next b e h = unless_long w.too_long w.start (if b then token_act w d else bodies_act s w d) next (sym (act_is s w d b e) ∙ h)
 
 value : (s : Symbol) (w : Word) (d next : Draft) (after : List Symbol) → IsLexedWord w → IsPath d.owner.said.base → IsOpenSound d → starts s w.kind ≡ Some after → IsOfValue s d → act s w d ≡ Ok next → ValueGoesOn d w next
 value s w d next after lexed path sound took of h = cases (is_open d.value) refl of
@@ -80,9 +64,9 @@ value s w d next after lexed path sound took of h = cases (is_open d.value) refl
     token = is_token s w after lexed took
 
     cases : (b : Bool) → is_open d.value ≡ b → IsOfValue s d → ValueGoesOn d w next
-    cases true e either = token_goes w d next token path (sound e) (acted s w d next true e h)
+    cases true e either = token_goes w d next token path (sound e) (acted_by s w d next true e h)
     cases false e (inl opened) = absurd (let bad : true ≡ false = sym opened ∙ e in cc)
-    cases false e (inr begins) = first_goes w d next token path (sym (begun_by s w d begins) ∙ acted s w d next false e h)
+    cases false e (inr begins) = first_goes w d next token path (sym (begun_by s w d begins) ∙ acted_by s w d next false e h)
 
 -- ---- what is left
 
@@ -97,7 +81,7 @@ gone_on w d next (still_open v e is same) = still d next v is same
 gone_on w d next (complete v is h) = shut next no_value (subst (Has no_value) h (completed_has d.aim.goal v w.start (record d { value = no_value }))) refl
 
 other_word : (s : Symbol) (w : Word) (d next : Draft) → is_open d.value ≡ false → begins_value s ≡ false → act s w d ≡ Ok next → IsOpenSound next
-other_word s w d next e begins h = shut next d.value (subst (Has d.value) (acted s w d next false e h) (bodies_has s w d begins)) e
+other_word s w d next e begins h = shut next d.value (subst (Has d.value) (acted_by s w d next false e h) (bodies_has s w d begins)) e
 
 kept : (s : Symbol) (w : Word) (d next : Draft) (after : List Symbol) → IsLexedWord w → IsPath d.owner.said.base → IsOpenSound d → starts s w.kind ≡ Some after → act s w d ≡ Ok next → IsOpenSound next
 kept s w d next after lexed path sound took h = cases (is_open d.value) refl (begins_value s) refl

@@ -1,7 +1,8 @@
 -- A tuple, an array or a dictionary of sound parts is sound where it is expected.
-use Rattle.std.proofs.Common.{◌≡◌, ◌∙◌, ℕ, suc, ◌+◌, ◌<◌, ◌≤◌, ◌&&◌, ◌||◌, ◌==◌, not, Bool, true, false, List, [], ◌∷◌, length, map, Option, Some, None, ap, sym, refl, subst, arith, eq-eqb, eqb-true}
+use Rattle.std.proofs.Common.{◌≡◌, ◌∙◌, ℕ, suc, ◌+◌, ◌<◌, ◌≤◌, ◌&&◌, ◌||◌, ◌==◌, not, Bool, true, false, List, [], ◌∷◌, length, map, Option, Some, None, ap, sym, refl, subst, arith, eq-eqb}
 use Rattle.std.specs.Prelude.{if◌then◌else◌}
 use Rattle.std.specs.Str.{is_utf8}
+use Rattle.std.proofs.lemmas.Bool.{and_from}
 use Rattle.sdf_values.specs.Conforms.{all_hold, are_members, members_of, one}
 use Rattle.sdf_values.specs.Proper.{all_true, all_proper, are_keys_in_order, keys_of}
 use Rattle.sdf_values.specs.declared.type_name.ElementType.{ElementType}
@@ -18,26 +19,26 @@ use Rattle.usda_values.specs.declared.shape.Shape.{Shape}
 use Rattle.usda_values.specs.declared.shape.Shape.TheVariants.{Untyped, Metadata, Typed, Dictionary}
 use Rattle.value_texts.specs.Readable.{is_read_as, is_read_entry, reading_step, reading_item, Reading, typed, all_read, is_some_list, depth, item_depth, depth_step, depth_item, deepest}
 use Rattle.value_texts.specs.Writable.{is_writable, is_writable_item, writable_step, writable_item}
-use Rattle.value_texts.proofs.Values as fold
+use Rattle.sdf_values.proofs.Values as fold
 use Rattle.value_texts.proofs.ReadingSteps.{reads_tuple, reads_array, reads_dict}
-use Rattle.value_shapes.proofs.Bools.{and_true}
 use Rattle.text_checks.specs.Utf8.{is_utf8_value, is_utf8_entry, utf8_step, utf8_item}
 use Rattle.value_returns.specs.FullPaths.{has_full_paths, has_full_paths_item, full_step, full_item}
+use Rattle.value_shapes.proofs.TypedLevels.{none_left}
 use Rattle.values_read.specs.Sound.{is_kept_as, IsSound, AreSound, AreSoundEntries, keys_in, AreCounted, IsTuple, IsArray, IsDict, HasMember}
 
 -- ---- members
 
 all_writable : (n : ℕ) (shape : Shape) (vs : List Value) → AreSound n shape vs → all_true (map is_writable vs) ≡ true
 all_writable n shape [] each = refl
-all_writable n shape (v ∷ vs) each = and_true (is_writable v) (all_true (map is_writable vs)) each.0.writable (all_writable n shape vs each.1)
+all_writable n shape (v ∷ vs) each = and_from (is_writable v) (all_true (map is_writable vs)) each.0.writable (all_writable n shape vs each.1)
 
 all_utf8 : (n : ℕ) (shape : Shape) (vs : List Value) → AreSound n shape vs → all_true (map is_utf8_value vs) ≡ true
 all_utf8 n shape [] each = refl
-all_utf8 n shape (v ∷ vs) each = and_true (is_utf8_value v) (all_true (map is_utf8_value vs)) each.0.utf8 (all_utf8 n shape vs each.1)
+all_utf8 n shape (v ∷ vs) each = and_from (is_utf8_value v) (all_true (map is_utf8_value vs)) each.0.utf8 (all_utf8 n shape vs each.1)
 
 all_full : (n : ℕ) (shape : Shape) (vs : List Value) → AreSound n shape vs → all_true (map has_full_paths vs) ≡ true
 all_full n shape [] each = refl
-all_full n shape (v ∷ vs) each = and_true (has_full_paths v) (all_true (map has_full_paths vs)) each.0.full (all_full n shape vs each.1)
+all_full n shape (v ∷ vs) each = and_from (has_full_paths v) (all_true (map has_full_paths vs)) each.0.full (all_full n shape vs each.1)
 
 all_deep : (n : ℕ) (shape : Shape) (vs : List Value) → n ≤ 64 → AreSound n shape vs → deepest (map depth vs) + n ≤ 64
 all_deep n shape [] few each = omega (arith, few)
@@ -45,11 +46,11 @@ all_deep n shape (v ∷ vs) few each = omega (arith, each.0.deep, all_deep n sha
 
 all_metadata : (n : ℕ) (vs : List Value) → AreSound n Metadata vs → all_read (map is_read_as vs) Metadata ≡ true
 all_metadata n [] each = refl
-all_metadata n (v ∷ vs) each = and_true (is_read_as v Metadata false) (all_read (map is_read_as vs) Metadata) each.0.kept (all_metadata n vs each.1)
+all_metadata n (v ∷ vs) each = and_from (is_read_as v Metadata false) (all_read (map is_read_as vs) Metadata) each.0.kept (all_metadata n vs each.1)
 
 all_typed : (n : ℕ) (t : TypeName) (vs : List Value) → AreSound n (Typed t) vs → all_hold (map typed (map is_read_as vs)) t ≡ true
 all_typed n t [] each = refl
-all_typed n t (v ∷ vs) each = and_true (is_read_as v (Typed t) false) (all_hold (map typed (map is_read_as vs)) t) each.0.kept (all_typed n t vs each.1)
+all_typed n t (v ∷ vs) each = and_from (is_read_as v (Typed t) false) (all_hold (map typed (map is_read_as vs)) t) each.0.kept (all_typed n t vs each.1)
 
 as_many : (vs : List Value) → length (map typed (map is_read_as vs)) ≡ length vs
 as_many [] = refl
@@ -59,18 +60,11 @@ some_read : (vs : List Value) → HasMember vs → is_some_list (map is_read_as 
 some_read [] has = absurd has
 some_read (v ∷ vs) has = refl
 
-no_block : (s b : Bool) → b ≡ true → ((s && false) || b) ≡ true
+pub no_block : (s b : Bool) → b ≡ true → ((s && false) || b) ≡ true
 no_block true b h = h
 no_block false b h = h
 
 -- ---- tuples
-
-none_left : (left : ℕ) → (if left == 0 then false else true) ≡ false → left ≡ 0
-none_left left h = test (left == 0) refl h
-  where
-    test : (b : Bool) → (left == 0) ≡ b → (if b then false else true) ≡ false → left ≡ 0
-    test true e g = eqb-true left 0 e
-    test false e g = absurd cc
 
 -- a tuple of a type, by its element
 tuple_typed : (n : ℕ) (vs : List Value) (item : Shape) (all room : Option ℕ) (a : Bool) (o : Option (ElementType × ℕ)) → AreSound n item vs → AreCounted all (length vs) room → is_lacking room ≡ false
@@ -84,7 +78,7 @@ tuple_typed n vs item all room false (Some m) each counted lacking h =
     let count : AreCounted (Some m.1) (length vs) room = subst (λ x. AreCounted x (length vs) room) number counted in
     let none : count.0 ≡ 0 = none_left count.0 (sym (ap is_lacking count.1) ∙ lacking) in
     let many : length vs ≡ m.1 = (let c = count.2 in omega (arith, c, none)) in
-    and_true (length (map typed (map is_read_as vs)) == m.1) (all_hold (map typed (map is_read_as vs)) (one m.0)) (eq-eqb (length (map typed (map is_read_as vs))) m.1 (as_many vs ∙ many))
+    and_from (length (map typed (map is_read_as vs)) == m.1) (all_hold (map typed (map is_read_as vs)) (one m.0)) (eq-eqb (length (map typed (map is_read_as vs))) m.1 (as_many vs ∙ many))
     (all_typed n (one m.0) vs (subst (λ x. AreSound n x vs) shape each))
 
 tuple_kept : (n : ℕ) (vs : List Value) (item : Shape) (all room : Option ℕ) (expected : Shape) (s : Bool) → AreSound n item vs → HasMember vs → AreCounted all (length vs) room → is_lacking room ≡ false
@@ -93,7 +87,7 @@ tuple_kept n vs item all room Untyped s each has counted lacking h = refl
 tuple_kept n vs item all room Metadata s each has counted lacking h =
     let same : (Metadata, None) ≡ (item, all) = cc h in
     let shape : item ≡ Metadata = ap (λ (x : Shape × Option ℕ). x.0) (sym same) in
-    reads_tuple vs Metadata s ∙ and_true (is_some_list (map is_read_as vs)) (all_read (map is_read_as vs) Metadata) (some_read vs has) (all_metadata n vs (subst (λ x. AreSound n x vs) shape each))
+    reads_tuple vs Metadata s ∙ and_from (is_some_list (map is_read_as vs)) (all_read (map is_read_as vs) Metadata) (some_read vs has) (all_metadata n vs (subst (λ x. AreSound n x vs) shape each))
 tuple_kept n vs item all room (Typed t) s each has counted lacking h =
     reads_tuple vs (Typed t) s ∙ no_block s (not t.array && are_members (members_of t.element) (map typed (map is_read_as vs))) (tuple_typed n vs item all room t.array (members_of t.element) each counted lacking h)
 tuple_kept n vs item all room Dictionary s each has counted lacking h = absurd cc
@@ -151,26 +145,26 @@ entry_kept v dict.Dictionary h = h
 entries_proper : (n : ℕ) (es : Table) → AreSoundEntries n es → all_proper (map is_read_entry (items_of es)) ≡ true
 entries_proper n [] each = refl
 entries_proper n (e ∷ es) each =
-    and_true (is_read_entry e.1).1 (all_proper (map is_read_entry (items_of es)))
+    and_from (is_read_entry e.1).1 (all_proper (map is_read_entry (items_of es)))
     (ap (λ (x : List ℕ × Bool). x.1) (fold.of_item Reading (List ℕ × Bool) reading_step reading_item e.1) ∙ entry_kept e.1.value e.1.ty each.0.value.kept)
     (entries_proper n es each.1)
 
 entries_writable : (n : ℕ) (es : Table) → AreSoundEntries n es → all_true (map is_writable_item (items_of es)) ≡ true
 entries_writable n [] each = refl
 entries_writable n (e ∷ es) each =
-    and_true (is_writable_item e.1) (all_true (map is_writable_item (items_of es)))
-    (fold.of_item Bool Bool writable_step writable_item e.1 ∙ and_true (is_utf8 e.1.key) (is_writable e.1.value) (ap is_utf8 each.0.key ∙ each.0.utf8) each.0.value.writable)
+    and_from (is_writable_item e.1) (all_true (map is_writable_item (items_of es)))
+    (fold.of_item Bool Bool writable_step writable_item e.1 ∙ and_from (is_utf8 e.1.key) (is_writable e.1.value) (ap is_utf8 each.0.key ∙ each.0.utf8) each.0.value.writable)
     (entries_writable n es each.1)
 
 entries_utf8 : (n : ℕ) (es : Table) → AreSoundEntries n es → all_true (map is_utf8_entry (items_of es)) ≡ true
 entries_utf8 n [] each = refl
 entries_utf8 n (e ∷ es) each =
-    and_true (is_utf8_entry e.1) (all_true (map is_utf8_entry (items_of es))) (fold.of_item Bool Bool utf8_step utf8_item e.1 ∙ each.0.value.utf8) (entries_utf8 n es each.1)
+    and_from (is_utf8_entry e.1) (all_true (map is_utf8_entry (items_of es))) (fold.of_item Bool Bool utf8_step utf8_item e.1 ∙ each.0.value.utf8) (entries_utf8 n es each.1)
 
 entries_full : (n : ℕ) (es : Table) → AreSoundEntries n es → all_true (map has_full_paths_item (items_of es)) ≡ true
 entries_full n [] each = refl
 entries_full n (e ∷ es) each =
-    and_true (has_full_paths_item e.1) (all_true (map has_full_paths_item (items_of es))) (fold.of_item Bool Bool full_step full_item e.1 ∙ each.0.value.full) (entries_full n es each.1)
+    and_from (has_full_paths_item e.1) (all_true (map has_full_paths_item (items_of es))) (fold.of_item Bool Bool full_step full_item e.1 ∙ each.0.value.full) (entries_full n es each.1)
 
 entries_deep : (n : ℕ) (es : Table) → n ≤ 64 → AreSoundEntries n es → deepest (map item_depth (items_of es)) + n ≤ 64
 entries_deep n [] few each = omega (arith, few)
@@ -181,7 +175,7 @@ entries_deep n (e ∷ es) few each =
 
 dict_reads : (n : ℕ) (es : Table) → are_keys_in_order (keys_in es) ≡ true → AreSoundEntries n es → (are_keys_in_order (keys_of (map is_read_entry (items_of es))) && all_proper (map is_read_entry (items_of es))) ≡ true
 dict_reads n es ordered each =
-    and_true (are_keys_in_order (keys_of (map is_read_entry (items_of es)))) (all_proper (map is_read_entry (items_of es))) (ap are_keys_in_order (keys_same n es each) ∙ ordered) (entries_proper n es each)
+    and_from (are_keys_in_order (keys_of (map is_read_entry (items_of es)))) (all_proper (map is_read_entry (items_of es))) (ap are_keys_in_order (keys_same n es each) ∙ ordered) (entries_proper n es each)
 
 dict_kept : (n : ℕ) (es : Table) (expected : Shape) (s : Bool) → takes_dictionary expected ≡ true → are_keys_in_order (keys_in es) ≡ true → AreSoundEntries n es → is_kept_as (value.Dict (items_of es)) expected s ≡ true
 dict_kept n es Untyped s may ordered each = refl

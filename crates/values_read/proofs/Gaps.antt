@@ -1,16 +1,13 @@
 -- What stands behind blanks and comments is UTF-8 where the whole is.
-use Rattle.std.proofs.Common.{◌≡◌, ◌∙◌, ℕ, ◌<◌, true, List, [], ◌∷◌, ◌++◌, append_assoc, take, drop, Ok, ap, sym, subst, arith, eqb-true}
+use Rattle.std.proofs.Common.{◌≡◌, ◌∙◌, ℕ, true, List, [], ◌∷◌, ◌++◌, append_assoc, take, drop, Ok, ap, sym, subst, arith, eqb-true}
 use Rattle.std.specs.Str.{IsUtf8}
 use Rattle.std.proofs.lemmas.Str.{IsUtf8-nil}
 use Rattle.std.proofs.lemmas.List.{take-append-drop}
-use Rattle.std.proofs.lemmas.Bool.Decides.{nat_tests}
 use Rattle.usda_lexer.specs.declared.blanks.Between.TheVariants.{Blank}
-use Rattle.usda_lexer.specs.Blanks.{is_blank, gap, IsGap, Piece, blank, hash, slashes, block, is_one_line, at_line_end, is_piece, piece_bytes, pieces_bytes, are_pieces}
+use Rattle.usda_lexer.specs.Blanks.{gap, IsGap, Piece, blank, hash, slashes, block, is_one_line, at_line_end, is_piece, piece_bytes, pieces_bytes, are_pieces}
 use Rattle.usda_lexer.proofs.Gaps.{gap_is, both}
+use Rattle.usda_lexer.proofs.Cuts.{blank_ascii}
 use Rattle.values_read.proofs.Seams.{behind_ascii, from_ascii}
-
-blank_ascii : (c : ℕ) → is_blank c ≡ true → c < 128
-blank_ascii c e = grind (arith, nat_tests)
 
 -- behind the line of a comment
 behind_line : (front rest : List ℕ) → at_line_end rest ≡ true → IsUtf8 (front ++ rest) → IsUtf8 rest

@@ -8,6 +8,7 @@ use Rattle.sdf_values.specs.Conforms.{one}
 use Rattle.sdf_values.specs.Proper.{are_keys_in_order}
 use Rattle.std.specs.Prelude.{codes, ◌==◌}
 use Rattle.std.specs.Cmp.Lexicographic.{pointwise}
+use Rattle.std.proofs.lemmas.Bool.{and_parts}
 use Rattle.sdf_values.specs.declared.refusal.RefusalKind.TheVariants.{Syntax, ValueShape, DuplicateSpec, TooDeep}
 use Rattle.sdf_values.specs.declared.type_name.ElementType.{ElementType}
 use Rattle.sdf_values.specs.declared.type_name.TheConstants.{ELEMENTS}
@@ -29,12 +30,12 @@ use Rattle.usda_values.specs.Drafts.{Acted, new_level, is_full, is_lacking, is_s
 use Rattle.usda_values.specs.Entries.{has_key}
 use Rattle.usda_values.specs.Scalars.{Taken, token_value}
 use Rattle.usda_values.specs.Shapes.{Members, entry_shape, tuple_members, array_members, takes_dictionary, take_value}
-use Rattle.value_shapes.proofs.Bools.{both}
+use Rattle.value_shapes.proofs.TypedReading.{draft}
 use Rattle.values_read.specs.Laws.{ReadValuesAreSound}
 use Rattle.values_read.specs.Tokens.{is_sound_token}
 use Rattle.values_read.specs.Sound.{IsSound, AreSoundEntries, keys_in, AreCounted, IsDict, IsInner, HasNewKey, AwaitsValue, AreOpen, whole, inside, MayEnd, IsAt, IsDraft, ongoing, complete, IsSoundDraft}
 use Rattle.values_read.proofs.Leaves.{leaf_sound, string_utf8}
-use Rattle.values_read.proofs.Levels.{draft, placed, MayClose, may_end, dict_closes, closed}
+use Rattle.values_read.proofs.Levels.{placed, MayClose, may_end, dict_closes, closed}
 
 -- the draft after an act
 abbrev Keeps : Shape → Acted → Type 0
@@ -217,7 +218,7 @@ found_key shape p l outer (Some t) utf8 below is next h = test (has_key t l.entr
 
 key_keeps : (shape : Shape) (p : Place) (l : Level) (outer : List Level) (k : TokenKind) (text : List ℕ) → is_sound_token k text ≡ true → AreOpen shape outer l → l.bracket ≡ bracket.Dict → Keeps shape (act_key k text (draft p l outer))
 key_keeps shape p l outer kind.Name text sound below is next h =
-    found_key shape p l outer (Some text) (λ t e. let same : text ≡ t = cc e in subst (λ x. is_utf8 x ≡ true) same (both (is_utf8 text) (is_name text) sound).0) below is next h
+    found_key shape p l outer (Some text) (λ t e. let same : text ≡ t = cc e in subst (λ x. is_utf8 x ≡ true) same (and_parts (is_utf8 text) (is_name text) sound).0) below is next h
 key_keeps shape p l outer kind.String text sound below is next h = found_key shape p l outer (string_text text) (λ t e. string_utf8 text t e) below is next h
 key_keeps shape p l outer _ text sound below is next h = absurd cc
 

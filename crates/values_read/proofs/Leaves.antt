@@ -1,9 +1,10 @@
 -- Values of one token: what a sound token gives, as it is taken where something is expected, is sound.
-use Rattle.std.proofs.Common.{◌≡◌, ◌∙◌, ℕ, ◌≤◌, ◌^◌, ◌&&◌, ◌||◌, ◌==◌, not, nat_le, Bool, true, false, List, Option, Some, None, Ok, Err, ap, sym, refl, subst, arith}
+use Rattle.std.proofs.Common.{◌≡◌, ◌∙◌, ℕ, ◌≤◌, ◌^◌, ◌||◌, ◌==◌, not, nat_le, Bool, true, false, List, Option, Some, None, Ok, Err, ap, sym, refl, subst, arith}
 use Rattle.std.specs.Prelude.{if◌then◌else◌, codes, ℤ, unsigned_abs}
 use Rattle.std.specs.Option.{is_some, is_none, option_map}
 use Rattle.std.specs.Str.{is_utf8}
 use Rattle.std.specs.Cmp.Lexicographic.{pointwise}
+use Rattle.std.proofs.lemmas.Bool.{and_parts, and_from}
 use Rattle.sdf_values.specs.Conforms.{holds, holds_step, item_step}
 use Rattle.sdf_values.specs.Numbers.{DecimalNumber, IsDecimal}
 use Rattle.sdf_values.specs.declared.decimal.Num.{Num}
@@ -26,7 +27,7 @@ use Rattle.usda_values.specs.declared.shape.Shape.{Shape}
 use Rattle.usda_values.specs.declared.shape.Shape.TheVariants.{Untyped, Metadata, Typed, Dictionary}
 use Rattle.value_texts.specs.Readable.{is_read_as, is_none_word, depth, depth_step, depth_item}
 use Rattle.value_texts.specs.Writable.{is_writable, writable_step, writable_item, is_writable_number, is_writable_whole, is_writable_asset, is_decimal}
-use Rattle.value_texts.proofs.Values as fold
+use Rattle.sdf_values.proofs.Values as fold
 use Rattle.value_texts.proofs.ReadingSteps.{reads_bool, reads_whole, reads_number, reads_time, reads_text, reads_asset, reads_path, reads_word, reads_block}
 use Rattle.value_texts.proofs.TokenCuts.{good_decimal}
 use Rattle.value_texts.proofs.DecimalTests.{decimal_good}
@@ -34,13 +35,13 @@ use Rattle.value_texts.proofs.PrintedNumbers.{whole_decimal}
 use Rattle.value_texts.proofs.PathsWritable.{path_writable}
 use Rattle.value_shapes.specs.Held.{is_held, held_step, held_item, is_held_number}
 use Rattle.value_shapes.specs.Meanings.{SameMeaning, itself, whole_as_number, whole_as_time, number_as_time, number_as_truth, word_as_truth, tuple, array}
-use Rattle.value_shapes.proofs.Bools.{both, and_true}
 use Rattle.value_shapes.proofs.Forms.{form_is, form_found}
 use Rattle.value_shapes.proofs.Taken.{leaf_cases}
 use Rattle.text_checks.specs.Utf8.{is_utf8_value, utf8_step, utf8_item}
 use Rattle.value_returns.specs.FullPaths.{has_full_paths, full_step, full_item, is_full_path}
 use Rattle.values_read.specs.Tokens.{is_sound_token}
 use Rattle.values_read.specs.Sound.{is_kept_as, IsSound}
+use Rattle.values_read.proofs.Closed.{no_block}
 
 abbrev Test : Type 0
 Test = TypeName → Bool
@@ -106,14 +107,14 @@ token_leaf kind.String t x s h = cases (string_text t) refl h
     cases None e g = absurd cc
     cases (Some y) e g = (let same : value.Text y ≡ x = cc g in subst IsLeaf same (text y (string_utf8 t y e)))
 token_leaf kind.Asset t x s h =
-    let p = both (is_utf8 (asset_text t)) (is_writable_asset (asset_text t)) s in
+    let p = and_parts (is_utf8 (asset_text t)) (is_writable_asset (asset_text t)) s in
     let same : value.Asset (asset_text t) ≡ x = cc h in
     subst IsLeaf same (asset (asset_text t) p.0 p.1)
 token_leaf kind.Path t x s h = test (is_path_text (path_text t)) refl h
   where
     test : (b : Bool) → is_path_text (path_text t) ≡ b → (if b then Ok (value.PathText (path_text t)) else Err Syntax) ≡ Ok x → IsLeaf x
     test true e g =
-        let p = both (is_utf8 (path_text t)) (is_full_path (path_text t)) s in
+        let p = and_parts (is_utf8 (path_text t)) (is_full_path (path_text t)) s in
         let same : value.PathText (path_text t) ≡ x = cc g in
         subst IsLeaf same (path (path_text t) p.0 e p.1)
     test false e g = absurd cc
@@ -121,7 +122,7 @@ token_leaf kind.Name t x s h = (let said : word_value t ≡ x = cc h in test (is
   where
     test : (b : Bool) → is_none_word t ≡ b → (if b then value.Block else value.Word t) ≡ x → IsLeaf x
     test true e same = subst IsLeaf same block
-    test false e same = let p = both (is_utf8 t) (is_name t) s in subst IsLeaf same (word t p.0 p.1 e)
+    test false e same = let p = and_parts (is_utf8 t) (is_name t) s in subst IsLeaf same (word t p.0 p.1 e)
 token_leaf (kind.Mark m) t x s h = absurd cc
 
 -- ---- what holds of it
@@ -134,7 +135,7 @@ pub record IsFlat (v : Value) : Type 0 where
   pub flat : depth v ≡ 0
 
 whole_writable : (n : ℤ) (d : DecimalNumber) → IsDecimal d → whole_of d ≡ Some n → is_writable_whole n ≡ true
-whole_writable n d good e = (let w = whole_decimal d n good e in and_true (is_some (in_128_bits n)) (is_some (decimal_of_whole n)) (ap is_some w.0) (ap is_some w.1))
+whole_writable n d good e = (let w = whole_decimal d n good e in and_from (is_some (in_128_bits n)) (is_some (decimal_of_whole n)) (ap is_some w.0) (ap is_some w.1))
 
 bool_flat : (b : Bool) → IsFlat (value.Bool b)
 bool_flat b = record {
@@ -190,7 +191,7 @@ leaf_flat _ (path t u is f) = record {
   flat = fold.of_path ℕ ℕ depth_step depth_item t;
 }
 leaf_flat _ (word t u w none) = record {
-  writable = fold.of_word Bool Bool writable_step writable_item t ∙ and_true (is_utf8 t) (is_name t) u w;
+  writable = fold.of_word Bool Bool writable_step writable_item t ∙ and_from (is_utf8 t) (is_name t) u w;
   utf8 = fold.of_word Bool Bool utf8_step utf8_item t;
   full = fold.of_word Bool Bool full_step full_item t;
   flat = fold.of_word ℕ ℕ depth_step depth_item t;
@@ -250,10 +251,6 @@ in_metadata _ block = (block, λ s. reads_block Metadata s)
 -- where a type is expected: a value of the type that is no block
 abbrev IsReadTyped : Value → Type 0
 IsReadTyped v = (t : TypeName) (s : Bool) → holds v t ≡ true → is_read_as v (Typed t) s ≡ true
-
-no_block : (s b : Bool) → b ≡ true → ((s && false) || b) ≡ true
-no_block true b h = h
-no_block false b h = h
 
 bool_typed : (b : Bool) → IsReadTyped (value.Bool b)
 bool_typed b t s h = reads_bool b (Typed t) s ∙ no_block s (holds_step (Value-F.Bool b) t) (sym (ap (λ f. f t) (fold.of_bool Test Test holds_step item_step b)) ∙ h)

@@ -1,5 +1,5 @@
 -- A sound value goes into a level, and a level that is closed goes into the one outside it.
-use Rattle.std.proofs.Common.{◌≡◌, ◌∙◌, ℕ, zero, suc, ◌+◌, ◌<◌, ◌==◌, Bool, false, List, [], ◌∷◌, ◌++◌, length, length-append, Option, Some, None, ap, sym, refl, subst, arith}
+use Rattle.std.proofs.Common.{◌≡◌, ◌∙◌, ℕ, suc, ◌+◌, ◌<◌, Bool, false, List, [], ◌∷◌, ◌++◌, length, length-append, Option, Some, None, ap, sym, refl, subst, arith}
 use Rattle.plain_data.specs.Ends.{last, last-push, front-push}
 use Rattle.sdf_values.specs.declared.value.DictItem.{DictItem}
 use Rattle.sdf_values.specs.declared.value.Value.{Value}
@@ -12,13 +12,11 @@ use Rattle.usda_values.specs.declared.level.Level.{Level}
 use Rattle.usda_values.specs.declared.level.Place.{Place}
 use Rattle.usda_values.specs.declared.level.Place.TheVariants as place
 use Rattle.usda_values.specs.declared.shape.Shape.{Shape}
+use Rattle.value_shapes.proofs.TypedLevels.{counted as some_left}
+use Rattle.value_shapes.proofs.TypedReading.{draft}
 use Rattle.values_read.specs.Sound.{IsSound, AreSound, AreCounted, IsTuple, IsArray, IsDict, IsInner, HasNewKey, AwaitsValue, AreOpen, whole, inside, HasMember, MayEnd, IsDraft, ongoing, complete, IsSoundDraft}
 use Rattle.values_read.proofs.Keys.{put_ordered, put_each}
 use Rattle.values_read.proofs.Closed.{tuple_sound, array_sound, dict_sound}
-
--- a draft of these parts
-abbrev pub draft : Place → Level → List Level → ValueDraft
-draft p l outer = record { place = p; level = l; outer = outer }
 
 -- ---- one member more
 
@@ -32,10 +30,6 @@ has_more (x ∷ vs) v = tt
 
 one_longer : (ls : List Level) (l : Level) → length (ls ++ l ∷ []) ≡ suc (length ls)
 one_longer ls l = omega (arith, length-append ls (l ∷ []))
-
-some_left : (left : ℕ) → (left == 0) ≡ false → (k : ℕ) × (left ≡ suc k)
-some_left zero h = absurd cc
-some_left (suc k) h = (k, refl)
 
 count_more : (all : Option ℕ) (vs : List Value) (v : Value) (room : Option ℕ) → is_full room ≡ false → AreCounted all (length vs) room → AreCounted all (length (vs ++ v ∷ [])) (one_fewer room)
 count_more None vs v room full h = ap one_fewer h

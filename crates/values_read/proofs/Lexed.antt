@@ -6,6 +6,7 @@ use Rattle.std.specs.Cmp.Lexicographic.{pointwise, bytes_decides}
 use Rattle.std.proofs.lemmas.Bool.Decides.{nat_tests}
 use Rattle.std.proofs.lemmas.List.{drop-drop, take-append-drop}
 use Rattle.std.proofs.lemmas.Str.{IsUtf8-from_is_utf8, IsUtf8-nil}
+use Rattle.std.proofs.lemmas.Bool.{and_parts}
 use Rattle.sdf_values.specs.Numbers.{DecimalNumber}
 use Rattle.sdf_values.specs.NumberTexts.{is_digit, is_sign, is_mark, is_digits, is_some_digits, is_exponent, ends_fraction, starts_fraction, ends_whole, is_unsigned, is_number}
 use Rattle.usd_names.specs.Names.{is_name, is_number_word}
@@ -21,16 +22,13 @@ use Rattle.usda_lexer.specs.declared.token.Mark.TheVariants.{OpenParen, ClosePar
 use Rattle.usda_lexer.specs.declared.token.TokenKind.{TokenKind}
 use Rattle.usda_lexer.specs.declared.token.TokenKind.TheVariants as kind
 use Rattle.usda_lexer.proofs.DecimalLaw.{decimal_law}
+use Rattle.value_texts.proofs.Lengths.{some_len}
 use Rattle.values_read.specs.Tokens.{is_lexed, AreLexed}
 use Rattle.values_read.specs.Laws.{TokensAreLexed}
 use Rattle.values_read.proofs.Seams.{behind_ascii}
 use Rattle.values_read.proofs.Gaps.{behind_gap}
 use Rattle.values_read.proofs.NameTokens.{IsNameInFront, name_in_front}
 use Rattle.values_read.proofs.Quoted.{EndsLow, behind_low, low_behind, line_ends, quoted_ends, path_utf8, asset_is_token}
-
-both : (a b : Bool) → (a && b) ≡ true → (a ≡ true) × (b ≡ true)
-both true b e = (refl, e)
-both false b e = absurd cc
 
 -- ---- numbers are ASCII
 
@@ -49,11 +47,11 @@ low_mark c h = grind (arith, nat_tests)
 
 low_digits : (t : List ℕ) → is_digits t ≡ true → AreLow t
 low_digits [] h = tt
-low_digits (c ∷ t) h = let p = both (is_digit c) (is_digits t) h in (low_digit c p.0, low_digits t p.1)
+low_digits (c ∷ t) h = let p = and_parts (is_digit c) (is_digits t) h in (low_digit c p.0, low_digits t p.1)
 
 low_some_digits : (t : List ℕ) → is_some_digits t ≡ true → AreLow t
 low_some_digits [] h = absurd cc
-low_some_digits (c ∷ t) h = let p = both (is_digit c) (is_digits t) h in (low_digit c p.0, low_digits t p.1)
+low_some_digits (c ∷ t) h = let p = and_parts (is_digit c) (is_digits t) h in (low_digit c p.0, low_digits t p.1)
 
 low_exponent : (t : List ℕ) → is_exponent t ≡ true → AreLow t
 low_exponent [] h = absurd cc
@@ -61,10 +59,10 @@ low_exponent (c ∷ t) h = cases (is_sign c) refl h
   where
     cases : (b : Bool) → is_sign c ≡ b → elim b as (λ _. Bool) [ true ↦ is_some_digits t | false ↦ is_digit c && is_digits t ] ≡ true → AreLow (c ∷ t)
     cases true e g = (low_sign c e, low_some_digits t g)
-    cases false e g = let p = both (is_digit c) (is_digits t) g in (low_digit c p.0, low_digits t p.1)
+    cases false e g = let p = and_parts (is_digit c) (is_digits t) g in (low_digit c p.0, low_digits t p.1)
 
 low_scaled : (c : ℕ) (t : List ℕ) → (is_mark c && is_exponent t) ≡ true → AreLow (c ∷ t)
-low_scaled c t h = let p = both (is_mark c) (is_exponent t) h in (low_mark c p.0, low_exponent t p.1)
+low_scaled c t h = let p = and_parts (is_mark c) (is_exponent t) h in (low_mark c p.0, low_exponent t p.1)
 
 low_fraction : (t : List ℕ) → ends_fraction t ≡ true → AreLow t
 low_fraction [] h = tt
@@ -93,11 +91,11 @@ low_unsigned (c ∷ t) h = cases (is_digit c) refl h
   where
     pointed : (t : List ℕ) → starts_fraction t ≡ true → AreLow t
     pointed [] g = absurd cc
-    pointed (d ∷ ds) g = let p = both (is_digit d) (ends_fraction ds) g in (low_digit d p.0, low_fraction ds p.1)
+    pointed (d ∷ ds) g = let p = and_parts (is_digit d) (ends_fraction ds) g in (low_digit d p.0, low_fraction ds p.1)
 
     cases : (b : Bool) → is_digit c ≡ b → elim b as (λ _. Bool) [ true ↦ ends_whole t | false ↦ (c == 46) && starts_fraction t ] ≡ true → AreLow (c ∷ t)
     cases true e g = (low_digit c e, low_whole t g)
-    cases false e g = let p = both (c == 46) (starts_fraction t) g in (low_point c p.0, pointed t p.1)
+    cases false e g = let p = and_parts (c == 46) (starts_fraction t) g in (low_point c p.0, pointed t p.1)
 
 low_number : (t : List ℕ) → is_number t ≡ true → AreLow t
 low_number [] h = absurd cc
@@ -120,13 +118,10 @@ record IsFound (bytes : List ℕ) (f : TokenKind × ℕ) : Type 0 where
   pub behind : IsUtf8 (drop f.1 bytes)
   pub lexed : is_lexed f.0 (take f.1 bytes) ≡ true
 
-some_bytes : (n : ℕ) → (n == 0) ≡ false → 0 < n
-some_bytes n h = grind (arith, nat_tests)
-
 name_found : (bytes : List ℕ) → IsUtf8 bytes → (name_len bytes == 0) ≡ false → IsFound bytes (name_kind (take (name_len bytes) bytes), name_len bytes)
 name_found bytes u some =
     let is = name_in_front bytes u some in
-    record { some = some_bytes (name_len bytes) some; behind = is.behind; lexed = by is (is_number_word (take (name_len bytes) bytes)) refl }
+    record { some = some_len (name_len bytes) some; behind = is.behind; lexed = by is (is_number_word (take (name_len bytes) bytes)) refl }
   where
     by : IsNameInFront bytes (name_len bytes) → (b : Bool) → is_number_word (take (name_len bytes) bytes) ≡ b → is_lexed (if b then kind.Number else kind.Name) (take (name_len bytes) bytes) ≡ true
     by is true e = refl
@@ -139,7 +134,7 @@ number_found at n bytes f u some h = cases (decimal_of (take n bytes)) refl h
     cases None e g = absurd cc
     cases (Some d) e g =
         let same : (kind.Number, n) ≡ f = cc g in
-        subst (IsFound bytes) same (record { some = some_bytes n some; behind = behind_low_bytes n bytes (low_number (take n bytes) ((decimal_law (take n bytes) d).0 e).1.is_text) u; lexed = refl })
+        subst (IsFound bytes) same (record { some = some_len n some; behind = behind_low_bytes n bytes (low_number (take n bytes) ((decimal_law (take n bytes) d).0 e).1.is_text) u; lexed = refl })
 
 low_first : (c close : ℕ) (cs : List ℕ) (n : ℕ) (k : TokenKind) → EndsLow (c ∷ cs) n → IsUtf8 (c ∷ cs) → is_lexed k (take n (c ∷ cs)) ≡ true → IsFound (c ∷ cs) (k, n)
 low_first c close cs n k ends u is = record { some = (let a = ends.at in omega (arith, a)); behind = behind_low (c ∷ cs) n ends u; lexed = is }
@@ -226,7 +221,7 @@ minus_found at (c ∷ cs) f u h = cases ((c == 45) && begins_number_word cs) ref
 
     cases : (b : Bool) → ((c == 45) && begins_number_word cs) ≡ b → (if b then Ok (kind.Number, 4) else quoted_or_mark at c cs) ≡ Ok f → IsFound (c ∷ cs) f
     cases true e g =
-        let p = both (c == 45) (begins_number_word cs) e in
+        let p = and_parts (c == 45) (begins_number_word cs) e in
         let same : (kind.Number, 4) ≡ f = cc g in
         subst (IsFound (c ∷ cs)) same
         (word (take (name_len cs) cs) refl p.0 (pointwise ◌==◌ (take (name_len cs) cs) (codes "inf")) (pointwise ◌==◌ (take (name_len cs) cs) (codes "nan")) refl refl p.1)

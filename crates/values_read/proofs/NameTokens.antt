@@ -1,21 +1,16 @@
 -- A name in front of a text is a name.
-use Rattle.std.proofs.Common.{◌≡◌, ◌∙◌, ℕ, ◌+◌, Bool, true, false, ◌&&◌, ◌==◌, List, [], ◌∷◌, ◌++◌, length, length-append, take, drop, ap, sym, refl, subst, arith, inl, inr, ◌⊎◌}
-use Rattle.std.specs.Prelude.{if◌then◌else◌, encode_utf8}
+use Rattle.std.proofs.Common.{◌≡◌, ◌∙◌, ℕ, ◌+◌, Bool, true, false, ◌&&◌, ◌==◌, List, [], ◌∷◌, ◌++◌, length, take, drop, ap, sym, refl, subst, arith, inl, inr, ◌⊎◌}
+use Rattle.std.specs.Prelude.{if◌then◌else◌}
 use Rattle.std.specs.Char.{len_utf8}
 use Rattle.std.specs.Str.{chars, is_utf8, IsUtf8, all_scalars, encode_utf8_all}
-use Rattle.std.proofs.lemmas.Str.{encodes-chars, scalars-chars, chars_from_encodes, length-encode, encodes-append, is_utf8-from_IsUtf8}
+use Rattle.std.proofs.lemmas.Str.{encodes-chars, scalars-chars, chars_from_encodes, encodes-append, is_utf8-from_IsUtf8}
+use Rattle.std.proofs.lemmas.Bool.{and_parts}
 use lib.Utf8.{scalar}
 use Rattle.unicode_ident.specs.Ident.{is_xid_continue}
 use Rattle.usd_names.specs.Names.{goes_on, spells_joined}
 use Rattle.usda_lexer.specs.Names.{name_end, name_len}
-use Rattle.values_read.proofs.Seams.{behind_front, front_of}
-
--- how many bytes some characters have
-abbrev width : List ℕ → ℕ
-width cs = length (encode_utf8_all cs)
-
-one_wider : (c : ℕ) (cs : List ℕ) (n : ℕ) → (n + len_utf8 c) + width cs ≡ n + width (c ∷ cs)
-one_wider c cs n = omega (arith, length-append (encode_utf8 c) (encode_utf8_all cs), length-encode c)
+use Rattle.value_texts.proofs.Pieces.{front as front_of, back as behind_front}
+use Rattle.value_texts.proofs.NameTokens.{one_wider, width}
 
 -- characters in front that are a name, up to a place
 pub record IsName (begun : Bool) (n end : ℕ) (cs : List ℕ) : Type 0 where
@@ -78,14 +73,10 @@ ended begun end n (c ∷ cs) =
 
 -- ---- the bytes of a name
 
-both : (a b : Bool) → (a && b) ≡ true → (a ≡ true) × (b ≡ true)
-both true b e = (refl, e)
-both false b e = absurd cc
-
 scalars_parts : (cs ds : List ℕ) → all_scalars (cs ++ ds) ≡ true → (all_scalars cs ≡ true) × (all_scalars ds ≡ true)
 scalars_parts [] ds h = (refl, h)
 scalars_parts (c ∷ cs) ds h =
-    let p = both (scalar c) (all_scalars (cs ++ ds)) h in
+    let p = and_parts (scalar c) (all_scalars (cs ++ ds)) h in
     let q = scalars_parts cs ds p.1 in
     (ap (λ b. b && all_scalars cs) p.0 ∙ q.0, q.1)
 

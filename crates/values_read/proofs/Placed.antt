@@ -42,8 +42,8 @@ use Rattle.usda_fields.specs.declared.field.ListField.TheVariants.{Paths, Refere
 use Rattle.usda_fields.specs.declared.owner.OrderWord.{OrderWord}
 use Rattle.usda_fields.specs.declared.owner.OwnerDraft.{OwnerDraft}
 use Rattle.usda_fields.specs.declared.keys.KeyRule.{KeyRule}
-use Rattle.usda_grammar.specs.declared.kinds.TokenKind.{TokenKind}
-use Rattle.usda_grammar.specs.declared.kinds.TokenKind.TheVariants as token
+use Rattle.usda_grammar.specs.declared.kinds.WordKind.{WordKind}
+use Rattle.usda_grammar.specs.declared.kinds.WordKind.TheVariants as token
 use Rattle.usda_grammar.specs.declared.kinds.Keyword.TheVariants as word
 use Rattle.usda_grammar.specs.declared.symbols.Symbol.{Symbol}
 use Rattle.usda_grammar.specs.declared.symbols.Symbol.TheVariants as symbol
@@ -67,8 +67,9 @@ use Rattle.usda_statements.specs.declared.property.PropertyDraft.{PropertyDraft}
 use Rattle.usda_words.specs.Words.{Word}
 use Rattle.text_syntax.specs.Open.{begins_value}
 use Rattle.text_syntax.proofs.Tokens.{act_is}
+use Rattle.path_returns.specs.Returns.{IsPathOrAbsent}
 use Rattle.values_read.specs.Owners.{IsPlaced, AreAllPlaced, ArePlaced, OwnersHavePaths}
-use Rattle.values_read.proofs.OwnerPaths.{IsPathOrNone, prim_path_is, variant_path_is}
+use Rattle.values_read.proofs.OwnerPaths.{prim_path_is, variant_path_is}
 
 -- the owners of a draft that an act makes have paths
 abbrev pub Placed : {E : Type 0} → Result Draft E → Type 0
@@ -215,7 +216,7 @@ with_prim_keeps : (t : List ℕ) (path : List Element) (d : Draft) → ArePlaced
 unfolding with_prim entered prim_at owner_of with_child
 with_prim_keeps t path d is good = (record { formed = good; simple = refl }, all_more d.outer (record d.owner { children = d.owner.children ++ t ∷ [] }) is.1 is.0)
 
-entered_prim_keeps : (t : List ℕ) (path : Option (List Element)) (d : Draft) → ArePlaced d → IsPathOrNone path → Placed (entered_prim t path d)
+entered_prim_keeps : (t : List ℕ) (path : Option (List Element)) (d : Draft) → ArePlaced d → IsPathOrAbsent path → Placed (entered_prim t path d)
 unfolding entered_prim
 entered_prim_keeps t None d is good = is
 entered_prim_keeps t (Some path) d is good = if_placed (is_closed path d.specs) (Err DuplicateSpec) (Ok (with_prim t path d)) tt (with_prim_keeps t path d is good)
@@ -327,7 +328,7 @@ edit_keeps : (w : Word) (d : Draft) → ArePlaced d → Placed (edit_act w d)
 unfolding edit_act
 edit_keeps w d is = is
 
-edited_keeps : (k : TokenKind) (w : Word) (d : Draft) → ArePlaced d → Placed (edited_act k w d)
+edited_keeps : (k : WordKind) (w : Word) (d : Draft) → ArePlaced d → Placed (edited_act k w d)
 unfolding edited_act
 edited_keeps token.Equals w d is = key_keeps d.word d.word_at d is
 edited_keeps (token.Word word.StringField) w d is = string_field_keeps d.edit w d is
@@ -335,7 +336,7 @@ edited_keeps (token.Word word.PathField) w d is = path_field_keeps d.edit w d is
 edited_keeps (token.Word word.ReferenceField) w d is = reference_field_keeps d.edit w d is
 edited_keeps k w d is = is
 
-prim_item_keeps : (k : TokenKind) (w : Word) (d : Draft) → ArePlaced d → Placed (prim_item_act k w d)
+prim_item_keeps : (k : WordKind) (w : Word) (d : Draft) → ArePlaced d → Placed (prim_item_act k w d)
 unfolding prim_item_act
 prim_item_keeps token.Quoted w d is = comment_keeps w d is
 prim_item_keeps (token.Word word.Edit) w d is = edit_keeps w d is
@@ -350,13 +351,13 @@ sublayers_keeps : (at : ℕ) (d : Draft) → ArePlaced d → Placed (sublayers_a
 unfolding sublayers_act
 sublayers_keeps at d is = if_placed d.has_sublayers (Err (refused DuplicateSpec at)) (Ok (record d { has_sublayers = true; list = open_list.SubLayers })) tt is
 
-head_item_keeps : (k : TokenKind) (w : Word) (d : Draft) → ArePlaced d → Placed (head_item_act k w d)
+head_item_keeps : (k : WordKind) (w : Word) (d : Draft) → ArePlaced d → Placed (head_item_act k w d)
 unfolding head_item_act
 head_item_keeps token.Quoted w d is = comment_keeps w d is
 head_item_keeps (token.Word word.SubLayers) w d is = sublayers_keeps w.start d is
 head_item_keeps k w d is = key_keeps w.text w.start d is
 
-root_keeps : (k : TokenKind) (w : Word) (d : Draft) → ArePlaced d → Placed (root_act k w d)
+root_keeps : (k : WordKind) (w : Word) (d : Draft) → ArePlaced d → Placed (root_act k w d)
 unfolding root_act
 root_keeps (token.Word word.Specifier) w d is = specifier_keeps w.text d is
 root_keeps k w d is = is
@@ -373,7 +374,7 @@ root_order_keeps : (w : Word) (d : Draft) → ArePlaced d → Placed (root_order
 unfolding root_order_act
 root_order_keeps w d is = ordered_keeps NameChildren w.start d is
 
-order_name_keeps : (k : TokenKind) (w : Word) (d : Draft) → ArePlaced d → Placed (order_name_act k w d)
+order_name_keeps : (k : WordKind) (w : Word) (d : Draft) → ArePlaced d → Placed (order_name_act k w d)
 unfolding order_name_act
 order_name_keeps token.Quoted w d is = said_keeps w.start (owner.ordered_act d.order w.text d.owner.said) d is (ordered_stays d.order w.text d.owner.said)
 order_name_keeps k w d is = is
@@ -382,7 +383,7 @@ property_key_keeps : (w : Word) (d : Draft) → ArePlaced d → Placed (property
 unfolding property_key_act
 property_key_keeps w d is = then_placed w.start (property_rule w.text d.property) (λ rule. aimed_at_key goal.PropertyKey w.text rule d) (λ rule. aimed_keeps goal.PropertyKey w.text rule d is)
 
-property_item_keeps : (k : TokenKind) (w : Word) (d : Draft) → ArePlaced d → Placed (property_item_act k w d)
+property_item_keeps : (k : WordKind) (w : Word) (d : Draft) → ArePlaced d → Placed (property_item_act k w d)
 unfolding property_item_act
 property_item_keeps token.Quoted w d is = then_placed w.start (meta_comment_act w.text d.property) (with_property d) (λ p. is)
 property_item_keeps k w d is = property_key_keeps w d is
@@ -421,21 +422,21 @@ end_keeps (open_list.Field field) d is = (let s = close_stays field d.edit d.own
 end_keeps open_list.Property d is = is
 end_keeps l d is = is
 
-in_list_keeps : (k : TokenKind) (w : Word) (d : Draft) → ArePlaced d → Placed (in_list_act k w d)
+in_list_keeps : (k : WordKind) (w : Word) (d : Draft) → ArePlaced d → Placed (in_list_act k w d)
 unfolding in_list_act
 in_list_keeps token.Quoted w d is = string_keeps d.list w d is
 in_list_keeps token.Path w d is = list_path_keeps d.list w d is
 in_list_keeps token.CloseBracket w d is = end_keeps d.list d is
 in_list_keeps k w d is = is
 
-in_references_keeps : (k : TokenKind) (w : Word) (d : Draft) → ArePlaced d → Placed (in_references_act k w d)
+in_references_keeps : (k : WordKind) (w : Word) (d : Draft) → ArePlaced d → Placed (in_references_act k w d)
 unfolding in_references_act
 in_references_keeps token.Asset w d is = asset_keeps d.list w d is
 in_references_keeps token.Path w d is = lone_path_keeps d.list w d is
 in_references_keeps token.CloseBracket w d is = end_keeps d.list d is
 in_references_keeps k w d is = is
 
-sublayer_keeps : (k : TokenKind) (w : Word) (d : Draft) → ArePlaced d → Placed (sublayer_act k w d)
+sublayer_keeps : (k : WordKind) (w : Word) (d : Draft) → ArePlaced d → Placed (sublayer_act k w d)
 unfolding sublayer_act
 sublayer_keeps token.Asset w d is = is
 sublayer_keeps k w d is = is
@@ -456,27 +457,27 @@ type_keeps : (w : Word) (d : Draft) → ArePlaced d → Placed (type_act w d)
 unfolding type_act
 type_keeps w d is = then_placed w.start (with_type w.text d.heading) (λ h. headed h d) (λ h. is)
 
-after_variability_keeps : (k : TokenKind) (w : Word) (d : Draft) → ArePlaced d → Placed (after_variability_act k w d)
+after_variability_keeps : (k : WordKind) (w : Word) (d : Draft) → ArePlaced d → Placed (after_variability_act k w d)
 unfolding after_variability_act
 after_variability_keeps (token.Word word.Rel) w d is = is
 after_variability_keeps k w d is = type_keeps w d is
 
-after_custom_keeps : (k : TokenKind) (w : Word) (d : Draft) → ArePlaced d → Placed (after_custom_act k w d)
+after_custom_keeps : (k : WordKind) (w : Word) (d : Draft) → ArePlaced d → Placed (after_custom_act k w d)
 unfolding after_custom_act
 after_custom_keeps (token.Word word.Variability) w d is = is
 after_custom_keeps k w d is = after_variability_keeps k w d is
 
-after_edit_keeps : (k : TokenKind) (w : Word) (d : Draft) → ArePlaced d → Placed (after_edit_act k w d)
+after_edit_keeps : (k : WordKind) (w : Word) (d : Draft) → ArePlaced d → Placed (after_edit_act k w d)
 unfolding after_edit_act
 after_edit_keeps (token.Word word.Custom) w d is = is
 after_edit_keeps k w d is = after_custom_keeps k w d is
 
-after_reorder_keeps : (k : TokenKind) (w : Word) (d : Draft) → ArePlaced d → Placed (after_reorder_act k w d)
+after_reorder_keeps : (k : WordKind) (w : Word) (d : Draft) → ArePlaced d → Placed (after_reorder_act k w d)
 unfolding after_reorder_act
 after_reorder_keeps (token.Word word.OrderedField) w d is = order_keeps w d is
 after_reorder_keeps k w d is = after_edit_keeps k w d is
 
-statement_keeps : (k : TokenKind) (w : Word) (d : Draft) → ArePlaced d → Placed (statement_act k w d)
+statement_keeps : (k : WordKind) (w : Word) (d : Draft) → ArePlaced d → Placed (statement_act k w d)
 unfolding statement_act
 statement_keeps (token.Word word.Specifier) w d is = specifier_keeps w.text d is
 statement_keeps (token.Word word.VariantSet) w d is = is
@@ -512,12 +513,12 @@ list_keeps : (d : Draft) → ArePlaced d → Placed (list_begun d)
 unfolding list_begun
 list_keeps d is = then_placed d.name_at (list_act d.property) (λ p. record (with_property d p) { list = open_list.Property }) (λ p. is)
 
-tail_keeps : (k : TokenKind) (d : Draft) → ArePlaced d → Placed (tail_act k d)
+tail_keeps : (k : WordKind) (d : Draft) → ArePlaced d → Placed (tail_act k d)
 unfolding tail_act
 tail_keeps token.Equals d is = default_keeps d is
 tail_keeps k d is = is
 
-dot_keeps : (k : TokenKind) (at : ℕ) (d : Draft) → ArePlaced d → Placed (dot_act k at d)
+dot_keeps : (k : WordKind) (at : ℕ) (d : Draft) → ArePlaced d → Placed (dot_act k at d)
 unfolding dot_act
 dot_keeps (token.Word word.TimeSamples) at d is = samples_keeps d is
 dot_keeps (token.Word word.Connect) at d is = list_keeps d is
@@ -527,7 +528,7 @@ time_keeps : (t : List ℕ) (at : ℕ) (d : Draft) → ArePlaced d → Placed (t
 unfolding time_act
 time_keeps t at d is = then_placed at (time_of_number (number_of t)) (λ time. aimed_at_sample time d) (λ time. is)
 
-sample_keeps : (k : TokenKind) (w : Word) (d : Draft) → ArePlaced d → Placed (sample_act k w d)
+sample_keeps : (k : WordKind) (w : Word) (d : Draft) → ArePlaced d → Placed (sample_act k w d)
 unfolding sample_act
 sample_keeps token.Number w d is = time_keeps w.text w.start d is
 sample_keeps k w d is = is

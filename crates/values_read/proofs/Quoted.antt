@@ -1,14 +1,16 @@
 -- Strings, assets and paths in front of a text: where they end, and what stands between their delimiters.
-use Rattle.std.proofs.Common.{◌≡◌, ◌∙◌, ℕ, zero, suc, ◌+◌, ◌-◌, ◌<◌, Bool, true, false, ◌&&◌, ◌==◌, nat_le, List, [], ◌∷◌, ◌++◌, append_assoc, length, length-append, take, drop, Option, Some, None, ap, sym, refl, subst, arith, eqb-true}
-use Rattle.std.specs.Prelude.{if◌then◌else◌, slice_index}
+use Rattle.std.proofs.Common.{◌≡◌, ◌∙◌, ℕ, zero, suc, ◌+◌, ◌-◌, ◌<◌, Bool, true, false, ◌&&◌, ◌==◌, List, [], ◌∷◌, ◌++◌, append_assoc, length, length-append, take, drop, Option, Some, None, ap, sym, refl, subst, arith, eqb-true}
+use Rattle.std.specs.Prelude.{if◌then◌else◌}
 use Rattle.std.proofs.lemmas.Bool.Decides.{nat_tests}
 use Rattle.usda_lexer.specs.Blanks.{begins}
 use Rattle.usda_lexer.specs.Forms.{closed_line, closed_string, closed_tripled, closed_asset, more_ats, begins_twice, string_len, asset_len}
-use Rattle.usda_lexer.specs.Meanings.{inside, trimmed, asset_text, path_text}
+use Rattle.usda_lexer.specs.Meanings.{trimmed, asset_text, path_text}
 use Rattle.value_texts.specs.Writable.{has_short_ats, is_writable_asset}
+use Rattle.value_texts.proofs.AssetTokens.{one_off, three_off}
+use Rattle.value_texts.proofs.Pieces.{front as front_of}
 use Rattle.std.specs.Str.{IsUtf8, is_utf8}
 use Rattle.std.proofs.lemmas.Str.{is_utf8-from_IsUtf8}
-use Rattle.values_read.proofs.Seams.{front_of, behind_one, at_seam, behind_ascii, before_ascii}
+use Rattle.values_read.proofs.Seams.{behind_one, behind_ascii, before_ascii}
 
 -- a token of n bytes, of which k stand before these, that ends with this byte
 pub record EndsWith (close k : ℕ) (cs : List ℕ) (n : ℕ) : Type 0 where
@@ -139,32 +141,6 @@ token_is : (bytes token rest : List ℕ) (n : ℕ) → bytes ≡ token ++ rest �
 token_is bytes token rest n all at = ap (take n) all ∙ ap (λ k. take k (token ++ rest)) at ∙ front_of token rest
 
 -- ---- delimiters are taken off
-
-eq_refl : (c : ℕ) → (c == c) ≡ true
-eq_refl c = grind (arith, nat_tests)
-
-last_at : (xs ys : List ℕ) (c k : ℕ) → k ≡ length xs → slice_index (xs ++ c ∷ ys) k ≡ c
-last_at xs ys c k e = ap (λ j. slice_index (xs ++ c ∷ ys) j) e ∙ at_seam xs ys c
-
-one_off : (first close : ℕ) (t : List ℕ) → trimmed close 1 (first ∷ t ++ close ∷ []) ≡ t
-one_off first close t =
-    let text : List ℕ = first ∷ t ++ close ∷ [] in
-    let len : length text ≡ length t + 2 = omega (arith, length-append t (close ∷ [])) in
-    let enough : nat_le (1 + 1) (length text) ≡ true = grind (arith, nat_tests, len) in
-    let closing : slice_index text (length text - 1) ≡ close = last_at (first ∷ t) [] close (length text - 1) (omega (arith, len)) in
-    ap (λ b. if b && (slice_index text (length text - 1) == close) then inside 1 text else text) enough
-    ∙ ap (λ c. if c == close then inside 1 text else text) closing ∙ ap (λ b. if b then inside 1 text else text) (eq_refl close)
-    ∙ ap (λ n. take n (t ++ close ∷ [])) (let e : length text - 1 - 1 ≡ length t = omega (arith, len) in e) ∙ front_of t (close ∷ [])
-
-three_off : (t : List ℕ) → trimmed 64 3 (64 ∷ 64 ∷ 64 ∷ t ++ 64 ∷ 64 ∷ 64 ∷ []) ≡ t
-three_off t =
-    let text : List ℕ = 64 ∷ 64 ∷ 64 ∷ t ++ 64 ∷ 64 ∷ 64 ∷ [] in
-    let len : length text ≡ length t + 6 = omega (arith, length-append t (64 ∷ 64 ∷ 64 ∷ [])) in
-    let enough : nat_le (3 + 3) (length text) ≡ true = grind (arith, nat_tests, len) in
-    let closing : slice_index text (length text - 3) ≡ 64 = last_at (64 ∷ 64 ∷ 64 ∷ t) (64 ∷ 64 ∷ []) 64 (length text - 3) (omega (arith, len)) in
-    ap (λ b. if b && (slice_index text (length text - 3) == 64) then inside 3 text else text) enough
-    ∙ ap (λ c. if c == 64 then inside 3 text else text) closing
-    ∙ ap (λ n. take n (t ++ 64 ∷ 64 ∷ 64 ∷ [])) (let e : length text - 3 - 3 ≡ length t = omega (arith, len) in e) ∙ front_of t (64 ∷ 64 ∷ 64 ∷ [])
 
 -- ---- paths
 

@@ -2,7 +2,7 @@
 use Rattle.std.specs.Prelude.{◌≡◌, ◌⊎◌, ℕ, Bool, true, ◌&&◌, List, [], ◌∷◌}
 use Rattle.std.specs.Str.{is_utf8}
 use Rattle.usd_names.specs.Names.{is_name}
-use Rattle.usda_grammar.specs.declared.kinds.TokenKind.TheVariants as word
+use Rattle.usda_grammar.specs.declared.kinds.WordKind.TheVariants as word
 use Rattle.usda_lexer.specs.Meanings.{asset_text, path_text}
 use Rattle.usda_lexer.specs.Words.{Word as Token}
 use Rattle.usda_lexer.specs.declared.token.TokenKind.{TokenKind}

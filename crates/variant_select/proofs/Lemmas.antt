@@ -1,13 +1,12 @@
 -- Rounds, one at a time, and names that are one.
 use Rattle.std.proofs.Common.{Bool, true, false, cond, ◌||◌, Option, Some, None, is_some}
 use Rattle.std.specs.Option.{option_or}
-use Rattle.std.specs.Ordering.{nat_cmp, is_eq}
+use Rattle.std.specs.Ordering.{nat_cmp}
 use Rattle.std.specs.Cmp.Lexicographic.{slice_cmp}
-use Rattle.std.specs.declared.cmp.Ordering.{Ordering}
-use Rattle.std.specs.declared.cmp.Ordering.TheVariants.{Less, Equal, Greater}
 use Rattle.std.proofs.lemmas.Map.Lookups.{exact_bytes}
 use Rattle.variant_select.specs.Rounds.{same_name, opinion_on}
 use Rattle.std.proofs.Common.{◌≡◌, ℕ, zero, suc, ◌+◌, ◌-◌, ◌<◌, ◌≤◌, List, [], ◌∷◌, ◌++◌, refl, ap, sym, ◌∙◌, subst, append-nil, length, length-append, arith}
+use Rattle.std.specs.Cmp.{Equal-is}
 use Rattle.variant_select.specs.declared.met.Met.{Met}
 use Rattle.variant_select.specs.Rounds.{after_rounds, after_round, choices, round_limit, decided}
 
@@ -29,13 +28,8 @@ unfolding after_rounds
 no_more f zero chosen h = refl
 no_more f (suc k) chosen h = ap (λ c. after_rounds f k c) h ∙ no_more f k chosen h
 
-is_eq_Equal : (o : Ordering) → is_eq o ≡ true → o ≡ Equal
-is_eq_Equal Less h = absurd cc
-is_eq_Equal Equal h = refl
-is_eq_Equal Greater h = absurd cc
-
 pub one_name : (a b : List ℕ) → same_name a b ≡ true → a ≡ b
-one_name a b h = exact_bytes a b (is_eq_Equal (slice_cmp nat_cmp a b) h)
+one_name a b h = exact_bytes a b ((Equal-is (slice_cmp nat_cmp a b)).0 h)
 
 pub cond_or : (b x : Bool) → cond b true x ≡ (b || x)
 cond_or true x = refl

@@ -6,7 +6,7 @@ use Rattle.usda_machine.proofs.step.Goals as goal
 
 pub returns-in-Some-starts : goal.returns-in-Some-starts
 returns-in-Some-starts c =
-    let pushed = c.in_ok-push_all.ensures in
+    let pushed = c.in_ok-push_front.ensures in
     sym c.loop-symbol.invariant ∙ step_taken c.loop-symbol.stack c.in-Some.symbol c.args.kind c.in-Some-starts.after.now c.in-Some.ensures.value c.in-Some-starts.ensures
     ∙ ap (λ ss. Some (c.in-Some.symbol, c.in-Some-starts.after.now ++ stack_of ss)) (sym c.pop.ensures.left) ∙ ap (λ ss. Some (c.in-Some.symbol, ss)) (sym pushed)
 

@@ -3,7 +3,7 @@ use Rattle.std.proofs.lemmas.Result.{IfOk-weaker}
 use Rattle.list_ops.specs.declared.op.ListOp.{ListOp}
 use Rattle.list_ops.specs.ListEdits.{folded}
 use Rattle.composition.specs.Texts.{Text, same_text}
-use Rattle.arc_expand.specs.SameItems.{text_tests_are}
+use Rattle.composition.proofs.Same.{text_tests_are}
 use Rattle.arc_expand.proofs.Authoring.{sets_are}
 use Rattle.arc_expand.proofs.authored.variant_sets_in.Goals as goal
 

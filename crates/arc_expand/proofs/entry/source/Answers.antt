@@ -1,7 +1,7 @@
 use Rattle.std.proofs.Common.{◌∙◌, sym, ap, refl, Option, Some, Err}
 use Rattle.composition.specs.Texts.{Text}
 use Rattle.composition.specs.Arcs.{source_of, unanchored}
-use Rattle.layer_stack.proofs.Anchored.{anchored_some, anchored_none}
+use Rattle.composition.proofs.Anchored.{anchored_some, anchored_none}
 use Rattle.arc_expand.proofs.Outcomes.{named_source, unanchored_source}
 use Rattle.arc_expand.proofs.entry.source.Goals as goal
 

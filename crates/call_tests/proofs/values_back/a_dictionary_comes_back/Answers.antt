@@ -4,12 +4,12 @@ use Rattle.std.specs.Str.{chars, is_utf8}
 use Rattle.sdf_values.specs.declared.type_name.ElementType.TheVariants as element
 use Rattle.sdf_values.specs.declared.value.DictItem.{DictItem}
 use Rattle.sdf_values.specs.declared.value.Value.TheVariants as value
+use Rattle.sdf_values.proofs.Values.{of_whole, of_dict, of_item}
 use Rattle.usda_values.specs.Scalars.{decimal_of_whole, tens_out}
 use Rattle.usda_values.specs.declared.shape.Shape.TheVariants.{Dictionary}
 use Rattle.value_texts.specs.Examples.{entry, plain}
 use Rattle.value_texts.specs.Readable.{is_read_as}
 use Rattle.value_texts.specs.Writable.{is_writable}
-use Rattle.value_texts.proofs.Values.{of_whole, of_dict, of_item}
 use Rattle.value_texts.proofs.ReadingSteps.{reads_whole, reads_dict}
 use Rattle.call_tests.proofs.values_back.a_dictionary_comes_back.Goals as goal
 

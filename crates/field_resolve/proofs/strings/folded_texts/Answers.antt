@@ -3,7 +3,7 @@ use Rattle.std.proofs.lemmas.Result.{IfOk-weaker}
 use Rattle.list_ops.specs.ListEdits.{folded}
 use Rattle.composition.specs.Texts.{Text}
 use Rattle.field_resolve.specs.Folding.{folded_texts}
-use Rattle.field_resolve.proofs.Texts.{text_tests_are}
+use Rattle.composition.proofs.Same.{text_tests_are}
 use Rattle.field_resolve.proofs.strings.folded_texts.Goals as goal
 
 pub returns : goal.returns

@@ -1,6 +1,6 @@
 use Rattle.std.proofs.Common.{◌≡◌, ◌∙◌, ap, Bool, true, false, ◌||◌}
 use Rattle.composition.specs.Texts.{Text, same_text}
-use Rattle.layer_stack.proofs.Meaning.{same_told}
+use Rattle.composition.proofs.Same.{text_told}
 use Rattle.layer_load.specs.Opening.{is_session}
 use Rattle.layer_load.proofs.opening.is_needed.Goals as goal
 
@@ -15,9 +15,9 @@ either_false r s false b f e h = h
 pub returns-then-same : goal.returns-then-same
 returns-then-same c =
     either_true c.same.result (same_text c.args.name.now c.args.world.now.root) (is_session c.args.world.now.session c.args.name.now) c.if-same.true
-    (same_told c.args.name.now c.root.result.now c.same.result c.same.ensures ∙ ap (λ (x : Text). same_text c.args.name.now x) c.root.ensures)
+    (text_told c.args.name.now c.root.result.now c.same.result c.same.ensures ∙ ap (λ (x : Text). same_text c.args.name.now x) c.root.ensures)
 
 pub returns-else-same : goal.returns-else-same
 returns-else-same c =
     either_false c.same.result c.is_session.result (same_text c.args.name.now c.args.world.now.root) (is_session c.args.world.now.session c.args.name.now) c.if-same.false
-    (same_told c.args.name.now c.root.result.now c.same.result c.same.ensures ∙ ap (λ (x : Text). same_text c.args.name.now x) c.root.ensures) c.is_session.ensures
+    (text_told c.args.name.now c.root.result.now c.same.result c.same.ensures ∙ ap (λ (x : Text). same_text c.args.name.now x) c.root.ensures) c.is_session.ensures

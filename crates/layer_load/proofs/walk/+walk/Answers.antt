@@ -1,8 +1,8 @@
 use Rattle.std.proofs.Common.{sym, ap, append-nil, append_assoc, arith, rules, refl}
 use Rattle.std.specs.Option.{option_map}
 use Rattle.sdf_paths.specs.declared.element.Element.TheVariants.{Prim, Selection}
-use Rattle.usda_writer.specs.Canonical.{spec_below}
-use Rattle.usda_writer.proofs.Standing.{found_path, no_property}
+use Rattle.sdf_specs.specs.Found.{spec_below}
+use Rattle.sdf_specs.proofs.Standing.{found_path, no_property}
 use Rattle.layer_load.proofs.Levels.{no_level, one_level}
 use Rattle.layer_load.proofs.walk.+walk.Goals as goal
 

@@ -4,8 +4,8 @@ use Rattle.std.specs.Str.{chars, is_utf8}
 use Rattle.unicode_ident.proofs.Computing.{unicode_ident}
 use Rattle.usd_names.specs.Names.{is_start, is_identifier, is_variant, is_variant_character}
 use Rattle.sdf_values.specs.Print.{fraction_digits}
+use Rattle.sdf_values.proofs.Values.{of_text, of_word, of_block}
 use Rattle.usda_lexer.specs.Words.{next_word, found, left}
-use Rattle.value_texts.proofs.Values.{of_text, of_word, of_block}
 use Rattle.layer_texts.specs.FieldWords.{spec_words}
 use Rattle.layer_texts.specs.LayerWords.{body_words, layer_words}
 use Rattle.layer_texts.specs.Writable.{is_word, is_writable_spec, is_writable_layer}

@@ -2,9 +2,9 @@ use Rattle.std.proofs.Common.{◌∙◌, ap, sym, List}
 use Rattle.std.proofs.lemmas.Result.{IfOk-weaker}
 use Rattle.composition.specs.Faults.{Fault}
 use Rattle.composition.specs.Views.{PrimView, empty_view}
-use Rattle.layer_stack.proofs.Names.{not_both}
 use Rattle.prim_compose.proofs.Seen.{entry_at_root, entry_at_prim, entry_elsewhere, stage_prim}
 use Rattle.prim_compose.proofs.view.compose_prim.Goals as goal
+use Rattle.sdf_specs.proofs.PathLemmas.{not_both}
 
 pub returns-then-is_root : goal.returns-then-is_root
 returns-then-is_root c =

@@ -11,5 +11,5 @@ along r a b e h = subst (λ (x : List WrittenReference). IfOk r (λ all. all ≡
 pub returns : goal.returns
 returns c =
     along c.unordered.result c.in_ok-kept.kept (firsts same_reference c.args.items)
-    (c.in_ok-kept.ensures ∙ ap (λ (same : WrittenReference → WrittenReference → Bool). firsts same c.in_ok-ordered.field-0) reference_is ∙ ap (firsts same_reference) c.in_ok-ordered.ensures)
+    (c.in_ok-kept.ensures ∙ ap (λ (same : WrittenReference → WrittenReference → Bool). firsts same c.as_slice.result.now) reference_is ∙ ap (firsts same_reference) (c.as_slice.ensures ∙ c.in_ok-all.ensures))
     c.unordered.ensures

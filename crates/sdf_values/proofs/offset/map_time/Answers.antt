@@ -13,6 +13,6 @@ returns-clause-mapped c =
     let shift : c.times-2.result ≡ c.args.offset *ℤ pos (10 ^ 18) = c.times-2.ensures.product ∙ ap (λ z. z *ℤ pos (10 ^ 18)) plain in
     let total : c.sum-mapped.result ≡ c.times.result +ℤ c.times-2.result = omega (arith, ints, c.sum-mapped.ensures, c.times.type_inv, c.times-2.type_inv) in
     let fits : FitsSigned w128 c.sum-mapped.result = search rules in (
-      subst (λ (n : ℕ). n ≤ 10 ^ 30) c.unsigned_abs.ensures.value c.if-unsigned_abs-gt-MOST_UNITS.false,
+      subst (λ (n : ℕ). n ≤ 10 ^ 30) c.unsigned_abs.ensures.value c.if-unsigned_abs-gt-MAX_UNITS.false,
       to_z-of_z w128 c.sum-mapped.result fits ∙ total ∙ ap (λ z. z +ℤ c.times-2.result) product ∙ ap (λ z. (c.args.units *ℤ c.args.scale) +ℤ z) shift,
     )

@@ -11,18 +11,18 @@ returns-in-Some-clause-front g c =
     let i = c.loop-at.invariant in
     rw c.line_to.ensures (front_feed c.args.start c.loop-at.scanned c.in-Some.at c.loop-at.ended c.loop-at.bytes.items i.grows.0 _ _ i.scan f.0 f.1 f.2 f.3 i.grows.2)
 
-pub returns-then-len-gt-MOST_BYTES-clause-scan : goal.returns-then-len-gt-MOST_BYTES-clause-scan
-returns-then-len-gt-MOST_BYTES-clause-scan g c =
+pub returns-then-len-gt-MAX_BYTES-clause-scan : goal.returns-then-len-gt-MAX_BYTES-clause-scan
+returns-then-len-gt-MAX_BYTES-clause-scan g c =
     let none = rw c.deref.ensures.value at c.in_default.ensures.none in
     let e : c.len.result ≡ length c.loop-at.bytes.items = omega (arith, c.len.ensures, c.loop-at.bytes.ok.0) in
     rw e (scan_all c.args.start c.loop-at.scanned c.loop-at.bytes.items c.loop-at.invariant.scan none)
 
-pub returns-then-len-gt-MOST_BYTES-clause-front : goal.returns-then-len-gt-MOST_BYTES-clause-front
-returns-then-len-gt-MOST_BYTES-clause-front g c =
+pub returns-then-len-gt-MAX_BYTES-clause-front : goal.returns-then-len-gt-MAX_BYTES-clause-front
+returns-then-len-gt-MAX_BYTES-clause-front g c =
     let none = rw c.deref.ensures.value at c.in_default.ensures.none in
     let e : c.len-in-loop-at.result ≡ length c.loop-at.bytes.items = omega (arith, c.len-in-loop-at.ensures, c.loop-at.bytes.ok.0) in
     let scan = scan_all c.args.start c.loop-at.scanned c.loop-at.bytes.items c.loop-at.invariant.scan none in
-    front_long c.args.start c.loop-at.ended c.loop-at.bytes.items c.loop-at.invariant.grows.0 _ _ scan c.requires.short (rw e at c.if-len-gt-MOST_BYTES.true) c.loop-at.invariant.grows.2
+    front_long c.args.start c.loop-at.ended c.loop-at.bytes.items c.loop-at.invariant.grows.0 _ _ scan c.requires.short (rw e at c.if-len-gt-MAX_BYTES.true) c.loop-at.invariant.grows.2
 
 pub returns-in_err-read_more-clause-scan : goal.returns-in_err-read_more-clause-scan
 returns-in_err-read_more-clause-scan g c =
@@ -45,7 +45,7 @@ returns-then-ended-clause-front g c =
     let e : c.len-then-ended.result ≡ length old = omega (arith, c.len-then-ended.ensures, c.loop-at.bytes.ok.0) in
     let f : c.len-in-loop-at.result ≡ length old = omega (arith, c.len-in-loop-at.ensures, c.loop-at.bytes.ok.0) in
     let scan = scan_all c.args.start c.loop-at.scanned old i.scan none in
-    let short : length old ≤ 16777216 = omega (arith, c.if-len-gt-MOST_BYTES.false) in
+    let short : length old ≤ 16777216 = omega (arith, c.if-len-gt-MAX_BYTES.false) in
     let told = rw shut at i.grows.2 in
     rw (c.last_front.ensures, e, shut) (front_rest c.args.start old i.grows.0 _ scan short told)
 
@@ -67,7 +67,7 @@ returns-then-not-branch-clause-front g c =
     let e : c.len-then-not-branch.result ≡ length old = omega (arith, c.len-then-not-branch.ensures, c.read_more.new.bytes.ok.0, n) in
     let f : c.len-in-loop-at.result ≡ length old = omega (arith, c.len-in-loop-at.ensures, c.loop-at.bytes.ok.0) in
     let scan = scan_all c.args.start c.loop-at.scanned old i.scan none in
-    let short : length old ≤ 16777216 = omega (arith, c.if-len-gt-MOST_BYTES.false) in
+    let short : length old ≤ 16777216 = omega (arith, c.if-len-gt-MAX_BYTES.false) in
     let told = rw shut at i.grows.2 in
     rw (c.last_front-then-not-branch.ensures, e, m.0) (front_rest c.args.start old i.grows.0 _ scan short (to_end _ (g.S.Source.left c.loop-at.source) i.grows.0 told m.1))
 
@@ -110,5 +110,5 @@ returns-in_err-read_more-clause-none g c =
     let scan = scan_all c.args.start c.loop-at.scanned c.loop-at.bytes.items c.loop-at.invariant.scan none in
     let p = err_from_is_err_and c.from_residual.result c.from_residual.ensures.1 in
     let f : c.len-in-loop-at.result ≡ length c.loop-at.bytes.items = omega (arith, c.len-in-loop-at.ensures, c.loop-at.bytes.ok.0) in
-    let short : length c.loop-at.bytes.items ≤ 16777216 = omega (arith, c.if-len-gt-MOST_BYTES.false) in
+    let short : length c.loop-at.bytes.items ≤ 16777216 = omega (arith, c.if-len-gt-MAX_BYTES.false) in
     rw (p.1, c.in_err-read_more.ensures.more.0) (held_scanned c.args.start c.loop-at.bytes.items scan, c.if-ended.false, short)

@@ -1,8 +1,9 @@
 use Rattle.std.proofs.Common.{refl, sym, ap, subst, ◌∙◌, Some}
+use Rattle.std.proofs.lemmas.Result.{on_ok_weaker, on_err_weaker}
 use Rattle.spec_tables.specs.Tables.{IsTable, at_key, with_value}
 use Rattle.shared_tables.specs.Trees.{link_entries}
 use Rattle.shared_tables.specs.declared.node.Node.{out-Node}
-use Rattle.shared_tables.proofs.Exchanges.{tree_parts, lent, same_entries, any_err, ok_so, err_so, failed, answered}
+use Rattle.shared_tables.proofs.Exchanges.{tree_parts, lent, same_entries, any_err, failed, answered}
 use Rattle.shared_tables.proofs.Nodes.{if_made, put_left, put_middle, put_right}
 use Rattle.shared_tables.proofs.Order.{front, past}
 use Rattle.shared_tables.proofs.Splits.{at_left, at_middle, at_right, value_left, value_middle, value_right}
@@ -15,14 +16,14 @@ returns-in_err-node-in-Some-clause-err g t c =
 pub returns-in-Less-clause-err : goal.returns-in-Less-clause-err
 returns-in-Less-clause-err g t c =
     let is = tree_parts c.args.tree.now _ _ c.in-Some.is c.in_ok-node-in-Some.ensures.value in
-    err_so c.exchange.result (λ kept. lent _ (out-Node _ _ c.in_ok-node-in-Some.node.now).entry (out-Node _ _ c.in_ok-node-in-Some.node.now).height c.exchange.new.tree (out-Node _ _ c.in_ok-node-in-Some.node.now).after (c.make_mut.follows.holds _ (answered _ _ c.in_ok-node-in-Some.was)) ∙ (put_left (λ es. es) _ _ _ _ is _ _ _ refl kept refl refl)) c.exchange.ensures.err
+    on_err_weaker c.exchange.result (λ kept. lent _ (out-Node _ _ c.in_ok-node-in-Some.node.now).entry (out-Node _ _ c.in_ok-node-in-Some.node.now).height c.exchange.new.tree (out-Node _ _ c.in_ok-node-in-Some.node.now).after (c.make_mut.follows.holds _ (answered _ _ c.in_ok-node-in-Some.was)) ∙ (put_left (λ es. es) _ _ _ _ is _ _ _ refl kept refl refl)) c.exchange.ensures.err
 
 pub returns-in-Less-clause-ok : goal.returns-in-Less-clause-ok
 returns-in-Less-clause-ok g t c = λ s.
     let is = tree_parts c.args.tree.now _ _ c.in-Some.is c.in_ok-node-in-Some.ensures.value in
     let s' = subst (IsTable g.K.Ord.cmp) is s in
     let whole = value_left g.met.K.Ord.total c.args.key.now _ _ _ s' c.args.value (rw c.key.ensures at (sym c.in-Less.ensures)) in
-    ok_so c.exchange.result (λ kept. lent _ (out-Node _ _ c.in_ok-node-in-Some.node.now).entry (out-Node _ _ c.in_ok-node-in-Some.node.now).height c.exchange.new.tree (out-Node _ _ c.in_ok-node-in-Some.node.now).after (c.make_mut.follows.holds _ (answered _ _ c.in_ok-node-in-Some.was)) ∙ (put_left (with_value g.K.Ord.cmp c.args.key.now c.args.value) _ _ _ _ is _ _ _ whole kept refl refl)) (c.exchange.ensures.ok (front _ _ _ s'))
+    on_ok_weaker c.exchange.result (λ kept. lent _ (out-Node _ _ c.in_ok-node-in-Some.node.now).entry (out-Node _ _ c.in_ok-node-in-Some.node.now).height c.exchange.new.tree (out-Node _ _ c.in_ok-node-in-Some.node.now).after (c.make_mut.follows.holds _ (answered _ _ c.in_ok-node-in-Some.was)) ∙ (put_left (with_value g.K.Ord.cmp c.args.key.now c.args.value) _ _ _ _ is _ _ _ whole kept refl refl)) (c.exchange.ensures.ok (front _ _ _ s'))
 
 pub returns-in-Less-clause-before : goal.returns-in-Less-clause-before
 returns-in-Less-clause-before g t c = λ s.
@@ -34,14 +35,14 @@ returns-in-Less-clause-before g t c = λ s.
 pub returns-in-Greater-clause-err : goal.returns-in-Greater-clause-err
 returns-in-Greater-clause-err g t c =
     let is = tree_parts c.args.tree.now _ _ c.in-Some.is c.in_ok-node-in-Some.ensures.value in
-    err_so c.exchange-in-Greater.result (λ kept. lent _ (out-Node _ _ c.in_ok-node-in-Some.node.now).entry (out-Node _ _ c.in_ok-node-in-Some.node.now).height (out-Node _ _ c.in_ok-node-in-Some.node.now).before c.exchange-in-Greater.new.tree (c.make_mut.follows.holds _ (answered _ _ c.in_ok-node-in-Some.was)) ∙ (put_right (λ es. es) _ _ _ _ is _ _ _ refl refl refl kept)) c.exchange-in-Greater.ensures.err
+    on_err_weaker c.exchange-in-Greater.result (λ kept. lent _ (out-Node _ _ c.in_ok-node-in-Some.node.now).entry (out-Node _ _ c.in_ok-node-in-Some.node.now).height (out-Node _ _ c.in_ok-node-in-Some.node.now).before c.exchange-in-Greater.new.tree (c.make_mut.follows.holds _ (answered _ _ c.in_ok-node-in-Some.was)) ∙ (put_right (λ es. es) _ _ _ _ is _ _ _ refl refl refl kept)) c.exchange-in-Greater.ensures.err
 
 pub returns-in-Greater-clause-ok : goal.returns-in-Greater-clause-ok
 returns-in-Greater-clause-ok g t c = λ s.
     let is = tree_parts c.args.tree.now _ _ c.in-Some.is c.in_ok-node-in-Some.ensures.value in
     let s' = subst (IsTable g.K.Ord.cmp) is s in
     let whole = value_right g.met.K.Ord.total c.args.key.now _ _ _ s' c.args.value (rw c.key.ensures at (sym c.in-Greater.ensures)) in
-    ok_so c.exchange-in-Greater.result (λ kept. lent _ (out-Node _ _ c.in_ok-node-in-Some.node.now).entry (out-Node _ _ c.in_ok-node-in-Some.node.now).height (out-Node _ _ c.in_ok-node-in-Some.node.now).before c.exchange-in-Greater.new.tree (c.make_mut.follows.holds _ (answered _ _ c.in_ok-node-in-Some.was)) ∙ (put_right (with_value g.K.Ord.cmp c.args.key.now c.args.value) _ _ _ _ is _ _ _ whole refl refl kept)) (c.exchange-in-Greater.ensures.ok (past _ _ _ _ s'))
+    on_ok_weaker c.exchange-in-Greater.result (λ kept. lent _ (out-Node _ _ c.in_ok-node-in-Some.node.now).entry (out-Node _ _ c.in_ok-node-in-Some.node.now).height (out-Node _ _ c.in_ok-node-in-Some.node.now).before c.exchange-in-Greater.new.tree (c.make_mut.follows.holds _ (answered _ _ c.in_ok-node-in-Some.was)) ∙ (put_right (with_value g.K.Ord.cmp c.args.key.now c.args.value) _ _ _ _ is _ _ _ whole refl refl kept)) (c.exchange-in-Greater.ensures.ok (past _ _ _ _ s'))
 
 pub returns-in-Greater-clause-before : goal.returns-in-Greater-clause-before
 returns-in-Greater-clause-before g t c = λ s.

@@ -1,5 +1,6 @@
 use Rattle.std.proofs.Common.{◌≡◌, ◌++◌, drop, string_bytes}
-use Rattle.usda_writer.specs.Texts.{listed, listed_from, path_text}
+use Rattle.sdf_paths.specs.Paths.{path_text}
+use Rattle.usda_writer.specs.Texts.{listed, listed_from}
 use Rattle.stage_questions.proofs.lists.push_targets.Given as goal
 
 abbrev pub invariant-loop-path : goal.invariant-loop-path

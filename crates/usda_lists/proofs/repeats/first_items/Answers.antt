@@ -12,5 +12,5 @@ along r a b e h = subst (λ (x : List RefItem). IfOk r (λ all. all ≡ x)) e h
 pub returns : goal.returns
 returns c =
     along c.unordered.result c.in_ok-kept.kept (firsts same_item c.args.items)
-    (c.in_ok-kept.ensures ∙ ap (λ (same : RefItem → RefItem → Bool). firsts same c.in_ok-ordered.field-0) item_is ∙ ap (firsts same_item) c.in_ok-ordered.ensures)
+    (c.in_ok-kept.ensures ∙ ap (λ (same : RefItem → RefItem → Bool). firsts same c.as_slice.result.now) item_is ∙ ap (firsts same_item) (c.as_slice.ensures ∙ c.in_ok-all.ensures))
     c.unordered.ensures

@@ -18,7 +18,7 @@ unreachable-requires c = let f : true ≡ false = sym (passed_is_utf8 c.args.byt
 pub returns : goal.returns
 returns c =
     let none : stack_of c.new-stack.result ≡ [] = ap stack_of c.new-stack.ensures ∙ stack_of-none [] refl in
-    let pushed : stack_of c.push_all.new.stack ≡ layer = c.in_ok-push_all.ensures ∙ ap (λ (l : List Symbol). l ++ stack_of c.new-stack.result) c.layer.ensures ∙ ap (λ (l : List Symbol). layer ++ l) none in
+    let pushed : stack_of c.push_front.new.stack ≡ layer = c.in_ok-push_front.ensures ∙ ap (λ (l : List Symbol). l ++ stack_of c.new-stack.result) c.layer.ensures ∙ ap (λ (l : List Symbol). layer ++ l) none in
     subst (λ (x : Result Draft Refused). Does c.take_words.result c.take_words.new.draft x)
     (ap (λ (ss : List Symbol). run_from (length c.args.bytes.now) ss c.args.draft.now (words_left c.in-Ok.words)) pushed
     ∙ ap (λ (ws : List Word). run_from (length c.args.bytes.now) layer c.args.draft.now ws) c.in-Ok.ensures.1)

@@ -1,6 +1,6 @@
 use Rattle.std.proofs.Common.{◌≡◌, ◌∙◌, ◌+◌, ◌-◌, ◌<◌, ◌++◌, ◌∷◌, [], List, map, drop, Err, ap, sym, subst, arith}
 use Rattle.std.proofs.lemmas.List.{drop_all}
-use Rattle.usda_values.specs.declared.fault.ActFault.{ActFault}
+use Rattle.usda_values.specs.declared.fault.PartFault.{PartFault}
 use Rattle.usda_values.specs.Shaping.{Taking, taken, take_counted, GivesAll}
 use Rattle.usda_values.proofs.Members.{behind, counted_step, counted_stops, counted_lacks, member_at, gives_err}
 use Rattle.usda_values.proofs.shaping.+taken.Goals as goal
@@ -29,7 +29,7 @@ take_counted-loop-i-preserved t c =
 pub take_counted-returns-then-values-count : goal.take_counted-returns-then-values-count
 take_counted-returns-then-values-count t c =
     let left : 0 < c.args.count - c.loop-i.i = omega (arith, c.if-values-count.true, c.loop-i.auto.i-end) in
-    subst (λ (f : ActFault). GivesAll (Err f) (take_counted c.args.count (map taken c.args.values.now) c.args.ty)) (sym c.shape_fault-then-values-count.ensures)
+    subst (λ (f : PartFault). GivesAll (Err f) (take_counted c.args.count (map taken c.args.values.now) c.args.ty)) (sym c.shape_fault-then-values-count.ensures)
     (sym c.loop-i.invariant.same
     ∙ ap (λ xs. behind c.loop-i.all (take_counted (c.args.count - c.loop-i.i) (map taken xs) c.args.ty)) (drop_all c.loop-i.i c.args.values.now (omega (arith, c.loop-i-test.false)))
     ∙ counted_lacks (c.args.count - c.loop-i.i) c.loop-i.all c.args.ty left)

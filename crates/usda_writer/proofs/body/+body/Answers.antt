@@ -1,9 +1,9 @@
 use Rattle.std.proofs.Common.{◌≡◌, ◌++◌, List, ℕ, sym, ap, ◌∙◌, append-nil, append_assoc, arith, rules, refl}
 use Rattle.std.specs.Option.{option_map}
 use Rattle.sdf_paths.specs.declared.element.Element.TheVariants.{Prim, Selection}
-use Rattle.usda_writer.specs.Canonical.{spec_below}
+use Rattle.sdf_specs.specs.Found.{spec_below}
 use Rattle.usda_writer.proofs.Levels.{no_level, one_level}
-use Rattle.usda_writer.proofs.Standing.{found_path, no_property}
+use Rattle.sdf_specs.proofs.Standing.{found_path, no_property}
 use Rattle.usda_writer.proofs.body.+body.Goals as goal
 
 pub push_body-returns-then-levels-eq0 : goal.push_body-returns-then-levels-eq0

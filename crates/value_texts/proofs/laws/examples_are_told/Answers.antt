@@ -4,8 +4,8 @@ use Rattle.std.specs.Str.{chars, is_utf8}
 use Rattle.unicode_ident.proofs.Computing.{unicode_ident}
 use Rattle.usd_names.specs.Names.{is_start}
 use Rattle.sdf_values.specs.Print.{fraction_digits}
+use Rattle.sdf_values.proofs.Values.{of_bool, of_whole, of_number, of_time, of_word, of_block, of_tuple, of_array, of_dict, of_item}
 use Rattle.usda_values.specs.Scalars.{whole_of, is_plain, decimal_of_whole, tens_out}
-use Rattle.value_texts.proofs.Values.{of_bool, of_whole, of_number, of_time, of_word, of_block, of_tuple, of_array, of_dict, of_item}
 use Rattle.value_texts.proofs.ReadingSteps.{reads_bool, reads_whole, reads_number, reads_time, reads_word, reads_block, reads_tuple, reads_array, reads_dict}
 use Rattle.value_texts.proofs.laws.examples_are_told.Goals as goal
 

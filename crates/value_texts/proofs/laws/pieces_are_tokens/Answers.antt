@@ -1,4 +1,4 @@
-use Rattle.value_texts.proofs.NumberParts.{both}
+use Rattle.std.proofs.lemmas.Bool.{and_parts}
 use Rattle.value_texts.proofs.Pieces.{nothing_cut, blank_cut, both_cut}
 use Rattle.value_texts.proofs.TokenCuts as cut
 use Rattle.value_texts.specs.Follows.{ends_name, ends_number}
@@ -16,7 +16,7 @@ returns c = record {
   words_joined = both_worded;
   name = λ t u is at rest h. cut.word_cut at t rest u is h;
   digits = λ t d is value at rest h. cut.digits_cut at t rest d is value h;
-  number = λ x w at rest h. (let p = both (ends_name rest) (ends_number rest) h in cut.number_cut at x rest w p.0 p.1);
+  number = λ x w at rest h. (let p = and_parts (ends_name rest) (ends_number rest) h in cut.number_cut at x rest w p.0 p.1);
   whole = λ n w at rest h. cut.whole_cut at n rest w h;
   time = λ t w at rest h. cut.time_cut at t rest w h;
   string = λ t at rest h. cut.string_cut at t rest h;

@@ -1,6 +1,6 @@
 use Rattle.std.proofs.Common.{ℕ, ◌≡◌, ◌<◌, ◌∙◌, subst, sym, ap, length, List}
 use Rattle.asset_names.specs.Anchoring.{anchored_name, normal_name, IsBad, IsClean, long}
-use Rattle.asset_names.proofs.Normal.{anchored_stays}
+use Rattle.asset_names.proofs.Normalised.{anchored_stays}
 use Rattle.asset_names.proofs.name.AssetId.anchor.Goals as goal
 
 pub returns-in_ok-anchored_name-in-None-clause-bad : goal.returns-in_ok-anchored_name-in-None-clause-bad

@@ -1,6 +1,6 @@
 use Rattle.std.proofs.Common.{ℕ, ◌≡◌, ◌<◌, subst, sym, length, List}
 use Rattle.asset_names.specs.Anchoring.{normal_name, IsBad, IsClean, long}
-use Rattle.asset_names.proofs.Normal.{normal_stays}
+use Rattle.asset_names.proofs.Normalised.{normal_stays}
 use Rattle.asset_names.proofs.name.AssetId.of_word.Goals as goal
 
 pub returns-in_ok-normal_name-in-None-clause-bad : goal.returns-in_ok-normal_name-in-None-clause-bad

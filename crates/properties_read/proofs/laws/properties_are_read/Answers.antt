@@ -1,5 +1,0 @@
-use Rattle.properties_read.proofs.Properties.{properties_read}
-use Rattle.properties_read.proofs.laws.properties_are_read.Goals as goal
-
-pub returns : goal.returns
-returns c = properties_read

@@ -1,5 +1,0 @@
-use Rattle.trees_read.proofs.ListKept.{read_lists}
-use Rattle.trees_read.proofs.laws.lists_are_read.Goals as goal
-
-pub returns : goal.returns
-returns c = read_lists
