@@ -16,7 +16,7 @@ use Rattle.usda_lists.specs.Edits.{none_given}
 use Rattle.usda_lists.specs.Lists.{list_at}
 use Rattle.usda_lists.specs.declared.edit.ListEdit.{ListEdit}
 use Rattle.usda_lists.specs.declared.edit.ListEdit.TheVariants.{Explicit, Delete, Add, Prepend, Append, Reorder}
-use Rattle.metadata_reads.specs.Kept.{AreKept}
+use Rattle.layer_reads.specs.Kept.{AreKept}
 use Rattle.fields_read.specs.Laws.{OwnersBeginSound}
 use Rattle.fields_read.specs.Lists.{IsSoundList}
 use Rattle.fields_read.specs.Sound.{IsSoundField}

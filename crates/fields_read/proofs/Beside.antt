@@ -8,7 +8,7 @@ use Rattle.usda_fields.specs.declared.field.ListField.{ListField}
 use Rattle.usda_fields.specs.declared.field.ListField.TheVariants as list
 use Rattle.usda_fields.specs.declared.owner.OwnerDraft.{OwnerDraft}
 use Rattle.usda_grammar.specs.declared.kinds.Keyword.{Keyword}
-use Rattle.metadata_reads.specs.Selections.{AreSelectionsKept}
+use Rattle.layer_reads.specs.Selections.{AreSelectionsKept}
 use Rattle.value_returns.specs.Fields.{IsText}
 use Rattle.value_returns.specs.Proper.{IsProperMeta}
 use Rattle.value_texts.specs.Each.{AreAll}

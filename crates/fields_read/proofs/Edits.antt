@@ -10,7 +10,7 @@ use Rattle.usda_lists.specs.Lists.{items_or_none, list_at, with_list}
 use Rattle.usda_lists.specs.declared.edit.GivenLists.{GivenLists}
 use Rattle.usda_lists.specs.declared.edit.ListEdit.{ListEdit}
 use Rattle.usda_lists.specs.declared.edit.ListEdit.TheVariants.{Explicit, Delete, Add, Prepend, Append, Reorder}
-use Rattle.metadata_reads.specs.Kept.{AreKept, IsListKept, IsKeptBy}
+use Rattle.layer_reads.specs.Kept.{AreKept, IsListKept, IsKeptBy}
 use Rattle.fields_read.specs.Lists.{IsSoundList}
 
 -- ---- one list in place of another

@@ -8,7 +8,7 @@ use Rattle.list_ops.specs.ListEdits.{contains, firsts}
 use Rattle.sdf_values.specs.declared.refusal.RefusalKind.{RefusalKind}
 use Rattle.usda_lists.specs.Acts.{and_then}
 use Rattle.usda_lists.specs.Lists.{amended, amend_last}
-use Rattle.metadata_reads.specs.Kept.{AreKept}
+use Rattle.layer_reads.specs.Kept.{AreKept}
 use Rattle.value_texts.specs.Each.{AreAll}
 use Rattle.value_texts.proofs.EachOf.{all_push, all_filter, all_front, all_last}
 use Rattle.fields_read.specs.Lists.{IsAtMost}

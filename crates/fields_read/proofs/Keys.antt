@@ -19,7 +19,7 @@ use Rattle.usda_fields.specs.declared.keys.KeyRule.TheVariants.{Relocates, Comme
 use Rattle.usda_fields.specs.declared.owner.OwnerDraft.{OwnerDraft}
 use Rattle.usda_grammar.specs.declared.kinds.Keyword.{Keyword}
 use Rattle.usda_lists.specs.Acts.{and_then}
-use Rattle.metadata_reads.specs.Meta.{IsCommentKept}
+use Rattle.layer_reads.specs.Meta.{IsCommentKept}
 use Rattle.value_returns.specs.Fields.{IsText}
 use Rattle.value_returns.specs.Proper.{IsProperEntry, IsProperMeta}
 use Rattle.value_returns.proofs.Tables.{all_with}

@@ -27,8 +27,8 @@ use Rattle.value_texts.specs.Writable.{is_writable, is_writable_item, writable_s
 use Rattle.value_texts.specs.Each.{AreAll}
 use Rattle.value_texts.proofs.EachOf.{all_push}
 use Rattle.sdf_values.proofs.Values as fold
-use Rattle.metadata_reads.specs.Selections.{AreSelectionsKept, IsSelectionKept}
-use Rattle.metadata_reads.proofs.Selections.{none_selected}
+use Rattle.layer_reads.specs.Selections.{AreSelectionsKept, IsSelectionKept}
+use Rattle.layer_reads.proofs.Selections.{none_selected}
 use Rattle.value_returns.specs.Fields.{IsText}
 use Rattle.value_returns.proofs.Tables.{all_with}
 use Rattle.fields_read.specs.Laws.{SelectionsAndOrdersAreRead}

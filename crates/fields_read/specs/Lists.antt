@@ -5,7 +5,7 @@ use Rattle.usda_lists.specs.Edits.{is_given, has_edits}
 use Rattle.usda_lists.specs.Lists.{list_at, with_list}
 use Rattle.usda_lists.specs.declared.edit.GivenLists.{GivenLists}
 use Rattle.usda_lists.specs.declared.edit.ListEdit.{ListEdit}
-use Rattle.metadata_reads.specs.Kept.{AreKept}
+use Rattle.layer_reads.specs.Kept.{AreKept}
 use Rattle.value_texts.specs.Each.{AreAll}
 
 -- The lists of a field, of which those that were given are marked: the items of each are proper, and each stands once in it. A list

@@ -11,7 +11,7 @@ use Rattle.usda_lists.specs.References.{same_text, same_path, same_item}
 use Rattle.usda_lists.specs.declared.edit.ListEdit.{ListEdit}
 use Rattle.value_texts.specs.Each.{AreAll}
 use Rattle.fields_read.specs.Lists.{IsSoundList, HasItems}
-use Rattle.metadata_reads.specs.Selections.{AreSelectionsKept}
+use Rattle.layer_reads.specs.Selections.{AreSelectionsKept}
 use Rattle.value_returns.specs.Fields.{IsText, IsProperReference}
 use Rattle.value_returns.specs.Proper.{IsProperMeta}
 

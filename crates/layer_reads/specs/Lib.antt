@@ -6,3 +6,14 @@ pub mod FieldLists
 pub mod Keys
 pub mod Openings
 pub mod Laws
+pub mod Standing
+pub mod Items
+pub mod Kept
+pub mod Fields
+pub mod Meta
+pub mod Selections
+pub mod Sublayers
+pub mod Specs
+pub mod MetadataLaws
+pub mod Bodies
+pub mod Properties

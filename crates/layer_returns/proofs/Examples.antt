@@ -25,9 +25,9 @@ use Rattle.layer_texts.specs.Examples.{small}
 use Rattle.layer_texts.specs.Writable.{is_word, is_writable_spec, is_writable_layer}
 use Rattle.layer_returns.specs.Reached.{IsFromChildren, IsReached}
 use Rattle.layer_returns.specs.Theorem.{IsTree}
-use Rattle.metadata_reads.specs.Kept.{AreKept, IsListKept}
-use Rattle.metadata_reads.specs.Meta.{IsMetaKept}
-use Rattle.metadata_reads.proofs.Selections.{none_selected}
+use Rattle.layer_reads.specs.Kept.{AreKept, IsListKept}
+use Rattle.layer_reads.specs.Meta.{IsMetaKept}
+use Rattle.layer_reads.proofs.Selections.{none_selected}
 use Rattle.layer_returns.specs.Examples.{ExamplesComeBack}
 use Rattle.layer_returns.specs.Layers.{IsLayerKept}
 

@@ -23,9 +23,9 @@ use Rattle.spec_tables.specs.Tables.{at_key, with_key, without_key}
 use Rattle.usda_writer.specs.Canonical.{spec_below, with_default_prim}
 use Rattle.usda_drafts.specs.Drafts.{head_with, head_from, text_of}
 use Rattle.usda_drafts.specs.Owners.{owner_of, spec_of}
-use Rattle.metadata_reads.specs.Standing.{Standing}
-use Rattle.prim_reads.specs.Properties.{with_more, marks_of}
-use Rattle.prim_reads.proofs.Hands.{equal_itself}
+use Rattle.layer_reads.specs.Standing.{Standing}
+use Rattle.layer_reads.specs.Properties.{with_more, marks_of}
+use Rattle.layer_reads.proofs.Hands.{equal_itself}
 use Rattle.layer_returns.specs.Heads.{HeadsComeBack}
 use Rattle.layer_returns.specs.Layers.{behind_front, behind_layer}
 use Rattle.layer_returns.specs.Trees.{behind_properties, behind_child, behind_children, behind_variant, behind_variants, in_set, behind_sets, from_properties, from_sets, from_children, behind_statements, inside_prim, inside_variant, behind_body}

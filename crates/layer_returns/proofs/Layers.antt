@@ -30,13 +30,13 @@ use Rattle.layer_texts.specs.LayerWords.{head_words, order_words, children_words
 use Rattle.layer_texts.proofs.Layers.{all_told, layer_spelled}
 use Rattle.layer_reads.specs.Taking.{word_kind, AreTaken}
 use Rattle.layer_reads.proofs.Taking.{taken_nothing, together, above}
-use Rattle.metadata_reads.specs.Items.{begins_item, IsLeft, Left, AreItems}
-use Rattle.metadata_reads.specs.Standing.{Standing, saying, IsAt}
-use Rattle.metadata_reads.proofs.Items.{items_both, nothing_left, step_left}
-use Rattle.metadata_reads.proofs.OwnerMeta.{head_meta}
-use Rattle.metadata_reads.proofs.Sublayers.{sublayers_taken}
-use Rattle.metadata_reads.proofs.Words.{word_then, last_word}
-use Rattle.prim_reads.proofs.Bodies.{layer_orders}
+use Rattle.layer_reads.specs.Items.{begins_item, IsLeft, Left, AreItems}
+use Rattle.layer_reads.specs.Standing.{Standing, saying, IsAt}
+use Rattle.layer_reads.proofs.Items.{items_both, nothing_left, step_left}
+use Rattle.layer_reads.proofs.OwnerMeta.{head_meta}
+use Rattle.layer_reads.proofs.Sublayers.{sublayers_taken}
+use Rattle.layer_reads.proofs.Words.{word_then, last_word}
+use Rattle.layer_reads.proofs.Bodies.{layer_orders}
 use Rattle.layer_returns.specs.Layers.{at_start, behind_head, behind_front, IsHeadKept, behind_layer, IsLayerKept, AreLayersTaken, layer_at, AreTextsTaken}
 use Rattle.layer_returns.proofs.Trees.{roots_read}
 

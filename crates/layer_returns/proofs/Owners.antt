@@ -12,9 +12,9 @@ use Rattle.usda_fields.specs.declared.owner.OwnerDraft.{OwnerDraft}
 use Rattle.usda_writer.specs.Canonical.{spec_below}
 use Rattle.usda_drafts.specs.Owners.{owner_of, spec_of, with_child, with_set, with_variant, and_variant}
 use Rattle.usda_drafts.specs.declared.owner.Owner.{Owner}
-use Rattle.metadata_reads.specs.Standing.{Standing}
-use Rattle.prim_reads.specs.Bodies.{inside}
-use Rattle.prim_reads.specs.Properties.{with_more, marks_of}
+use Rattle.layer_reads.specs.Standing.{Standing}
+use Rattle.layer_reads.specs.Bodies.{inside}
+use Rattle.layer_reads.specs.Properties.{with_more, marks_of}
 use Rattle.value_texts.specs.Each.{AreAll}
 use Rattle.layer_returns.specs.Owners.{HasVariants, HasAllBelow, OwnersSay}
 use Rattle.layer_returns.specs.Trees.{behind_properties, behind_child, behind_children, behind_variant, behind_variants, in_set, behind_sets, behind_orders, from_properties, from_sets, from_children, behind_body}

@@ -16,9 +16,9 @@ use Rattle.spec_tables.specs.Tables.{at_key, with_key}
 use Rattle.usda_writer.specs.Canonical.{spec_below}
 use Rattle.usda_drafts.specs.Closed.{with_spec_at}
 use Rattle.usda_drafts.specs.Owners.{spec_of, with_child, with_set, with_variant}
-use Rattle.metadata_reads.specs.Standing.{Standing}
-use Rattle.prim_reads.specs.Bodies.{inside}
-use Rattle.prim_reads.specs.Properties.{with_more, marks_of}
+use Rattle.layer_reads.specs.Standing.{Standing}
+use Rattle.layer_reads.specs.Bodies.{inside}
+use Rattle.layer_reads.specs.Properties.{with_more, marks_of}
 use Rattle.spec_properties.specs.declared.property.Property.{Property}
 use Rattle.usda_fields.specs.declared.owner.OwnerDraft.{OwnerDraft}
 use Rattle.usda_drafts.specs.declared.owner.Owner.{Owner}

@@ -24,8 +24,8 @@ use Rattle.spec_tables.specs.Tables.{IsTable, at_key, with_key}
 use Rattle.usda_writer.specs.Canonical.{spec_below}
 use Rattle.usda_drafts.specs.Closed.{with_spec_at}
 use Rattle.usda_drafts.specs.Owners.{spec_of}
-use Rattle.metadata_reads.specs.Standing.{Standing}
-use Rattle.metadata_reads.proofs.Tables.{AllBehind, none_at, first_behind, others}
+use Rattle.layer_reads.specs.Standing.{Standing}
+use Rattle.layer_reads.proofs.Tables.{AllBehind, none_at, first_behind, others}
 use Rattle.layer_returns.specs.Layers.{behind_front, behind_layer, layer_at}
 use Rattle.layer_returns.specs.Theorem.{IsTree, LayersComeBack}
 use Rattle.layer_returns.specs.Trees.{behind_child, behind_children, behind_variant, behind_variants, in_set, behind_sets, from_properties, from_sets, from_children, inside_prim, inside_variant, behind_body}

@@ -17,18 +17,18 @@ use Rattle.usda_drafts.specs.declared.draft.Draft.{Draft}
 use Rattle.value_texts.specs.Cuts.{Said}
 use Rattle.layer_texts.specs.LayerWords.{order_words, child_words, child_words_below, children_words, variant_words, variant_words_below, set_words, statement_words, body_words}
 use Rattle.layer_texts.specs.PropertyWords.{property_words}
-use Rattle.metadata_reads.specs.Items.{AreItems}
-use Rattle.metadata_reads.specs.Kept.{has_items}
-use Rattle.metadata_reads.specs.Specs.{behind_metadata}
-use Rattle.metadata_reads.specs.Standing.{Standing, saying, IsAt}
-use Rattle.metadata_reads.proofs.Items.{no_items, items_both}
-use Rattle.prim_reads.specs.Bodies.{Rests, with_order}
+use Rattle.layer_reads.specs.Items.{AreItems}
+use Rattle.layer_reads.specs.Kept.{has_items}
+use Rattle.layer_reads.specs.Specs.{behind_metadata}
+use Rattle.layer_reads.specs.Standing.{Standing, saying, IsAt}
+use Rattle.layer_reads.proofs.Items.{no_items, items_both}
+use Rattle.layer_reads.specs.Bodies.{Rests, with_order}
 use Rattle.layer_returns.specs.Trees.{behind_properties, ArePropertiesKept, behind_child, IsChildKept, behind_children, AreChildrenKept, behind_variant, IsVariantKept, behind_variants, AreVariantsKept, in_set, behind_sets, AreSetsKept, from_properties, from_sets, from_children, behind_statements, AreStatementsKept, behind_body, IsBodyKept, AreBodiesRead, AreRootsRead, inside_prim, inside_variant}
-use Rattle.prim_reads.proofs.Bodies.{body_orders}
-use Rattle.prim_reads.proofs.Prims.{child_read, root_read}
-use Rattle.prim_reads.proofs.Relationships.{property_read}
-use Rattle.prim_reads.proofs.Variants.{variant_read, set_read}
-use Rattle.prim_reads.specs.Properties.{with_more, marks_of}
+use Rattle.layer_reads.proofs.Bodies.{body_orders}
+use Rattle.layer_reads.proofs.Prims.{child_read, root_read}
+use Rattle.layer_reads.proofs.Relationships.{property_read}
+use Rattle.layer_reads.proofs.Variants.{variant_read, set_read}
+use Rattle.layer_reads.specs.Properties.{with_more, marks_of}
 
 properties_items : (ps : List Property) (at : Standing) → ArePropertiesKept ps at → AreItems symbol.PrimBody (flat_map property_words ps) (Rests at) (Rests (behind_properties ps at))
 properties_items [] at kept = no_items symbol.PrimBody (Rests at) (Rests at) (λ d h. h)

@@ -19,9 +19,9 @@ use Rattle.usda_writer.specs.Canonical.{spec_below}
 use Rattle.usda_drafts.specs.Closed.{with_spec_at}
 use Rattle.usda_drafts.specs.Owners.{spec_of, with_child, with_variant}
 use Rattle.usda_drafts.specs.declared.owner.Owner.{Owner}
-use Rattle.metadata_reads.specs.Standing.{Standing}
-use Rattle.prim_reads.specs.Bodies.{inside}
-use Rattle.prim_reads.specs.Properties.{with_more, marks_of}
+use Rattle.layer_reads.specs.Standing.{Standing}
+use Rattle.layer_reads.specs.Bodies.{inside}
+use Rattle.layer_reads.specs.Properties.{with_more, marks_of}
 use Rattle.value_texts.specs.Each.{AreAll}
 use Rattle.layer_returns.specs.Layers.{behind_front}
 use Rattle.layer_returns.specs.Owners.{HasVariants, HasAllBelow}

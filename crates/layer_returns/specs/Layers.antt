@@ -21,11 +21,11 @@ use Rattle.layer_texts.specs.LayerWords.{layer_words}
 use Rattle.layer_texts.specs.Writable.{is_writable_layer}
 use Rattle.layer_reads.specs.Keys.{is_plain_head_key}
 use Rattle.layer_reads.specs.Taking.{word_kind}
-use Rattle.metadata_reads.specs.Kept.{has_items}
-use Rattle.metadata_reads.specs.Meta.{IsMetaKept}
-use Rattle.metadata_reads.specs.Standing.{Standing, saying, IsAt}
-use Rattle.metadata_reads.specs.Sublayers.{IsSublayerKept, with_sublayers}
-use Rattle.prim_reads.specs.Bodies.{with_order}
+use Rattle.layer_reads.specs.Kept.{has_items}
+use Rattle.layer_reads.specs.Meta.{IsMetaKept}
+use Rattle.layer_reads.specs.Standing.{Standing, saying, IsAt}
+use Rattle.layer_reads.specs.Sublayers.{IsSublayerKept, with_sublayers}
+use Rattle.layer_reads.specs.Bodies.{with_order}
 use Rattle.layer_returns.specs.Trees.{behind_children, AreChildrenKept, behind_body, IsBodyKept}
 
 -- where a draft stands of which nothing is read

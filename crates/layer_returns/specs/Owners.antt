@@ -9,8 +9,8 @@ use Rattle.spec_parts.specs.declared.spec.Spec.{Spec}
 use Rattle.usda_writer.specs.Canonical.{spec_below}
 use Rattle.usda_drafts.specs.Owners.{spec_of}
 use Rattle.usda_drafts.specs.declared.owner.Owner.{Owner}
-use Rattle.metadata_reads.specs.Standing.{Standing}
-use Rattle.prim_reads.specs.Bodies.{inside}
+use Rattle.layer_reads.specs.Standing.{Standing}
+use Rattle.layer_reads.specs.Bodies.{inside}
 use Rattle.value_texts.specs.Each.{AreAll}
 use Rattle.layer_returns.specs.Trees.{behind_body}
 

@@ -19,12 +19,12 @@ use Rattle.usda_statements.specs.PropertyDrafts.{is_named}
 use Rattle.usda_writer.specs.Canonical.{spec_below}
 use Rattle.usda_drafts.specs.Owners.{with_child, with_set, with_variant, has_set}
 use Rattle.layer_texts.specs.LayerWords.{body_words, children_words}
-use Rattle.metadata_reads.specs.Items.{AreItems}
-use Rattle.metadata_reads.specs.Kept.{has_items}
-use Rattle.metadata_reads.specs.Specs.{IsSpecKept, behind_metadata}
-use Rattle.metadata_reads.specs.Standing.{Standing, saying, IsAt}
-use Rattle.prim_reads.specs.Bodies.{Rests, IsPrimPlace, IsVariantPlace, with_order, inside, closed}
-use Rattle.prim_reads.specs.Properties.{with_more, marks_of, IsPropertyKept}
+use Rattle.layer_reads.specs.Items.{AreItems}
+use Rattle.layer_reads.specs.Kept.{has_items}
+use Rattle.layer_reads.specs.Specs.{IsSpecKept, behind_metadata}
+use Rattle.layer_reads.specs.Standing.{Standing, saying, IsAt}
+use Rattle.layer_reads.specs.Bodies.{Rests, IsPrimPlace, IsVariantPlace, with_order, inside, closed}
+use Rattle.layer_reads.specs.Properties.{with_more, marks_of, IsPropertyKept}
 use Rattle.value_texts.specs.Each.{AreAll}
 
 -- what an owner says behind its orders

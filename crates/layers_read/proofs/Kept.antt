@@ -49,6 +49,7 @@ use Rattle.trees_read.proofs.Texts.{read_trees, none_left}
 use Rattle.properties_read.specs.Aims.{awaits_value, IsAiming}
 use Rattle.properties_read.proofs.Aiming.{Aimed, found, steps_aimed}
 use Rattle.properties_read.proofs.Aimed.{token_aimed}
+use Rattle.properties_read.proofs.WordsAimed.{word_aimed}
 use Rattle.trees_read.proofs.Kept.{made_of, value_symbol}
 use Rattle.trees_read.proofs.ListActs.{then_any}
 use Rattle.trees_read.proofs.ListRows.{Part, none, begun, brackets, sublayers, part_of, part, is_none, is_of_item, has_item, is_light, are_on_top, begins_list}
@@ -61,7 +62,7 @@ use Rattle.usda_grammar.specs.declared.kinds.Keyword.{Keyword}
 use Rattle.usda_drafts.specs.declared.owner.Owner.{Owner}
 use Rattle.layer_reads.specs.Keys.{is_plain_key}
 use Rattle.layers_read.proofs.Fits.{Fits, Fitted, fitted}
-use Rattle.layers_read.proofs.KeyAims.{IsAimedAt, IsAimed, aimed_again, IsAt, word_aimed, expects}
+use Rattle.layers_read.proofs.KeyAims.{IsAimedAt, IsAimed, aimed_again, IsAt, IsKnownAt, expects, keys}
 use Rattle.layers_read.proofs.States.{name_for, IsInside, IsNoted, IsAimedFor, Rest, Quiet, Busy, Same, quiet_beside, quiet_made, busy_same, rest_said}
 use Rattle.layers_read.proofs.Words.{IsKnownAs, known}
 use Rattle.layers_read.proofs.Others.{IfPlaced, set_beside, said_quiet, said_made, root_order_quiet, order_name_quiet, after_reorder_quiet, body_quiet, after_custom_quiet, after_variability_quiet, after_edit_quiet, brackets_quiet, name_quiet, tail_quiet, sample_quiet, property_item_quiet, root_quiet, open_quiet, type_quiet, prim_quiet, variant_quiet, end_quiet}
@@ -385,7 +386,7 @@ kept stack d w s after next token lexed f taken acted = record {
       where
         by_act : (c : Bool) → is_open d.value ≡ c → IsAimed next
         by_act true opened = token_aimed IsAimedAt expects w d next (acted_by s w d next true opened acted) (f.aimed (inl opened))
-        by_act false shut = word_aimed s w d next at.pushed at.below at.starts_is at.calm is at_owner (λ g. f.aimed (inr (at.awaited g))) shut (acted_by s w d next false shut acted) h
+        by_act false shut = word_aimed IsAimedAt IsKnownAt expects keys s w d next at.pushed at.below at.starts_is at.calm (is, at_owner) (λ g. f.aimed (inr (at.awaited g))) shut (acted_by s w d next false shut acted) h
 
     goes : IsOfValue s d → ValueGoesOn d w next
     goes of = words_keep.value s w d next t.rest lexed base f.sound t.starts_it of acted

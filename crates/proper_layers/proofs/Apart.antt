@@ -11,8 +11,8 @@ use Rattle.usda_writer.specs.Canonical.{spec_below}
 use Rattle.usda_drafts.specs.Closed.{with_spec_at}
 use Rattle.usda_drafts.specs.Owners.{spec_of, with_child, with_variant}
 use Rattle.usda_drafts.specs.declared.owner.Owner.{Owner}
-use Rattle.metadata_reads.specs.Standing.{Standing}
-use Rattle.prim_reads.specs.Bodies.{inside}
+use Rattle.layer_reads.specs.Standing.{Standing}
+use Rattle.layer_reads.specs.Bodies.{inside}
 use Rattle.layer_returns.specs.Trees.{behind_child, behind_children, behind_variant, behind_variants, in_set, behind_sets, from_properties, from_sets, from_children, inside_prim, inside_variant, behind_body}
 use Rattle.proper_layers.proofs.Paths.{IsOutside, outside_below}
 use Rattle.layer_returns.proofs.Reached.{body_path}

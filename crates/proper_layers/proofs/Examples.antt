@@ -44,7 +44,7 @@ use Rattle.value_returns.specs.Fields.{AreProperFields}
 use Rattle.value_returns.specs.FullPaths.{full_step, full_item}
 use Rattle.value_returns.specs.Proper.{IsProperMeta}
 use Rattle.layer_returns.proofs.Examples.{no_items, no_lists}
-use Rattle.metadata_reads.proofs.Selections.{none_selected}
+use Rattle.layer_reads.proofs.Selections.{none_selected}
 use Rattle.proper_layers.specs.Examples.{hollow, hollow_spec, hollow_text, of_prim, naming, orphan, misplaced, having, saying, adding, adding_text, ProperExamples}
 use Rattle.proper_layers.specs.Proper.{IsProper}
 use Rattle.proper_layers.proofs.Returns.{proper_layers_return}

@@ -27,10 +27,10 @@ use Rattle.usda_drafts.specs.Closed.{is_closed}
 use Rattle.usda_drafts.specs.Owners.{owner_of, with_child, with_variant, with_set, has_set}
 use Rattle.usda_drafts.specs.Places.{prim_place, variant_place}
 use Rattle.usda_drafts.specs.declared.owner.Owner.{Owner}
-use Rattle.metadata_reads.specs.Standing.{Standing}
-use Rattle.prim_reads.specs.Bodies.{IsPrimPlace, IsVariantPlace, inside}
-use Rattle.prim_reads.specs.Properties.{with_more, marks_of}
-use Rattle.metadata_reads.specs.Sublayers.{IsSublayerKept}
+use Rattle.layer_reads.specs.Standing.{Standing}
+use Rattle.layer_reads.specs.Bodies.{IsPrimPlace, IsVariantPlace, inside}
+use Rattle.layer_reads.specs.Properties.{with_more, marks_of}
+use Rattle.layer_reads.specs.Sublayers.{IsSublayerKept}
 use Rattle.value_returns.specs.Fields.{IsProperSublayer}
 use Rattle.value_returns.specs.Proper.{IsProperProperty}
 use Rattle.value_returns.proofs.Fields.{fields_kept}

@@ -3,7 +3,7 @@ use Rattle.std.proofs.Common.{◌≡◌, Bool, true, false, ◌&&◌, List, [], 
 use Rattle.std.specs.List.{list_all}
 use Rattle.list_ops.specs.declared.op.ListOp.{ListOp}
 use Rattle.layer_texts.specs.Writable.{none_or, are_writable_edits, is_writable_list}
-use Rattle.metadata_reads.specs.Kept.{AreEditsKept, IsKeptBy, IsListKept}
+use Rattle.layer_reads.specs.Kept.{AreEditsKept, IsKeptBy, IsListKept}
 use Rattle.value_texts.specs.Each.{AreAll}
 
 pub both : (a b : Bool) → a ≡ true → b ≡ true → a && b ≡ true

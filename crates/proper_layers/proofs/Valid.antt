@@ -22,7 +22,7 @@ use Rattle.text_checks.specs.Utf8.{utf8_step, utf8_item, is_utf8_value, is_utf8_
 use Rattle.path_returns.proofs.Utf8.{path_is_utf8}
 use Rattle.path_returns.specs.Returns.{IsPathOrAbsent}
 use Rattle.layer_reads.specs.Keys.{is_plain_key, is_plain_head_key}
-use Rattle.prim_reads.specs.Properties.{is_any_key}
+use Rattle.layer_reads.specs.Properties.{is_any_key}
 use Rattle.value_returns.specs.Fields.{IsAssetOrAbsent, IsProperReference, IsProperSublayer, AreProperFields, IsProperHead}
 use Rattle.value_returns.specs.Proper.{IsProperDefault, IsProperSample, IsProperAs, IsProperEntry, IsProperMeta, IsProperTarget, IsProperProperty}
 use Rattle.proper_layers.specs.Proper.{IsProper}

@@ -32,9 +32,9 @@ use Rattle.sdf_values.proofs.Values as fold
 use Rattle.layer_texts.specs.Writable.{none_or, is_word, is_writable_target, is_writable_offset, is_writable_reference, is_writable_sublayer, is_writable_list, is_writable_entry, is_writable_meta, is_writable_selection, is_writable_sample, is_writable_property, is_writable_set, are_writable_arcs, is_writable_body, is_writable_spec, is_writable_head, are_writable_specs, is_writable_layer}
 use Rattle.layer_texts.proofs.Paths.{offset_writable, path_writable}
 use Rattle.layer_reads.specs.Keys.{is_plain_key, is_plain_head_key}
-use Rattle.metadata_reads.specs.Meta.{IsCommentKept}
-use Rattle.metadata_reads.specs.Selections.{IsSelectionKept}
-use Rattle.prim_reads.specs.Properties.{is_any_key}
+use Rattle.layer_reads.specs.Meta.{IsCommentKept}
+use Rattle.layer_reads.specs.Selections.{IsSelectionKept}
+use Rattle.layer_reads.specs.Properties.{is_any_key}
 use Rattle.value_returns.specs.Fields.{IsText, IsAssetOrAbsent, IsProperReference, IsProperDefaultPrim, IsProperSublayer, AreProperFields, IsProperHead}
 use Rattle.value_returns.specs.Proper.{IsProperDefault, IsProperSample, IsProperAs, IsProperEntry, IsProperMeta, IsProperTarget, IsProperProperty}
 use Rattle.path_returns.specs.Returns.{IsPathOrAbsent}

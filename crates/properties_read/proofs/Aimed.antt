@@ -3,6 +3,9 @@ use Rattle.std.proofs.Common.{◌≡◌, ◌∙◌, sym, ap, refl, subst, ℕ, B
 use Rattle.std.specs.Prelude.{Result, if◌then◌else◌}
 use Rattle.sdf_values.specs.declared.refusal.RefusalKind.{RefusalKind}
 use Rattle.sdf_values.specs.declared.value.Value.{Value}
+use Rattle.usda_fields.specs.Owners as owner
+use Rattle.usda_fields.specs.Variants as variants
+use Rattle.usda_fields.specs.declared.owner.OwnerDraft.{OwnerDraft}
 use Rattle.usda_grammar.specs.Table.{starts}
 use Rattle.usda_grammar.specs.declared.kinds.WordKind.{WordKind}
 use Rattle.usda_grammar.specs.declared.kinds.WordKind.TheVariants as token
@@ -10,18 +13,22 @@ use Rattle.usda_grammar.specs.declared.symbols.Symbol.{Symbol}
 use Rattle.usda_grammar.specs.declared.symbols.Symbol.TheVariants as symbol
 use Rattle.usda_statements.specs.Headings.{with_brackets}
 use Rattle.usda_statements.specs.OpenValues.{no_value, is_open, given, value_in}
+use Rattle.usda_statements.specs.PropertyDrafts.{with_default, with_sample, meta_act}
 use Rattle.usda_statements.specs.declared.heading.Heading.{Heading}
 use Rattle.usda_statements.specs.declared.open_value.OpenValue.{OpenValue}
+use Rattle.usda_statements.specs.declared.property.PropertyDraft.{PropertyDraft}
 use Rattle.usda_words.specs.Words.{Word}
 use Rattle.usda_drafts.specs.Acts.{bodies_act}
 use Rattle.usda_drafts.specs.Bodies.{headed, brackets_act, tail_act, sample_act}
 use Rattle.usda_drafts.specs.Refusals.{Acted}
-use Rattle.usda_drafts.specs.Values.{completed, after_token, token_act, first_act, with_value_begun}
+use Rattle.usda_drafts.specs.Values.{completed, after_token, token_act, first_act, with_value_begun, with_said, with_property}
 use Rattle.usda_drafts.specs.declared.aim.Goal.{Goal}
+use Rattle.usda_drafts.specs.declared.aim.Goal.TheVariants as goal
 use Rattle.usda_drafts.specs.declared.draft.Draft.{Draft}
 use Rattle.text_syntax.specs.Open.{begins_value}
 use Rattle.text_syntax.proofs.Kept.{bodies_value}
 use Rattle.properties_read.specs.Aims.{is_of_value, is_mark, awaits_value}
+use Rattle.properties_read.proofs.Drafts.{then_made}
 
 pub await_joined : (pushed below : List Symbol) → awaits_value below ≡ false → awaits_value (pushed ++ below) ≡ awaits_value pushed
 await_joined [] below h = h
@@ -31,12 +38,16 @@ await_joined (s ∷ pushed) below h = ap (λ b. if is_of_value s then true else 
 pub same_draft : (d next : Draft) → ◌≡◌ {A = Acted} (Ok d) (Ok next) → d ≡ next
 same_draft d next e = cc
 
--- What is expected of a value, by what it goes to: another value and another heading do not change it, nor does a value that is complete,
--- and the words of a property that a value follows make it so.
+-- What is expected of a value, by what it goes to: another value, another heading and a value that is complete do not change it; where choices
+-- of variants are expected it holds of any draft; and the words of a property that a value follows make it so.
 pub record Expects (At : Goal → Draft → Type 0) : Type 0 where
   pub again : (g : Goal) (d : Draft) (o : OpenValue) → At g d → At g (record d { value = o })
   pub under : (g : Goal) (d : Draft) (h : Heading) → At g d → At g (headed h d)
-  pub complete : (g : Goal) (v : Value) (at : ℕ) (d next : Draft) → d.aim.goal ≡ g → At g d → completed g v at d ≡ Ok next → At next.aim.goal next
+  pub told : (d : Draft) (said : OwnerDraft) → At goal.OwnerKey d → At goal.OwnerKey (with_said d said)
+  pub noted : (d : Draft) (p : PropertyDraft) → At goal.PropertyKey d → At goal.PropertyKey (with_property d p)
+  pub defaulted : (d : Draft) (v : Value) → At goal.Default d → At goal.Default (with_property d (with_default v d.property))
+  pub sampled : (d : Draft) (v : Value) → At goal.Sample d → At goal.Sample (with_property d (with_sample d.aim.time v d.property))
+  pub chosen : (d : Draft) → At goal.Variants d
   pub default : (d next : Draft) → tail_act token.Equals d ≡ Ok next → At next.aim.goal next
   pub sample : (w : Word) (d next : Draft) → sample_act token.Number w d ≡ Ok next → At next.aim.goal next
 
@@ -70,6 +81,29 @@ module _ (At : Goal → Draft → Type 0) where
   mark_aimed d next pushed below p aimed shut same (inr g) = subst Is same (aimed (ap (λ q. awaits_value (q ++ below)) (sym p) ∙ g))
 
   module _ (expects : Expects At) where
+    -- a value that is complete
+    completed_aimed : (g : Goal) (v : Value) (at : ℕ) (d next : Draft) → d.aim.goal ≡ g → At g d → completed g v at d ≡ Ok next → Is next
+    unfolding completed
+    completed_aimed goal.Nothing v at d next is a e = let same : d ≡ next = cc e in subst Is same (subst (λ g. At g d) (sym is) a)
+    completed_aimed goal.OwnerKey v at d next is a e =
+        let m = then_made at (owner.value_act d.aim.key v d.owner.said) (with_said d) next e in
+        subst Is {x = with_said d m.0} m.1.1 (subst (λ g. At g (with_said d m.0)) (sym is) (expects.told d m.0 a))
+    completed_aimed goal.Variants v at d next is a e =
+        let said = with_said d (variants.selections_act v d.owner.said) in
+        let same : said ≡ next = cc e in
+        subst Is {x = said} same (subst (λ g. At g said) (sym is) (expects.chosen said))
+    completed_aimed goal.PropertyKey v at d next is a e =
+        let m = then_made at (meta_act d.aim.key v d.property) (with_property d) next e in
+        subst Is {x = with_property d m.0} m.1.1 (subst (λ g. At g (with_property d m.0)) (sym is) (expects.noted d m.0 a))
+    completed_aimed goal.Default v at d next is a e =
+        let made = with_property d (with_default v d.property) in
+        let same : made ≡ next = cc e in
+        subst Is {x = made} same (subst (λ g. At g made) (sym is) (expects.defaulted d v a))
+    completed_aimed goal.Sample v at d next is a e =
+        let made = with_property d (with_sample d.aim.time v d.property) in
+        let same : made ≡ next = cc e in
+        subst Is {x = made} same (subst (λ g. At g made) (sym is) (expects.sampled d v a))
+
     -- a word of a value
     pub token_aimed : (w : Word) (d next : Draft) → token_act w d ≡ Ok next → Is d → Is next
     unfolding token_act
@@ -77,7 +111,7 @@ module _ (At : Goal → Draft → Type 0) where
       where
         whole : (v : OpenValue) (b : Bool) → (if b then Ok (record d { value = v }) else completed d.aim.goal (value_in v) w.start (record d { value = no_value })) ≡ Ok next → Is next
         whole v true e = let same : ◌≡◌ {A = Draft} (record d { value = v }) next = cc e in subst Is {x = record d { value = v }} same (expects.again d.aim.goal d v a)
-        whole v false e = expects.complete d.aim.goal (value_in v) w.start (record d { value = no_value }) next refl (expects.again d.aim.goal d no_value a) e
+        whole v false e = completed_aimed d.aim.goal (value_in v) w.start (record d { value = no_value }) next refl (expects.again d.aim.goal d no_value a) e
 
         by : (r : Result OpenValue RefusalKind) → after_token r w.start d ≡ Ok next → Is next
         by (Err k) e = absurd cc

@@ -14,7 +14,7 @@ use Rattle.properties_read.specs.Drafts.{IsSoundInHand}
 use Rattle.properties_read.specs.Sound.{IsSoundProperty}
 use Rattle.properties_read.specs.Targets.{Reading, closed, begun, bracketed}
 use Rattle.properties_read.proofs.Properties.{unless_refused, path_is, meta_is, list_is, default_begun_sound, samples_begun_sound, list_begun_sound, list_none_sound, list_opened_sound, list_closed_sound, path_alone_sound, path_bracketed_sound, commented_sound, keyed_sound}
-use Rattle.prim_reads.specs.Properties.{is_any_key}
+use Rattle.layer_reads.specs.Properties.{is_any_key}
 use Rattle.fields_read.specs.Laws.{IsReadFor}
 
 -- what is sound if it was, and has the name that it had

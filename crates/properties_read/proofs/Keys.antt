@@ -4,7 +4,7 @@ use Rattle.std.specs.Prelude.{Result}
 use Rattle.sdf_paths.specs.Order.{text_cmp}
 use Rattle.sdf_values.specs.declared.refusal.RefusalKind.{RefusalKind}
 use Rattle.usda_lists.specs.Acts.{and_then}
-use Rattle.prim_reads.specs.Properties.{is_any_key}
+use Rattle.layer_reads.specs.Properties.{is_any_key}
 use Rattle.value_returns.specs.Proper.{IsProperMeta}
 use Rattle.shared_tables.proofs.Order.{none as no_entries}
 

@@ -16,5 +16,6 @@ pub mod Steps
 pub mod Aims
 pub mod Awaiting
 pub mod Aimed
+pub mod WordsAimed
 pub mod Aiming
 pub mod OpenValues

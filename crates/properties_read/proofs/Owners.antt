@@ -19,7 +19,7 @@ use Rattle.usda_statements.specs.declared.heading.Heading.{Heading}
 use Rattle.usda_statements.specs.declared.property.PropertyDraft.{PropertyDraft}
 use Rattle.usda_statements.specs.declared.property.PropertyMarks.{PropertyMarks}
 use Rattle.layer_texts.specs.Writable.{is_word}
-use Rattle.prim_reads.specs.Properties.{Marks}
+use Rattle.layer_reads.specs.Properties.{Marks}
 use Rattle.value_returns.specs.Proper.{IsProperProperty}
 use Rattle.value_returns.proofs.Tables.{found_with, others_with, all_with}
 use Rattle.usda_drafts.specs.Owners.{marks_at, property_for, with_place, with_returned, settled}

@@ -23,7 +23,7 @@ use Rattle.usda_statements.specs.declared.heading.Heading.{Heading}
 use Rattle.usda_statements.specs.declared.property.PropertyDraft.{PropertyDraft}
 use Rattle.usda_statements.specs.declared.property.PropertyMarks.{PropertyMarks}
 use Rattle.layer_texts.specs.Writable.{is_word}
-use Rattle.prim_reads.specs.Properties.{is_any_key}
+use Rattle.layer_reads.specs.Properties.{is_any_key}
 use Rattle.value_returns.specs.Proper.{IsProperMeta, IsProperProperty, IsProperTarget, AreProperTargets}
 use Rattle.trees_read.specs.Lists.{paths_of}
 use Rattle.properties_read.specs.Laws.{ReadPropertiesAreProper}

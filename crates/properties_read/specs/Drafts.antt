@@ -29,7 +29,7 @@ use Rattle.value_texts.specs.Each.{AreAll}
 use Rattle.properties_read.specs.Sound.{IsSoundProperty, AreRead}
 use Rattle.properties_read.specs.Targets.{Reading, closed, begun, bracketed}
 use Rattle.properties_read.specs.Values.{IsValueOf}
-use Rattle.prim_reads.specs.Properties.{is_any_key}
+use Rattle.layer_reads.specs.Properties.{is_any_key}
 use Rattle.fields_read.specs.Laws.{IsReadFor}
 
 -- no property is in hand, or one that is sound

@@ -26,7 +26,7 @@ use Rattle.usda_drafts.specs.declared.owner.Owner.{Owner}
 use Rattle.properties_read.specs.Sound.{IsSoundProperty, IsReadSoFar, AreRead}
 use Rattle.properties_read.specs.Targets.{Reading, closed, begun, bracketed}
 use Rattle.properties_read.specs.Values.{IsValueOf}
-use Rattle.prim_reads.specs.Properties.{is_any_key}
+use Rattle.layer_reads.specs.Properties.{is_any_key}
 use Rattle.fields_read.specs.Laws.{IsReadFor}
 
 -- a target or a connection that a text means in the statements of a prim is a path without selections

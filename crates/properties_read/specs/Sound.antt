@@ -8,7 +8,7 @@ use Rattle.usda_statements.specs.PropertyDrafts.{no_marks}
 use Rattle.usda_statements.specs.declared.property.PropertyDraft.{PropertyDraft}
 use Rattle.usda_statements.specs.declared.property.PropertyMarks.{PropertyMarks}
 use Rattle.layer_texts.specs.Writable.{is_word}
-use Rattle.prim_reads.specs.Properties.{is_any_key, Marks}
+use Rattle.layer_reads.specs.Properties.{is_any_key, Marks}
 use Rattle.value_returns.specs.Proper.{IsProperMeta, IsProperProperty}
 use Rattle.value_texts.specs.Each.{AreAll}
 use Rattle.trees_read.specs.Lists.{paths_of}

@@ -7,7 +7,7 @@ use Rattle.usda_lists.specs.Lists.{list_at, with_list}
 use Rattle.usda_lists.specs.References.{same_path}
 use Rattle.usda_lists.specs.declared.edit.GivenLists.{GivenLists}
 use Rattle.usda_lists.specs.declared.edit.ListEdit.{ListEdit}
-use Rattle.metadata_reads.specs.Kept.{AreKept}
+use Rattle.layer_reads.specs.Kept.{AreKept}
 use Rattle.value_returns.specs.Proper.{IsProperTarget}
 use Rattle.value_texts.specs.Each.{AreAll}
 

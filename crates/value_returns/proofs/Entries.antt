@@ -13,7 +13,7 @@ use Rattle.usda_fields.specs.declared.keys.KeyRule.TheVariants.{Comment, Boolean
 use Rattle.usda_grammar.specs.declared.kinds.Keyword.{Keyword}
 use Rattle.usda_writer.specs.Fields.{is_comment}
 use Rattle.value_texts.specs.Writable.{is_writable, writable_step, writable_item}
-use Rattle.metadata_reads.specs.Meta.{IsCommentKept}
+use Rattle.layer_reads.specs.Meta.{IsCommentKept}
 use Rattle.value_returns.specs.Proper.{IsProperKey, IsProperAs, IsProperEntry}
 
 -- a value that a rule takes is taken as it is

@@ -21,7 +21,7 @@ use Rattle.value_texts.proofs.ReadingSteps.{reads_path, reads_word}
 use Rattle.sdf_values.proofs.Values as fold
 use Rattle.layer_texts.specs.Writable.{is_word}
 use Rattle.text_checks.specs.Utf8.{utf8_step, utf8_item}
-use Rattle.metadata_reads.specs.Kept.{AreKept}
+use Rattle.layer_reads.specs.Kept.{AreKept}
 use Rattle.value_returns.specs.Examples.{ExamplesAreProper}
 use Rattle.value_returns.specs.FullPaths.{full_step, full_item}
 use Rattle.value_returns.specs.Proper.{IsProperTarget}

@@ -8,7 +8,7 @@ use Rattle.path_returns.proofs.Returns.{paths_return}
 use Rattle.path_returns.specs.Returns.{IsPathOrAbsent}
 use Rattle.layer_reads.specs.FieldLists.{IsPathHere}
 use Rattle.layer_reads.specs.Keys.{is_plain_key}
-use Rattle.metadata_reads.specs.Fields.{IsAssetOrNone, IsPathOrNone, IsReferenceHere}
+use Rattle.layer_reads.specs.Fields.{IsAssetOrNone, IsPathOrNone, IsReferenceHere}
 use Rattle.value_returns.specs.Fields.{IsAssetOrAbsent, IsProperReference}
 use Rattle.value_returns.specs.Laws.{ProperFieldsAreKept}
 use Rattle.value_returns.proofs.Kept.{metadata_kept}

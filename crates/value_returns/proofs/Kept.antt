@@ -14,8 +14,8 @@ use Rattle.value_texts.specs.Readable.{is_read_as}
 use Rattle.value_texts.proofs.TypesRead.{types_read}
 use Rattle.value_texts.proofs.EachOf.{all_so}
 use Rattle.path_returns.proofs.Returns.{targets_return}
-use Rattle.metadata_reads.specs.Meta.{IsKeyKept, IsKeptAs, IsEntryKept}
-use Rattle.prim_reads.specs.Properties.{IsTargetHere, IsDefaultKept, IsSampleKept, is_any_key}
+use Rattle.layer_reads.specs.Meta.{IsKeyKept, IsKeptAs, IsEntryKept}
+use Rattle.layer_reads.specs.Properties.{IsTargetHere, IsDefaultKept, IsSampleKept, is_any_key}
 use Rattle.value_returns.specs.Laws.{ProperValuesAreKept, ProperMetaIsKept, ProperPropertiesAreKept}
 use Rattle.value_returns.specs.Proper.{IsProperDefault, IsProperSample, IsProperKey, IsProperAs, IsProperEntry, IsProperTarget}
 use Rattle.value_returns.proofs.Fixed.{full_paths_fixed}

@@ -1,7 +1,7 @@
 -- Lists of items, of which more is known.
 use Rattle.std.proofs.Common.{List, Bool, Option, Some, None}
 use Rattle.list_ops.specs.declared.op.ListOp.{ListOp}
-use Rattle.metadata_reads.specs.Kept.{AreKept, AreEditsKept, IsKeptBy, IsListKept}
+use Rattle.layer_reads.specs.Kept.{AreKept, AreEditsKept, IsKeptBy, IsListKept}
 use Rattle.value_texts.proofs.EachOf.{all_so}
 
 -- lists whose items are such items are lists of what follows of them

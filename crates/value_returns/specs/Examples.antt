@@ -5,7 +5,7 @@ use Rattle.sdf_values.specs.declared.type_name.ElementType.TheVariants as elemen
 use Rattle.sdf_values.specs.declared.value.Value.{Value}
 use Rattle.sdf_values.specs.declared.value.Value.TheVariants as value
 use Rattle.layer_texts.specs.Examples.{attribute}
-use Rattle.prim_reads.specs.Properties.{is_any_key}
+use Rattle.layer_reads.specs.Properties.{is_any_key}
 use Rattle.value_returns.specs.FullPaths.{has_full_paths}
 use Rattle.value_returns.specs.Proper.{IsProperValue, IsProperKey, IsProperProperty}
 

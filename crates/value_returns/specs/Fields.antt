@@ -15,8 +15,8 @@ use Rattle.value_texts.specs.Each.{AreAll}
 use Rattle.usda_lists.specs.References.{same_text, same_path, same_item}
 use Rattle.layer_texts.specs.Writable.{none_or, is_word}
 use Rattle.layer_reads.specs.Keys.{is_plain_key, is_plain_head_key}
-use Rattle.metadata_reads.specs.Kept.{IsListKept}
-use Rattle.metadata_reads.specs.Selections.{AreSelectionsKept}
+use Rattle.layer_reads.specs.Kept.{IsListKept}
+use Rattle.layer_reads.specs.Selections.{AreSelectionsKept}
 use Rattle.value_returns.specs.Proper.{IsProperMeta}
 use Rattle.path_returns.specs.Returns.{IsPathOrAbsent}
 

@@ -17,9 +17,9 @@ use Rattle.value_texts.specs.ValueWords.{words_of_value}
 use Rattle.layer_reads.specs.Fixed.{AreFixed}
 use Rattle.layer_reads.specs.Keys.{is_plain_head_key}
 use Rattle.layer_reads.specs.Membered.{is_membered}
-use Rattle.metadata_reads.specs.Meta.{IsMetaKept}
-use Rattle.metadata_reads.specs.Specs.{IsSpecKept}
-use Rattle.prim_reads.specs.Properties.{IsValueKept, IsPropertyKept}
+use Rattle.layer_reads.specs.Meta.{IsMetaKept}
+use Rattle.layer_reads.specs.Specs.{IsSpecKept}
+use Rattle.layer_reads.specs.Properties.{IsValueKept, IsPropertyKept}
 use Rattle.value_returns.specs.Fields.{AreProperFields, IsProperHead}
 use Rattle.value_returns.specs.FullPaths.{is_full_path, has_full_paths}
 use Rattle.value_returns.specs.Proper.{IsProperValue, IsProperMeta, IsProperProperty}

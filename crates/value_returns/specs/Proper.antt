@@ -22,9 +22,9 @@ use Rattle.value_texts.specs.Writable.{is_writable}
 use Rattle.value_texts.specs.Each.{AreAll}
 use Rattle.layer_texts.specs.Writable.{is_word}
 use Rattle.text_checks.specs.Utf8.{is_utf8_value}
-use Rattle.metadata_reads.specs.Kept.{IsListKept}
-use Rattle.metadata_reads.specs.Meta.{IsCommentKept}
-use Rattle.prim_reads.specs.Properties.{is_any_key}
+use Rattle.layer_reads.specs.Kept.{IsListKept}
+use Rattle.layer_reads.specs.Meta.{IsCommentKept}
+use Rattle.layer_reads.specs.Properties.{is_any_key}
 use Rattle.value_returns.specs.FullPaths.{has_full_paths}
 
 -- a value of the type, or the block, that can be written, with assets that are UTF-8

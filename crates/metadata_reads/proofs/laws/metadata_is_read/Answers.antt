@@ -1,5 +1,0 @@
-use Rattle.metadata_reads.proofs.Specs.{metadata_read, block_read}
-use Rattle.metadata_reads.proofs.laws.metadata_is_read.Goals as goal
-
-pub returns : goal.returns
-returns c = record { items = metadata_read; block = block_read }

@@ -1,9 +1,0 @@
-pub mod Standing
-pub mod Items
-pub mod Kept
-pub mod Fields
-pub mod Meta
-pub mod Selections
-pub mod Sublayers
-pub mod Specs
-pub mod Laws

@@ -1,5 +1,0 @@
-use Rattle.prim_reads.proofs.Relationships.{property_read}
-use Rattle.prim_reads.proofs.laws.properties_are_read.Goals as goal
-
-pub returns : goal.returns
-returns c = property_read
