@@ -3,10 +3,12 @@ ghost use Rattle.std.specs.Prelude.{◌≡◌};
 ghost use Rattle.composition.specs.Arcs.{place, same_kind};
 ghost use Rattle.composition.specs.Trees.{is_class_of};
 ghost use Rattle.composition.specs.Paths.{same_path};
+ghost use Rattle.composition.specs.World.{same_stack};
 
 use path_maps::ArcKind;
 use plain_data::{ExactClone, ExactEq, ExactOrd, copy, same};
 use prim_nodes::Branch;
+use prim_view::StackName;
 use sdf_paths::Path;
 use std::alloc::AllocError;
 use std::marker::Model;
@@ -87,6 +89,13 @@ pub fn same_path(p: &Path, q: &Path) -> bool
     ensures { result ≡ same_path p.now q.now }
 {
     same(p, q)
+}
+
+/// Whether the two layer stacks are one.
+pub fn same_stack(a: &StackName, b: &StackName) -> bool
+    ensures { result ≡ same_stack a.now b.now }
+{
+    same(a, b)
 }
 
 /// Whether the arc is of this kind and leads to the class.

@@ -1,8 +1,10 @@
 -- The values of an attribute: the opinions that count, their times on the stage, and the first that decides.
 -- docs/COMPOSITION.md, 'Values'.
 pub use Rattle.prim_view.specs.declared.fault.TimeFault.{TimeFault}
-use Rattle.std.specs.Prelude.{◌^◌, nat_le, Bool, true, false, cond, ℤ, int_le, unsigned_abs, List, [], ◌∷◌, ◌++◌, flat_map, filter, filter_map, Option, Some, None}
+use Rattle.std.specs.Prelude.{◌^◌, nat_le, Bool, true, false, cond, ℤ, int_le, unsigned_abs, List, [], ◌∷◌, ◌++◌, flat_map, filter, filter_map, slice_get, Option, Some, None}
 use Rattle.std.specs.List.{list_any}
+use Rattle.std.specs.Option.{option_map}
+use Rattle.plain_data.specs.Ends.{last}
 use Rattle.spec_properties.specs.Entries.{SampleEntries}
 use Rattle.spec_properties.specs.Properties.{property_at}
 use Rattle.spec_properties.specs.declared.property.Property.{Property}
@@ -163,13 +165,11 @@ time_fault name p = cond (given p).left_out ((record { layer = p.said.layer; sit
 abbrev pub time_faults : Text → List PropertySaid → List TimeFault
 time_faults name ps = flat_map (time_fault name) ps
 
--- the sample at the greatest time not after the one asked is held, and before the first the first; `so_far` is the last one passed
-abbrev pub held_sample : Option Value → SampleEntries → ℤ → Option Value
-held_sample so_far [] t = so_far
-held_sample None (e ∷ es) t = held_sample (Some e.1) es t
-held_sample (Some v) (e ∷ es) t = cond (int_le e.0 t) (held_sample (Some e.1) es t) (Some v)
+-- the sample that holds at a time: the last one that is not after it, and before the first sample the first
+abbrev pub held_sample : SampleEntries → ℤ → Option (ℤ × Value)
+held_sample samples t = elim (last (filter (λ e. int_le e.0 t) samples)) [ Some e ↦ Some e | None ↦ slice_get samples 0 ]
 
--- the value at a time: the sample that is held, and without samples the default
+-- the value at a time: samples decide where there are any, and else the default
 abbrev pub value_at : Option Value → SampleEntries → ℤ → Option Value
 value_at default [] t = default
-value_at default (e ∷ es) t = held_sample None (e ∷ es) t
+value_at default (e ∷ es) t = option_map (λ held. held.1) (held_sample (e ∷ es) t)

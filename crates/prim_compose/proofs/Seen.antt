@@ -4,8 +4,7 @@ use Rattle.std.specs.Prelude.{flat_map}
 use Rattle.std.specs.List.{list_all}
 use Rattle.std.proofs.lemmas.List.Folds.{flat_map-map}
 use Rattle.list_ops.specs.ListEdits.{firsts}
-use Rattle.sdf_paths.specs.declared.element.Element.TheVariants.{Prim, Property, Selection}
-use Rattle.sdf_paths.specs.Paths.{is_prim_name, is_property, is_plain}
+use Rattle.sdf_paths.specs.Paths.{is_prim_name}
 use Rattle.composition.specs.Faults.{Fault, Index, child_too_long, same_fault, index}
 use Rattle.composition.specs.Fields.{all_children, all_properties, listed_children, unlisted_children, is_inactive, meta_of}
 use Rattle.composition.specs.Opinions.{Said}
@@ -16,7 +15,6 @@ use Rattle.composition.specs.Views.{PrimView, empty_view, property_view, propert
 use Rattle.composition.specs.World.{World}
 use Rattle.field_resolve.specs.Folding.{specifier_on, type_on, schemas_on, clips_on, meta_on, children_on, properties_on}
 use Rattle.layer_set.specs.LookUps.{look_ups}
-use Rattle.layer_set.specs.Rules.{IsStagePrim}
 use Rattle.layer_set.specs.Worlds.{WorldData}
 use Rattle.prim_index.specs.Answer.{index_at, sites_in, faults_in, is_none}
 use Rattle.prim_opinions.specs.Counting.{counted}
@@ -98,30 +96,3 @@ pub entry_elsewhere : (w : WorldData) (p : Path) → list_all is_prim_name p ≡
 unfolding entry_at view_at
 entry_elsewhere w [] h = absurd cc
 entry_elsewhere w (e ∷ p) h = ap (λ (b : Bool). by_names (look_ups w) (e ∷ p) b) (sym h)
-
--- ---- paths of names alone
-
-pub with_property : (p : Path) → is_property p ≡ true → false ≡ list_all is_prim_name p
-with_property [] h = absurd cc
-with_property (Prim n ∷ p) h = with_property p h
-with_property (Property n ∷ p) h = refl
-with_property (Selection s v ∷ p) h = refl
-
-pub without_property : (p : Path) → is_property p ≡ false → is_plain p ≡ list_all is_prim_name p
-without_property [] h = refl
-without_property (Prim n ∷ p) h = without_property p h
-without_property (Property n ∷ p) h = absurd cc
-without_property (Selection s v ∷ p) h = refl
-
-no_property : (p : Path) → list_all is_prim_name p ≡ true → is_property p ≡ false
-no_property [] h = refl
-no_property (Prim n ∷ p) h = no_property p h
-no_property (Property n ∷ p) h = absurd cc
-no_property (Selection s v ∷ p) h = absurd cc
-
-pub stage_prim : (p : Path) → p ≢ [] → list_all is_prim_name p ≡ true → IsStagePrim p
-stage_prim p below h = record {
-  below = below;
-  prim = no_property p h;
-  plain = without_property p (no_property p h) ∙ h;
-}

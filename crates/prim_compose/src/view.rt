@@ -6,7 +6,6 @@ ghost use Rattle.composition.specs.Paths.{limits};
 ghost use Rattle.composition.specs.Views.{empty_view};
 ghost use Rattle.field_resolve.specs.Folding.{meta_on};
 ghost use Rattle.layer_set.specs.LookUps.{look_ups};
-ghost use Rattle.layer_set.specs.Rules.{IsStagePrim};
 ghost use Rattle.prim_index.specs.Answer.{index_at, sites_in, choices_in, faults_in};
 ghost use Rattle.sdf_paths.specs.Paths.{is_prim_name};
 ghost use Rattle.prim_index.specs.Once.{faults_once};
@@ -23,7 +22,7 @@ use field_resolve::{PrimFields, fields_of};
 use layer_set::World;
 use list_ops::push_all;
 use plain_data::{Items, Text, copy};
-use prim_index::{PrimIndex, index};
+use prim_index::{PrimIndex, has_prims_alone, index};
 use prim_opinions::{SaidAt, opinions_on};
 use prim_view::{Choices, PrimFault, PrimView, PropertyView, Site};
 use sdf_paths::Path;
@@ -207,22 +206,11 @@ fn view_by(
 
 /// The view of a prim of the stage.
 fn prim_view(alloc: Global, world: &World, place: &Path) -> Result<PrimView, AllocError>
-    requires plain { list_all is_prim_name place.now ≡ true }
-    requires prim { IsStagePrim place.now }
+    requires { list_all is_prim_name place.now ≡ true }
     ensures { IfOk result (λ view. view ≡ seen_by (look_ups world.now) place.now (index_at limits (look_ups world.now) place.now)) }
 {
     let index = index(alloc, world, place)?;
     view_by(alloc, world, place, &index)
-}
-
-/// Whether a path has names of prims alone.
-fn has_prims_alone(path: &Path) -> bool
-    ensures { result ≡ list_all is_prim_name path.now }
-{
-    if path.is_property() {
-        return false;
-    }
-    path.is_plain()
 }
 
 /// The composed view of a path: the fields, properties and children of the prim that stands there, the sites and choices that it is

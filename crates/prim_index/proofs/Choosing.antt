@@ -13,7 +13,7 @@ use Rattle.composition.specs.Texts.{Text, both}
 use Rattle.composition.specs.Names.{is_name, is_variant_name}
 use Rattle.composition.specs.Paths.{Path, limits, fits, tail}
 use Rattle.composition.specs.Nodes.{Node, Chosen, author, child_path}
-use Rattle.prim_index.specs.Following.{if_fits}
+use Rattle.node_branches.specs.Following.{if_fits}
 use Rattle.prim_index.specs.Reading.{variant_at, chosen_if_fits}
 use Rattle.prim_index.proofs.Names.{name_is, variant_name_is}
 use Rattle.composition.proofs.Tests.{by_test, both_hold, both_parts}

@@ -7,7 +7,7 @@ use Rattle.composition.specs.Trees.{Branch, Tree, Trees, node, none, cut, child,
 use Rattle.composition.specs.Compose.{bottom, level, meaning, decides_nothing, tree_of}
 use Rattle.path_maps.specs.declared.kind.ArcKind.TheVariants.{Variant}
 use Rattle.prim_index.specs.Depths.{deeper, tree_below, child_below, grown_below, full_tree, frames_below, round_below, rounds_below}
-use Rattle.prim_index.specs.Children.{arc_child_with, chosen_child, above_target, node_at, node_in_round}
+use Rattle.node_branches.specs.Children.{arc_child_with, chosen_child, above_target, node_at, node_in_round}
 
 module _ (l : Limits) (h : Node → Here) where
   pub tree_cut : (d room : ℕ) (n : Node) → tree_below l h d 0 room n ≡ node n (h n) cut none

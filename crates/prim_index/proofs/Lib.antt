@@ -1,10 +1,8 @@
+pub mod Alone
 pub mod Answering
 pub mod Choosing
-pub mod Cutting
 pub mod Depths
 pub mod Faulted
-pub mod Following
-pub mod Fronts
 pub mod Grown
 pub mod Names
 pub mod Once

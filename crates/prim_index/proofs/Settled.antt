@@ -8,7 +8,7 @@ use Rattle.composition.specs.Nodes.{Node, Here, Frame, Choices, bare, bare_node}
 use Rattle.composition.specs.Trees.{Tree}
 use Rattle.composition.specs.Compose.{decided, is_overgrown_on_the_way}
 use Rattle.prim_index.specs.Answer.{stage_node_at}
-use Rattle.prim_index.specs.Children.{node_at, node_in_round}
+use Rattle.node_branches.specs.Children.{node_at, node_in_round}
 use Rattle.prim_index.specs.Depths.{tree_below, frames_below, round_below, rounds_below}
 use Rattle.prim_index.specs.Grown.{with_round}
 use Rattle.prim_index.specs.Loading.{loads}

@@ -7,7 +7,7 @@ use Rattle.composition.specs.Paths.{Path, Limits}
 use Rattle.composition.specs.World.{World}
 use Rattle.composition.specs.Nodes.{Node, Here, Frame, bare, nothing_said}
 use Rattle.composition.specs.Trees.{Tree, Trees, node, none, cut, size_among, own_branches, lifted_branches}
-use Rattle.prim_index.specs.Children.{arc_child_with, chosen_child, above_target, node_at, node_in_round}
+use Rattle.node_branches.specs.Children.{arc_child_with, chosen_child, above_target, node_at, node_in_round}
 use Rattle.prim_index.specs.Depths.{tree_below, child_below, grown_below, frames_below, full_tree, round_below, rounds_below}
 use Rattle.prim_index.specs.Grown.{with_round}
 use Rattle.prim_index.specs.Loading.{loads}

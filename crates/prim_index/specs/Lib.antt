@@ -1,8 +1,5 @@
 pub mod Answer
-pub mod Branches
-pub mod Children
 pub mod Depths
-pub mod Following
 pub mod Once
 pub mod Reading
 pub mod Grown

@@ -3,7 +3,7 @@ ghost use Rattle.std.specs.Prelude.{◌≡◌, ◌==◌, ◌-◌, [], IfOk, leng
 ghost use Rattle.composition.specs.Paths.{limits};
 ghost use Rattle.composition.specs.Trees.{node as node_of_tree, none, cut, size_among, own_branches, lifted_branches};
 ghost use Rattle.composition.specs.Nodes.{bare, nothing_said};
-ghost use Rattle.prim_index.specs.Children.{arc_child_with};
+ghost use Rattle.node_branches.specs.Children.{arc_child_with};
 ghost use Rattle.layer_set.specs.LookUps.{look_ups};
 ghost use Rattle.prim_trees.specs.Meant.{led, meant, trees_of};
 ghost use Rattle.prim_index.specs.Reading.{said};
@@ -11,13 +11,14 @@ ghost use Rattle.prim_index.specs.Depths.{tree_below, child_below, grown_below, 
 ghost use Rattle.prim_index.specs.Loading.{loads};
 ghost use Rattle.prim_index.specs.Grown.{with_round};
 
-use crate::branches::{lifted_branches, own_branches};
-use crate::children::{above_target, arc_child, chosen_child, node_at, node_in_round, with_first};
-use crate::levels::front;
 use crate::reading::here_at;
 use class_arcs::same_kind;
 use layer_set::World;
 use list_ops::push_all;
+use node_branches::{
+    above_target, arc_child, chosen_child, front, lifted_branches, node_at, node_in_round, own_branches,
+    with_first,
+};
 use path_maps::ArcKind;
 use plain_data::{Items, copy};
 use prim_nodes::{Branch, Frame, Here, Node};

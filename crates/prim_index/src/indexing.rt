@@ -1,10 +1,11 @@
-ghost use Rattle.std.specs.Prelude.{◌≡◌, [], true, false, IfOk};
+ghost use Rattle.std.specs.Prelude.{◌≡◌, true, false, IfOk};
+ghost use Rattle.std.specs.List.{list_all};
 ghost use Rattle.composition.specs.Nodes.{frame_at};
 ghost use Rattle.composition.specs.Trees.{node_of};
 ghost use Rattle.composition.specs.Paths.{limits};
 ghost use Rattle.layer_set.specs.LookUps.{look_ups};
-ghost use Rattle.layer_set.specs.Rules.{IsStagePrim};
 ghost use Rattle.prim_trees.specs.Meant.{meant};
+ghost use Rattle.sdf_paths.specs.Paths.{is_prim_name};
 ghost use Rattle.prim_index.specs.Answer.{index_at, indexed_of, nothing_there, sites_in, choices_in, faults_in, is_none};
 
 use crate::faults::faults_once;
@@ -152,29 +153,27 @@ fn index_of_prim(alloc: Global, world: &World, place: &Path) -> Result<PrimIndex
     index_of(alloc, &tree)
 }
 
-/// Whether a prim of the stage may have this path.
-fn is_stage_prim(place: &Path) -> bool
-    ensures yes { result ≡ true → IsStagePrim place.now }
-    ensures no { result ≡ false → ¬ (IsStagePrim place.now) }
+/// Whether a path has names of prims alone, as `/` and the paths of the stage's prims have.
+pub fn has_prims_alone(path: &Path) -> bool
+    ensures { result ≡ list_all is_prim_name path.now }
 {
-    if place.is_root() || place.is_property() {
+    if path.is_property() {
         return false;
     }
-    place.is_plain()
+    path.is_plain()
 }
 
-/// The index of a prim, as composition is defined. The path of no prim of the stage (`/`, that of a property, one with variant
-/// selections) has no site, choice or fault.
+/// The index of a prim, as composition is defined; that of `/` has the root of the stage as its one site. A path of no prim of the
+/// stage (that of a property, one with variant selections) has no site, choice or fault.
 ///
 /// # Errors
 ///
 /// Memory ran out.
 pub fn index(alloc: Global, world: &World, place: &Path) -> Result<PrimIndex, AllocError>
-    ensures prim { IsStagePrim place.now → IfOk result (λ i. i ≡ index_at limits (look_ups world.now) place.now) }
-    ensures other { ¬ (IsStagePrim place.now) → IfOk result (λ i. i ≡ Some nothing_there) }
+    ensures prim { list_all is_prim_name place.now ≡ true → IfOk result (λ i. i ≡ index_at limits (look_ups world.now) place.now) }
+    ensures other { list_all is_prim_name place.now ≡ false → IfOk result (λ i. i ≡ Some nothing_there) }
 {
-    let prim = is_stage_prim(place);
-    if prim {
+    if has_prims_alone(place) {
         return index_of_prim(alloc, world, place);
     }
     Ok(nothing_there(alloc))

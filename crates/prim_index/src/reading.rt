@@ -9,12 +9,11 @@ ghost use Rattle.layer_set.specs.LookUps.{look_ups};
 ghost use Rattle.arc_expand.specs.Authoring.{IsStackOf, opinions as opinions_there, sets_in};
 ghost use Rattle.prim_index.specs.Reading.{said, said_levels, sublayers_said, sublayer_faults, looked_at, tried_of, tried_level, tried_kind, tried_all, chosen_if_fits, variant_at, chosen_of, chosen_level, chosen_all, parts};
 
-use crate::follow::{child_path, refusal};
-use crate::levels::levels;
 use arc_expand::{LayerOpinion, authored_in, opinions, selections_in, variant_sets_in};
 use class_arcs::path_above;
 use layer_set::World;
 use layer_stack::{LayerStack, stack};
+use node_branches::{child_path, levels, refusal};
 use path_maps::ArcKind;
 use plain_data::{Items, Text, copy};
 use prim_nodes::{Authored, Chosen, Frame, Here, Node, Outcome, Tried};

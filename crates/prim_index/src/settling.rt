@@ -7,17 +7,17 @@ ghost use Rattle.composition.specs.World.{identity};
 ghost use Rattle.layer_set.specs.LookUps.{look_ups};
 ghost use Rattle.prim_trees.specs.Meant.{meant};
 ghost use Rattle.prim_index.specs.Answer.{stage_node_at};
-ghost use Rattle.prim_index.specs.Children.{node_in_round};
+ghost use Rattle.node_branches.specs.Children.{node_in_round};
 ghost use Rattle.prim_index.specs.Depths.{tree_below, rounds_below};
 ghost use Rattle.prim_index.specs.Reading.{said};
 ghost use Rattle.prim_index.specs.Settling.{framed};
 
-use crate::children::{node_in_round, with_first};
 use crate::grow::{
     MAX_DEPTH, MAX_NODES, MAX_ROUNDS, Payloads, choice_count, first_frame, frames_at, is_loaded,
     is_settled, next_frame, path_length, tree_at,
 };
 use layer_set::World;
+use node_branches::{node_in_round, with_first};
 use plain_data::{Items, copy};
 use prim_nodes::{Frame, Node};
 use prim_trees::Tree;

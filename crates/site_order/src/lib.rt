@@ -13,5 +13,4 @@ mod sizes;
 pub use deciding::{decided, find_choice};
 pub use faults::arc_faults;
 pub use keeping::sites;
-pub use ranks::same_stack;
 pub use sizes::{is_overgrown_on_the_way, size};

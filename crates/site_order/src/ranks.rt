@@ -1,17 +1,14 @@
 // The rank of a node: of several places of one site, one of least rank is kept.
 ghost use Rattle.std.specs.Prelude.{◌≡◌, ◌+◌, IfOk};
 ghost use Rattle.std.specs.List.{list_any};
-ghost use Rattle.composition.specs.World.{same_stack};
 ghost use Rattle.composition.specs.Strength.{same_site, is_lifted_inherits, leads_on, has_class_child, above_child};
 ghost use Rattle.prim_trees.specs.Meant.{meant};
 ghost use Rattle.site_order.specs.Ranks.{is_class_there, shares, child_rank};
 
-use class_arcs::{same_kind, same_path};
+use class_arcs::{same_kind, same_path, same_stack};
 use path_maps::ArcKind;
-use plain_data::same;
 use prim_nodes::{Branch, Node};
 use prim_trees::{Child, Tree};
-use prim_view::StackName;
 use std::alloc::AllocError;
 
 /// A node with what stands below it, and its rank.
@@ -29,13 +26,6 @@ pub fn same_site(m: &Node, n: &Node) -> bool
     ensures { result ≡ same_site m.now n.now }
 {
     same_stack(&m.stack, &n.stack) && same_path(&m.path, &n.path)
-}
-
-/// Whether the two layer stacks are one.
-pub fn same_stack(a: &StackName, b: &StackName) -> bool
-    ensures { result ≡ same_stack a.now b.now }
-{
-    same(a, b)
 }
 
 fn is_lifted_inherits(branch: &Branch) -> bool

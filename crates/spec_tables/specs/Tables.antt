@@ -1,8 +1,8 @@
 -- Tables as lists of entries in the order of their keys, each key once.
-use Rattle.std.specs.Prelude.{List, Option, filter}
+use Rattle.std.specs.Prelude.{List, Option, filter, not}
 use Rattle.std.specs.BTreeMap.{insert_entry, is_at}
 use Rattle.std.specs.List.Sorted.{IsStrictlySortedBy}
-use Rattle.std.specs.Ordering.{is_le}
+use Rattle.std.specs.Ordering.{is_le, is_lt}
 use Rattle.std.specs.Map.{lookup, remove_entry, set_value, keys_of}
 use Rattle.std.specs.declared.cmp.Ordering.{Ordering}
 
@@ -30,3 +30,7 @@ module _ {K V : Type 0} (cmp : K → K → Ordering) where
   -- the entries from a key on
   abbrev pub entries_from : K → List (K × V) → List (K × V)
   entries_from key entries = filter (λ e. is_le (cmp key e.0)) entries
+
+  -- the entries up to a key
+  abbrev pub entries_until : K → List (K × V) → List (K × V)
+  entries_until key entries = filter (λ e. not (is_lt (cmp key e.0))) entries

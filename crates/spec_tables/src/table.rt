@@ -1,7 +1,8 @@
 ghost use Rattle.std.specs.Prelude.{◌≡◌, ◌↔◌, ◌<◌, ◌^◌, [], length, slice_get, is_some, Some, None, IfOk, IfErr, OnOk, OnErr, IsTrue};
 ghost use Rattle.std.specs.Map.Iter.{ShowsInOrder, deref_pair};
 ghost use Rattle.std.specs.Option.{option_copied, option_map};
-ghost use Rattle.spec_tables.specs.Tables.{IsTable, at_key, with_key, without_key, with_value, entries_from};
+ghost use Rattle.spec_tables.specs.Tables.{IsTable, at_key, with_key, without_key, with_value, entries_from, entries_until};
+ghost use Rattle.plain_data.specs.Ends.{last};
 
 use plain_data::{ExactClone, ExactEq, ExactOrd};
 use std::alloc::{AllocError, Global};
@@ -91,6 +92,13 @@ impl<K: Ord, V> OrderedTable<K, V> {
         ensures bound { length result < 2 ^ 63 }
     {
         self.entries.range(key..)
+    }
+
+    /// The last entry whose key is not above this one, found by a search; none where each is above it.
+    pub fn last_until(&self, key: &K) -> Option<(&K, &V)>
+        ensures { option_map (λ e. (e.0.now, e.1.now)) result ≡ last (entries_until K.cmp key.now self.now) }
+    {
+        self.entries.range(..=key).next_back()
     }
 
     /// Exchanges the value at a key that is there, and answers the one before; else hands the value back. Takes no memory.

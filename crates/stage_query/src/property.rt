@@ -1,6 +1,6 @@
 // What a property of a composed prim answers.
-ghost use Rattle.std.specs.Prelude.{◌≡◌, None};
-ghost use Rattle.std.specs.Option.{option_copied};
+ghost use Rattle.std.specs.Prelude.{◌≡◌};
+ghost use Rattle.std.specs.Option.{option_copied, option_map};
 ghost use Rattle.composition.specs.Values.{held_sample, value_at};
 ghost use Rattle.stage_query.specs.Answers.{answer_copied, decided, opinion, sampled, value_of, default_value, samples_in, targets_in};
 
@@ -11,28 +11,27 @@ use sdf_paths::Path;
 use sdf_values::{TimeCode, Value};
 use spec_properties::Samples;
 
-/// The value of the sample at the greatest time that is not after this one; before the first sample that of the first.
-fn held_sample(samples: &Samples, t: TimeCode) -> Option<&Value>
-    ensures { option_copied result ≡ held_sample None samples.now t }
+/// The sample that holds at a time: the last one that is not after it, and before the first sample the first.
+fn held_sample(samples: &Samples, t: TimeCode) -> Option<(&TimeCode, &Value)>
+    ensures { option_map (λ e. (e.0.now, e.1.now)) result ≡ held_sample samples.now t }
 {
-    let mut held = None;
-    for (time, value) in samples.iter() {
-        if held.is_some() && *time > t {
-            break;
-        }
-        held = Some(value);
+    match samples.last_until(&t) {
+        Some(held) => Some(held),
+        None => samples.at(0),
     }
-    held
 }
 
-/// The value at a time: that of a sample where there are any, and else the default.
+/// The value at a time: that of the sample that holds, where there are any, and else the default.
 fn at_time<'v>(default: &'v Option<Value>, samples: &'v Samples, t: TimeCode) -> Option<&'v Value>
     ensures { option_copied result ≡ value_at default.now samples.now t }
 {
     if samples.is_empty() {
         return default.as_ref();
     }
-    held_sample(samples, t)
+    match held_sample(samples, t) {
+        Some((_, value)) => Some(value),
+        None => None,
+    }
 }
 
 /// The value that decides; a block is told as such.

@@ -1,6 +1,0 @@
-use Rattle.std.proofs.Common.{◌≡◌, ◌++◌, flat_map, drop}
-use Rattle.prim_index.specs.Branches.{lifted_of}
-use Rattle.prim_index.proofs.branches.push_all_lifted.Given as goal
-
-abbrev pub invariant-loop-class : goal.invariant-loop-class
-invariant-loop-class l = l.out ++ flat_map (lifted_of l.kind l.node l.own) (drop l.class-index l.classes) ≡ l.fn.out ++ flat_map (lifted_of l.kind l.node l.own) l.classes

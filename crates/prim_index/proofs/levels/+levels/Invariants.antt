@@ -1,5 +1,0 @@
-use Rattle.std.proofs.Common.{length}
-use Rattle.prim_index.proofs.levels.+levels.Given as goal
-
-abbrev pub decreases-levels : goal.decreases-levels
-decreases-levels l = length l.elements.now

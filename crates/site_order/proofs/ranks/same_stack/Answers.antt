@@ -1,5 +1,0 @@
-use Rattle.composition.proofs.Same.{stack_told}
-use Rattle.site_order.proofs.ranks.same_stack.Goals as goal
-
-pub returns : goal.returns
-returns c = stack_told c.args.a.now c.args.b.now c.same.result c.same.ensures
