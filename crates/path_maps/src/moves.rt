@@ -1,4 +1,4 @@
-// Paths moved from one prefix to another.
+//! Paths moved from one prefix to another.
 ghost use Rattle.std.specs.Prelude.{◌≡◌, IfOk, IfErr, OnOk, IsSomeAnd};
 ghost use Rattle.std.specs.Option.{ForSome};
 ghost use Rattle.sdf_paths.specs.Paths.{IsPath, IsRefusal, plain, replaced};

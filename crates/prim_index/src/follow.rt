@@ -1,4 +1,4 @@
-// Whether an arc is followed, and where it leads.
+//! Whether an arc is followed, and where it leads.
 ghost use Rattle.std.specs.Prelude.{◌≡◌, ◌==◌, ◌++◌, ◌∷◌, [], IfOk, not};
 ghost use Rattle.sdf_paths.specs.Paths.{plain};
 ghost use Rattle.sdf_values.specs.Scales.{composed};

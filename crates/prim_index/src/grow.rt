@@ -1,4 +1,4 @@
-// The tree of a node, the frames of a prim, and the rounds of choices, which rest on each other.
+//! The tree of a node, the frames of a prim, and the rounds of choices, which rest on each other.
 ghost use Rattle.std.specs.Prelude.{◌≡◌, ◌==◌, ◌-◌, [], IfOk, length};
 ghost use Rattle.composition.specs.Paths.{limits};
 ghost use Rattle.composition.specs.Trees.{node as node_of_tree, none, cut, size_among, own_branches, lifted_branches};

@@ -1,4 +1,4 @@
-// What the layers of a node's stack say at it.
+//! What the layers of a node's stack say at it.
 ghost use Rattle.std.specs.Prelude.{◌≡◌, ◌++◌, ◌∷◌, [], IfOk, OnOk, map, not};
 ghost use Rattle.std.specs.Option.{option_copied};
 ghost use Rattle.composition.specs.Texts.{same_text, find_at};

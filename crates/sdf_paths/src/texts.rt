@@ -1,4 +1,4 @@
-// Paths of texts, and texts with paths in them.
+//! Paths of texts, and texts with paths in them.
 ghost use Rattle.std.specs.Prelude.{◌≡◌, ◌↔◌, ◌++◌, List, IfOk, OnOk, Some, string_bytes};
 ghost use Rattle.sdf_paths.specs.Paths.{IsReadAs, path_text, printed};
 ghost use Rattle.sdf_paths.specs.Reader.{path_of};

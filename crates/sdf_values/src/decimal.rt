@@ -78,7 +78,7 @@ impl Decimal {
     }
 }
 
-// A number's text, with as many digits as it has.
+/// A number's text, with as many digits as it has.
 fn read_number(text: &[u8]) -> Result<Decimal, NumberFault>
     requires { IsTrue (is_number text.now) }
     ensures read { (d : DecimalNumber) → (result ≡ Ok d) ↔ IsNumberOf d (written_digits text.now) (written_exponent text.now) }
@@ -113,7 +113,7 @@ pub fn with_sign(negative: bool, n: u128) -> i128
     if negative { -(n as i128) } else { n as i128 }
 }
 
-// The decimal of some digits and an exponent.
+/// The decimal of some digits and an exponent.
 fn of_parts(negative: bool, kept: Significant, exponent: i128) -> Result<Decimal, NumberFault>
     requires room { kept.zeros < 2 ^ 64 }
     requires near { unsigned_abs exponent < 2 ^ 110 }

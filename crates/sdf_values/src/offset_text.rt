@@ -1,4 +1,4 @@
-// The text of an offset behind an item.
+//! The text of an offset behind an item.
 ghost use Rattle.std.specs.Prelude.{◌≡◌, ◌++◌, OnOk, false, string_bytes};
 ghost use Rattle.sdf_values.specs.Print.{offset_text, unless_identity};
 ghost use Rattle.sdf_values.specs.Scales.{is_identity, is_one, is_zero};

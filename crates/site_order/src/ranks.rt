@@ -1,4 +1,4 @@
-// The rank of a node: of several places of one site, one of least rank is kept.
+//! The rank of a node: of several places of one site, one of least rank is kept.
 ghost use Rattle.std.specs.Prelude.{◌≡◌, ◌+◌, IfOk};
 ghost use Rattle.std.specs.List.{list_any};
 ghost use Rattle.composition.specs.World.{same_stack};

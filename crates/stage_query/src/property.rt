@@ -1,4 +1,4 @@
-// What a property of a composed prim answers.
+//! What a property of a composed prim answers.
 ghost use Rattle.std.specs.Prelude.{◌≡◌, None};
 ghost use Rattle.std.specs.Option.{option_copied};
 ghost use Rattle.composition.specs.Values.{held_sample, value_at};

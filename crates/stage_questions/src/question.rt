@@ -1,4 +1,4 @@
-// Questions, and how they are written.
+//! Questions, and how they are written.
 ghost use Rattle.std.specs.Prelude.{◌≡◌, ◌++◌, IfOk, OnOk, string_bytes};
 ghost use Rattle.stage_questions.specs.Answers.{asked_of, question_text};
 
@@ -29,7 +29,7 @@ pub enum Question {
     Flatten,
 }
 
-// Appends a word and a path.
+/// Appends a word and a path.
 fn push_asked(out: &mut String, word: &str, path: &Path) -> Result<(), AllocError>
     ensures { OnOk result (string_bytes out.new ≡ string_bytes out.old ++ asked_of word.now path.now) }
 {
@@ -37,7 +37,7 @@ fn push_asked(out: &mut String, word: &str, path: &Path) -> Result<(), AllocErro
     push_path(out, path)
 }
 
-// Appends a question in its one spelling.
+/// Appends a question in its one spelling.
 fn push_question(out: &mut String, question: &Question) -> Result<(), AllocError>
     ensures { OnOk result (string_bytes out.new ≡ string_bytes out.old ++ question_text question.now) }
 {

@@ -1,4 +1,4 @@
-// Paths through the arcs between a site and the stage.
+//! Paths through the arcs between a site and the stage.
 ghost use Rattle.std.specs.Prelude.{◌≡◌, ◌++◌, IfOk, OnOk, filter_map, filter, option_to_list};
 ghost use Rattle.sdf_paths.specs.Paths.{IsPath};
 ghost use Rattle.path_maps.specs.Prims.{IsOfPrim};

@@ -1,4 +1,4 @@
-// The rule of a desk's table, and the names of its steps.
+//! The rule of a desk's table, and the names of its steps.
 ghost use Rattle.std.specs.Prelude.{ℕ, List};
 ghost use Rattle.turn_lock.specs.Turns.{Kept, first_view, draws, looks, advances, settles, unborne, kept, split_off, joined, spent};
 

@@ -136,7 +136,7 @@ impl Owner {
         self.sets.push(VariantSet { set, variants })
     }
 
-    // What was said once of the property of a name.
+    /// What was said once of the property of a name.
     #[tactic(auto, unfolding(crate::specs::Owners::marks_at))]
     fn marks_at(&self, name: &Text) -> PropertyMarks
         ensures { result ≡ marks_at name.now self.now }
@@ -178,7 +178,7 @@ impl Owner {
         }
     }
 
-    // Notes what was said once of the property that was in hand.
+    /// Notes what was said once of the property that was in hand.
     fn put_marks(&mut self, property: &PropertyDraft) -> Result<(), AllocError>
         ensures { OnOk result (self.new ≡ record self.old { marks = with_key text_cmp property.now.name property.now.marks self.old.marks }) }
     {

@@ -22,7 +22,7 @@ pub struct OpenValue {
     pub only_strings: bool,
 }
 
-// The draft where no value is open.
+/// The draft where no value is open.
 fn no_draft(alloc: Global) -> ValueDraft
     ensures { result ≡ no_draft }
 {
@@ -33,7 +33,7 @@ fn no_draft(alloc: Global) -> ValueDraft
     }
 }
 
-// What a token adds to a draft; the entries of a dictionary of selections are strings.
+/// What a token adds to a draft; the entries of a dictionary of selections are strings.
 fn give_token(
     draft: &mut ValueDraft,
     only_strings: bool,
@@ -62,7 +62,7 @@ fn give_path(
     }
 }
 
-// What a token adds to a draft; a path is put behind that of the owner first.
+/// What a token adds to a draft; a path is put behind that of the owner first.
 fn give_in(
     draft: &mut ValueDraft,
     alloc: Global,

@@ -41,7 +41,7 @@ pub fn read_dict(alloc: Global, tokens: &mut Tokens<'_>) -> Result<Value, ValueF
     read(ValueDraft::dictionary(alloc), tokens)
 }
 
-// The value that the tokens complete.
+/// The value that the tokens complete.
 fn read(draft: ValueDraft, tokens: &mut Tokens<'_>) -> Result<Value, ValueFault>
     ensures answer { AnswersRead result draft tokens.old tokens.new }
     ensures source { tokens.new.source ≡ tokens.old.source }
@@ -59,7 +59,7 @@ fn read(draft: ValueDraft, tokens: &mut Tokens<'_>) -> Result<Value, ValueFault>
     }
 }
 
-// One token more; whether the value is complete.
+/// One token more; whether the value is complete.
 fn step(draft: &mut ValueDraft, tokens: &mut Tokens<'_>) -> Result<bool, ValueFault>
     ensures answer { AnswersStep result draft.old draft.new tokens.old tokens.new }
     ensures source { tokens.new.source ≡ tokens.old.source }
@@ -84,8 +84,8 @@ fn step(draft: &mut ValueDraft, tokens: &mut Tokens<'_>) -> Result<bool, ValueFa
     }
 }
 
-// Why there is no further token, where a draft has reached this place. A number that is too long is `Syntax` where no number
-// may stand.
+/// Why there is no further token, where a draft has reached this place. A number that is too long is `Syntax` where no number
+/// may stand.
 fn fault_of(fault: LexFault, place: Place) -> ValueFault
     ensures { result ≡ ValueFault.Refused (kind_of_fault fault place) (place_of_fault fault) }
 {
