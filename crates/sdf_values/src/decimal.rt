@@ -52,9 +52,12 @@ pub enum Num {
 /// Why a text gives no decimal.
 #[derive(Clone, Copy, Debug, PartialEq, Eq, Error)]
 pub enum NumberFault {
-    /// The text is no number written with digits: no such text goes on with the byte at `at`, or it ends there too soon.
+    /// The text is no number written with digits.
     #[error("no number goes on at byte {at}")]
-    BadNumber { at: usize },
+    BadNumber {
+        /// The byte with which no such text goes on, or the length of the text where it ends too soon.
+        at: usize,
+    },
     /// The number has more than 34 digits or an exponent beyond 400.
     #[error("a number has at most 34 digits and an exponent within 400 of 0")]
     NumberTooLong,

@@ -56,7 +56,7 @@ pub fn push_num(out: &mut String, number: Num) -> Result<(), AllocError>
     }
 }
 
-/// Appends a time's text.
+/// Appends a time's text. After want of memory the text is of no use.
 pub fn push_time(out: &mut String, time: TimeCode) -> Result<(), AllocError>
     ensures { OnOk result (string_bytes out.new ≡ string_bytes out.old ++ time_text time) }
 {

@@ -30,7 +30,7 @@ fn push_shift(out: &mut String, offset: i64, scale: i64) -> Result<(), AllocErro
     write!(out, " (offset = {offset}; scale = {scale})")
 }
 
-/// Appends an offset and a scale behind an item, unless together they change no time.
+/// Appends an offset and a scale behind an item, unless together they change no time. After want of memory the text is of no use.
 pub fn push_offset(out: &mut String, offset: i64, scale: i64) -> Result<(), AllocError>
     ensures { OnOk result (string_bytes out.new ≡ string_bytes out.old
         ++ offset_text (record { offset = offset; scale = scale })) }

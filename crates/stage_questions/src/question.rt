@@ -12,19 +12,42 @@ use std::alloc::{AllocError, Global};
 #[derive(Debug, Drop)]
 pub enum Question {
     /// The value of an attribute at a time.
-    Value { path: Path, time: TimeCode },
+    Value {
+        /// The path of the attribute.
+        path: Path,
+        /// The time, on the stage.
+        time: TimeCode,
+    },
     /// The default of an attribute.
-    Default { path: Path },
+    Default {
+        /// The path of the attribute.
+        path: Path,
+    },
     /// The samples of an attribute.
-    Samples { path: Path },
+    Samples {
+        /// The path of the attribute.
+        path: Path,
+    },
     /// The targets of a relationship, or the connections of an attribute.
-    Targets { path: Path },
+    Targets {
+        /// The path of the property.
+        path: Path,
+    },
     /// The names of the children of a prim.
-    Children { path: Path },
+    Children {
+        /// The path of the prim.
+        path: Path,
+    },
     /// The faults of a prim.
-    Faults { path: Path },
+    Faults {
+        /// The path of the prim.
+        path: Path,
+    },
     /// The sites of a prim that have a spec.
-    Sites { path: Path },
+    Sites {
+        /// The path of the prim.
+        path: Path,
+    },
     /// The flattened layer of the stage.
     Flatten,
 }

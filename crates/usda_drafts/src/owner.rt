@@ -18,7 +18,8 @@ use usda_values::PartFault;
 
 /// A prim, a variant, or the layer itself, to which statements add.
 ///
-/// The layer's path is `/`, its children are the root prims, and its metadata is that of the head.
+/// The layer's path is `/`, its children are the root prims, and its metadata is that of the head. After a
+/// fault it is of no use.
 #[derive(Debug, Drop)]
 pub struct Owner {
     /// Its path, and what its metadata and its orders of names say.
@@ -27,7 +28,7 @@ pub struct Owner {
     pub type_name: Option<Text>,
     /// The names of the prims below, in their order.
     pub children: Items<Text>,
-    /// Its properties, but for the one in hand.
+    /// Its properties; in the place of the one in hand stands a blank relationship of its name.
     pub properties: Properties,
     /// What may be said of each property once, and was.
     pub marks: OrderedTable<Text, PropertyMarks>,

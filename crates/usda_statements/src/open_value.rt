@@ -13,7 +13,7 @@ use usda_lexer::{TokenKind, path_text};
 use usda_lists::absolute_from;
 use usda_values::{Bracket, Level, PartFault, Place, Shape, ValueDraft};
 
-/// The value that is being read, token by token; a draft that is complete where none is.
+/// The value that is being read, token by token; a draft that is complete where none is. After a fault it is of no use.
 #[derive(Debug, Drop)]
 pub struct OpenValue {
     /// What is read of it so far.

@@ -25,7 +25,7 @@ pub struct PropertyMarks {
     pub lists: GivenLists,
 }
 
-/// The property of the statement in hand: what is said of it so far.
+/// The property of the statement in hand: what is said of it so far. After a fault it is of no use.
 #[derive(Debug, Drop)]
 pub struct PropertyDraft {
     /// Its name; empty where no property is in hand.

@@ -99,7 +99,8 @@ fn push_layer(alloc: Global, out: &mut String, layer: &Layer) -> Result<(), Allo
     )
 }
 
-/// The canonical text of a layer. A name of a child without a spec is passed over.
+/// The canonical text of a layer. A name of a child or a variant without a spec is passed over, and a spec that its owner does not
+/// name is not written.
 ///
 /// # Errors
 ///
