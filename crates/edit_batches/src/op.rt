@@ -10,8 +10,8 @@ use usda_lists::ListEdit;
 
 /// One edit of a world. Layers are named from the working folder.
 ///
-/// Every operation on a layer but `NewLayer` and `PutLayer` is refused where the layer is not present, and every operation on a path
-/// where the path is of another kind than the operation is for.
+/// Every operation on a layer but `NewLayer` and `PutLayer` is refused where the layer is not present, and every operation on a
+/// path where the path is of another kind than the operation is for.
 #[derive(Debug, Drop)]
 pub enum Op {
     /// Adds an empty layer, or the layer of a text, at a name that has no layer.

@@ -38,10 +38,12 @@ fn if_fits(
     if target.is_root() || target.is_property() {
         return Err(AllocError);
     }
+    // By the contract of `elements` both are paths by the rules, within the limits.
     let _target = target.elements();
     let _path = path.elements();
     match path.replace_prefix(author, target) {
         Ok(Some(there)) => {
+            // So is what comes out.
             let _there = there.elements();
             Ok(Some(there))
         }

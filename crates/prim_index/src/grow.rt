@@ -32,7 +32,7 @@ pub const MAX_DEPTH: usize = 64;
 /// How many nodes a tree has at most.
 pub const MAX_NODES: usize = 4096;
 
-/// How many rounds of choices are made.
+/// How many rounds of choices are made at most.
 pub const MAX_ROUNDS: usize = 16;
 
 /// The payloads that are followed.

@@ -197,9 +197,11 @@ fn variant(
     if author.is_root() || author.is_property() {
         return Err(AllocError);
     }
+    // By the contract of `elements` this is a path by the rules, within the limits.
     let _author = author.elements();
     match author.select(set.as_str(), variant.as_str()) {
         Ok(target) => {
+            // So is what comes out.
             let _target = target.elements();
             let chosen = if_fitting(node, level, target)?;
             Ok(chosen)

@@ -22,8 +22,8 @@ pub fn read_value(alloc: Global, tokens: &mut Tokens<'_>) -> Result<Value, Value
     read(ValueDraft::new(alloc, Shape::Untyped), tokens)
 }
 
-/// Reads one value of which this is expected. After a refusal the tokens stand at the one that was refused, and after want of memory
-/// they are of no use.
+/// Reads one value of which this is expected. After a refusal the tokens stand at the one that was refused, and after want of
+/// memory they are of no use.
 pub fn read_shaped(
     alloc: Global,
     shape: Shape,
