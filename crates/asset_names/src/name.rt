@@ -25,7 +25,7 @@ pub enum AssetFault {
     /// The text has a character below space or is empty, or the name is longer than 4,096 bytes.
     #[error("no layer has this name: byte {at}")]
     BadAsset {
-        /// The byte of the character; 0 where the text is empty, and 4096 where the name is too long.
+        /// The byte at which the character stands; 0 where the text is empty, and 4096 where the name is too long.
         at: usize,
     },
     /// Memory ran out.

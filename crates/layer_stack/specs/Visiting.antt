@@ -39,7 +39,7 @@ is_on (Some on) = on
 abbrev pub is_above : Marks → Text → Bool
 is_above marks name = is_on (at_name name marks)
 
--- the mark of a name, by whether it stands on the chain, and whether it is listed; one that is neither has none
+-- the mark of a name: true where it stands on the chain, else false where it is listed, and none where it is neither
 abbrev pub mark : Bool → Bool → Option Bool
 mark true listed = Some true
 mark false true = Some false

@@ -38,7 +38,7 @@ fn push_composed(
     }
 }
 
-/// Looks at the index of a prim, and those above.
+/// Looks at the index of a prim, and the looks of `push_composed`.
 fn push_indexes(
     alloc: Global,
     out: &mut String,
@@ -53,7 +53,7 @@ fn push_indexes(
     }
 }
 
-/// Looks at layer stacks, and those above.
+/// Looks at layer stacks, and the looks of `push_indexes`.
 fn push_stacks(
     alloc: Global,
     out: &mut String,
@@ -69,7 +69,7 @@ fn push_stacks(
     }
 }
 
-/// Looks at what stands in a world, and those above.
+/// Looks at what stands in a world, and the looks of `push_stacks`.
 fn push_looks(
     alloc: Global,
     out: &mut String,

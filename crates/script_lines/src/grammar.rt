@@ -50,7 +50,7 @@ fn field_worded(alloc: Global, word: &str, bytes: &[u8]) -> Result<Line, LineFau
     }
 }
 
-/// Lines of values and metadata, and those above.
+/// Lines of values and metadata, and those of `field_worded`.
 #[tactic(auto, unfolding(crate::specs::Lines::value_worded))]
 fn value_worded(alloc: Global, word: &str, bytes: &[u8]) -> Result<Line, LineFault>
     ensures { Finds result (value_worded word.now bytes.now) }
@@ -66,7 +66,7 @@ fn value_worded(alloc: Global, word: &str, bytes: &[u8]) -> Result<Line, LineFau
     }
 }
 
-/// Lines that add and remove, and those above.
+/// Lines that add and remove, and those of `value_worded`.
 #[tactic(auto, unfolding(crate::specs::Lines::spec_worded))]
 fn spec_worded(alloc: Global, word: &str, bytes: &[u8]) -> Result<Line, LineFault>
     ensures { Finds result (spec_worded word.now bytes.now) }
@@ -82,7 +82,7 @@ fn spec_worded(alloc: Global, word: &str, bytes: &[u8]) -> Result<Line, LineFaul
     }
 }
 
-/// Questions, and the lines above.
+/// Questions, and the lines of `spec_worded`.
 #[tactic(auto, unfolding(crate::specs::Lines::question_worded))]
 fn question_worded(alloc: Global, word: &str, bytes: &[u8]) -> Result<Line, LineFault>
     ensures { Finds result (question_worded word.now bytes.now) }

@@ -72,7 +72,7 @@ pub enum LexFault {
         /// The byte at which it begins.
         at: usize,
     },
-    /// No token begins with a byte that stands in the source.
+    /// There is a byte with which no token begins.
     BadByte {
         /// The number of the byte, from 0.
         at: usize,
