@@ -324,7 +324,7 @@ abbrev pub starts : Symbol → WordKind → Option (List Symbol)
 
 def code_of(part):
     names = [name for where, name, _, _, _ in SYMBOLS if where == part]
-    out = f"// {MODULES[part]} Written by tools/grammar.py.\n"
+    out = f"//! {MODULES[part]} Written by tools/grammar.py.\n"
     out += "ghost use Rattle.std.specs.Option.{option_map};\nghost use Rattle.std.specs.Prelude.{◌≡◌, List};\n"
     out += f"ghost use Rattle.usda_grammar.specs.{part}.{{{', '.join(snake(n) for n in names)}, {part.lower()}_starts}};\n\n"
     out += "use crate::kinds::{Keyword, WordKind};\nuse crate::symbols::Symbol;\n\nconst NONE: &[Symbol] = &[];\n\n"
@@ -343,7 +343,7 @@ def code_of(part):
 
 
 def code_symbols():
-    out = "// What a layer's text goes on with. Written by tools/grammar.py.\n\n/// What a text goes on with: a token, a part of a statement, or any number of them.\n"
+    out = "//! What a layer's text goes on with. Written by tools/grammar.py.\n\n/// What a text goes on with: a token, a part of a statement, or any number of them.\n"
     out += "#[derive(Clone, Copy, Debug, PartialEq, Eq)]\npub enum Symbol {\n"
     for _, name, about, _, _ in SYMBOLS:
         out += f"    /// {about if about.endswith('.') else about + '.'}\n    {name},\n"
@@ -351,7 +351,7 @@ def code_symbols():
 
 
 def code_table():
-    out = "// The table: what each symbol may begin with, and which symbols may be absent. Written by tools/grammar.py.\n"
+    out = "//! The table: what each symbol may begin with, and which symbols may be absent. Written by tools/grammar.py.\n"
     out += "ghost use Rattle.std.specs.Option.{option_map};\nghost use Rattle.std.specs.Prelude.{◌≡◌, List};\n"
     out += "ghost use Rattle.usda_grammar.specs.Table.{starts, may_be_absent, layer};\n\nuse crate::kinds::WordKind;\nuse crate::symbols::Symbol;\n"
     out += "use crate::{layers, prims, properties, values};\n\n/// A layer: its head and its root prims.\npub fn layer() -> &'static [Symbol]\n    ensures { result.now ≡ layer }\n{\n"

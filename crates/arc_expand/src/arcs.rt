@@ -39,7 +39,7 @@ pub struct ArcsHere {
     pub items: Items<ArcItem>,
     /// The faults of the items that are no arcs, in their order.
     pub faults: Items<PrimFault>,
-    /// The keys of the world that were read, each once.
+    /// The keys of the world that were read beyond the heads that the stack itself asks, each once.
     pub reads: Items<Key>,
 }
 

@@ -1,4 +1,4 @@
-// The strongest layer that gives each item.
+//! The strongest layer that gives each item.
 ghost use Rattle.std.specs.Prelude.{◌≡◌, Option, Some, None, IfOk, OnOk, cond};
 ghost use Rattle.std.specs.Option.{is_some};
 ghost use Rattle.std.specs.BTreeMap.{get};

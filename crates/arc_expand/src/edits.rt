@@ -1,4 +1,4 @@
-// The list edits of a kind that the layers of a stack make, and the items that come of them.
+//! The list edits of a kind that the layers of a stack make, and the items that come of them.
 ghost use Rattle.std.specs.Prelude.{◌≡◌, ◌++◌, ◌∷◌, [], IfOk, OnOk, map, reverse};
 ghost use Rattle.composition.specs.Arcs.{items_of};
 ghost use Rattle.list_ops.specs.ListEdits.{folded};

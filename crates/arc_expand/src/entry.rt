@@ -1,4 +1,4 @@
-// Entries of lists of arcs as layers write them, and the items that they stand for.
+//! Entries of lists of arcs as layers write them, and the items that they stand for.
 ghost use Rattle.std.specs.Prelude.{◌≡◌, IfOk, OnOk, map, option_map};
 ghost use Rattle.composition.specs.Texts.{Text};
 ghost use Rattle.composition.specs.Arcs.{Item, source_of, class_item, reference_item, map_op};

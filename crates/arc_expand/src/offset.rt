@@ -1,4 +1,4 @@
-// Offsets of items: exact, and in range or not.
+//! Offsets of items: exact, and in range or not.
 ghost use Rattle.std.specs.Prelude.{◌≡◌, true, false, not, MatchOption};
 ghost use Rattle.sdf_values.specs.Scales.{composed};
 ghost use Rattle.composition.specs.World.{identity, in_range};

@@ -1,4 +1,4 @@
-// What the layers of a stack say at a path.
+//! What the layers of a stack say at a path.
 ghost use Rattle.std.specs.Prelude.{◌≡◌, IfOk};
 ghost use Rattle.layer_set.specs.LookUps.{look_ups};
 ghost use Rattle.arc_expand.specs.Authoring.{opinions_in};

@@ -1,4 +1,4 @@
-// Items with an order.
+//! Items with an order.
 ghost use Rattle.std.specs.Prelude.{◌≡◌};
 ghost use Rattle.std.specs.Ordering.{int_cmp, on, then_cmp};
 ghost use Rattle.arc_expand.specs.ItemOrder.{rank, source_text};

@@ -1,4 +1,4 @@
-// What becomes of an item: an arc, or the first reason why there is none.
+//! What becomes of an item: an arc, or the first reason why there is none.
 ghost use Rattle.std.specs.Prelude.{◌≡◌, IfOk};
 ghost use Rattle.layer_set.specs.LookUps.{look_ups, heading_of};
 ghost use Rattle.composition.specs.World.{first_layer};

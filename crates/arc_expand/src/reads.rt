@@ -1,4 +1,4 @@
-// The keys that arcs are made of.
+//! The keys that arcs are made of.
 ghost use Rattle.std.specs.Prelude.{◌≡◌, ◌++◌, IfOk, OnOk, map, flat_map};
 ghost use Rattle.layer_set.specs.LookUps.{look_ups, heading_of};
 ghost use Rattle.layer_set.specs.Worlds.{held_at};

@@ -1,4 +1,4 @@
-// Targets of items.
+//! Targets of items.
 ghost use Rattle.std.specs.Prelude.{◌≡◌, ◌∷◌, IfOk};
 ghost use Rattle.composition.specs.Paths.{has_selections};
 ghost use Rattle.composition.specs.World.{is_absolute};

@@ -1,4 +1,4 @@
-// Names of layers on closed texts, each record of examples as the clauses of a function that does nothing.
+//! Names of layers on closed texts, each record of examples as the clauses of a function that does nothing.
 ghost use Rattle.std.specs.Prelude.{◌≡◌, [], codes};
 ghost use Rattle.asset_names.specs.Anchoring.{anchored_name, kind_of, normal_name};
 ghost use Rattle.asset_names.specs.declared.name.NameKind.TheVariants as kind;

@@ -1,4 +1,4 @@
-// Laws of names, each as the clause of a function that does nothing.
+//! Laws of names, each as the clause of a function that does nothing.
 ghost use Rattle.std.specs.Prelude.{◌≡◌, ◌↔◌, ◌++◌, ℕ, true, false, List, codes};
 ghost use Rattle.asset_names.specs.Anchoring.{anchored_name, is_absolute, normal_name, segments};
 ghost use Rattle.asset_names.specs.Normalised.{AreParts, HasNoSlash, IsNameOf, IsNormalised};

@@ -22,9 +22,12 @@ pub enum NameKind {
 /// Why a text is no name of a layer.
 #[derive(Clone, Copy, Debug, PartialEq, Eq, Error)]
 pub enum AssetFault {
-    /// A character below space stands at `at`; or the text is empty, at 0; or the name is longer than 4,096 bytes, at 4096.
+    /// The text has a character below space or is empty, or the name is longer than 4,096 bytes.
     #[error("no layer has this name: byte {at}")]
-    BadAsset { at: usize },
+    BadAsset {
+        /// The byte at which the character stands; 0 where the text is empty, and 4096 where the name is too long.
+        at: usize,
+    },
     /// Memory ran out.
     #[error("out of memory")]
     NoMemory,

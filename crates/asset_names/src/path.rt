@@ -1,4 +1,4 @@
-// Segments of names, one after another.
+//! Segments of names, one after another.
 ghost use Rattle.std.specs.Prelude.{◌≡◌, ◌++◌, ℕ, reverse, IfOk, OnOk, MatchOption, [], List};
 ghost use Rattle.asset_names.specs.Anchoring.{is_absolute, walk, step, step_up, segments, normal_name, anchored_name, all_but_first, name_of, joined, IsBad, IsClean};
 
@@ -52,7 +52,7 @@ pub fn anchored_name(alloc: Global, layer: &str, asset: &str) -> Result<Text, Al
     name_of(alloc, absolute, folders.as_slice())
 }
 
-// The segments of a layer but the last.
+/// The segments of a layer but the last.
 fn folder(alloc: Global, absolute: bool, layer: &str) -> Result<Vec<Text>, AllocError>
     ensures { IfOk result (λ v. reverse v.items ≡ all_but_first (walk absolute [] (segments layer.now))) }
 {
@@ -61,7 +61,7 @@ fn folder(alloc: Global, absolute: bool, layer: &str) -> Result<Vec<Text>, Alloc
     Ok(folders)
 }
 
-// Goes from some folders along the segments of a text. The innermost folder is the last one.
+/// Goes from some folders along the segments of a text. The innermost folder is the last one.
 fn walk(
     absolute: bool,
     folders: Vec<Text>,
@@ -120,7 +120,7 @@ fn step_up(folders: &mut Vec<Text>, alloc: Global, absolute: bool) -> Result<(),
     Ok(())
 }
 
-// The name of some folders, of which the last is the innermost.
+/// The name of some folders, of which the last is the innermost.
 fn name_of(alloc: Global, absolute: bool, folders: &[Text]) -> Result<Text, AllocError>
     ensures { IfOk result (λ name. name ≡ name_of absolute (reverse folders.now)) }
 {

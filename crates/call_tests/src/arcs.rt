@@ -4,7 +4,7 @@ use sdf_paths::{Path, PathFault};
 use std::alloc::Global;
 use std::test::Fail;
 
-// Paths, each with what it is translated to: an empty text where it has no translation.
+/// Paths, each with what it is translated to: an empty text where it has no translation.
 const BY_REFERENCE: [(&str, &str); 8] = [
     ("/Model/geo.x", "/World/char/geo.x"),
     ("/Other", ""),
@@ -52,7 +52,7 @@ const BY_VARIANT: [(&str, &str); 5] = [
     ("/", "/"),
 ];
 
-// Classes, each with what it is lifted to.
+/// Classes, each with what it is lifted to.
 const LIFTED: [(&str, &str); 5] = [
     ("/Model/_c", "/World/char/_c"),
     ("/Model", "/World/char"),

@@ -1,7 +1,7 @@
 use dependency_table::Table;
 use std::test::Fail;
 
-// Whether these keys mark just these places, each once and in order.
+/// Whether these keys mark just these places, each once and in order.
 fn marks(table: &Table<u64, u64>, keys: &[u64], places: &[u64]) -> Result<bool, Fail> {
     Ok(table.marked_by(keys)?.as_slice() == places)
 }

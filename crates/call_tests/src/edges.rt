@@ -9,7 +9,7 @@ use std::fs;
 use std::io::{self, ErrorKind, Write};
 use std::test::Fail;
 
-// Two files of one name, and another.
+/// Two files of one name, and another.
 fn three_files(alloc: Global) -> Result<Vec<(String, Vec<u8>)>, Fail> {
     let mut files = Vec::new(alloc);
     for (name, text) in [("a", "first"), ("a", "second"), ("b", "")] {
@@ -170,7 +170,7 @@ fn a_source_over_a_reader_gives_what_it_reads(rt: HostRuntime) -> Result<(), Fai
     Ok(())
 }
 
-// A writer that is interrupted at first, then takes two bytes, then nothing, and then is broken.
+/// A writer that is interrupted at first, then takes two bytes, then nothing, and then is broken.
 #[derive(Drop)]
 struct Faltering {
     calls: u8,

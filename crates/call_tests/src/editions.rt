@@ -1,10 +1,10 @@
-// Each call with ample memory.
+//! Each call with ample memory.
 use plain_data::Items;
 use stage_publish::Edition;
 use std::alloc::Global;
 use std::test::Fail;
 
-// The fourth version, after two batches, of three items.
+/// The fourth version, after two batches, of three items.
 fn three_items(alloc: Global) -> Result<Edition<u64, u64>, Fail> {
     let mut items: Items<(u64, u64)> = Items::new(alloc);
     items.push((5, 50))?;

@@ -1,11 +1,11 @@
-// What faults of paths, numbers, times and offsets say of themselves.
+//! What faults of paths, numbers, times and offsets say of themselves.
 use sdf_paths::PathFault;
 use sdf_values::{NumberFault, OffsetRange, TimeRange};
 use std::alloc::Global;
 use std::fmt::Display;
 use std::test::Fail;
 
-// Whether a fault says this of itself.
+/// Whether a fault says this of itself.
 fn says<F: Display>(alloc: Global, fault: &F, text: &str) -> Result<bool, Fail> {
     let said = format!(in alloc; "{fault}")?;
     Ok(said.as_str() == text)

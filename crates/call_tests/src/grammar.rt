@@ -1,4 +1,4 @@
-// Each call once.
+//! Each call once.
 use std::test::Fail;
 use usda_grammar::{
     Keyword, Symbol, WordKind, accepted_is_text, examples_are_told, keyword_of, kind_of_word,

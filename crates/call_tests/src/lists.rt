@@ -1,9 +1,9 @@
-// Each call with ample memory.
+//! Each call with ample memory.
 use plain_data::{Items, Text, copy, same};
 use std::alloc::Global;
 use std::test::Fail;
 
-// The list of 3 and 5.
+/// The list of 3 and 5.
 fn two_items(alloc: Global) -> Result<Items<u64>, Fail> {
     let mut list = Items::new(alloc);
     list.push(3)?;

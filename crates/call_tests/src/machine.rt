@@ -1,10 +1,10 @@
-// Each call with ample memory.
+//! Each call with ample memory.
 use plain_data::Items;
 use std::test::Fail;
 use usda_grammar::{Keyword, Symbol, WordKind};
 use usda_machine::{is_done, push_front, step};
 
-// over "name" { }: each token with the symbol that takes it.
+/// `over "name" { }`: each token with the symbol that takes it.
 const PRIM: [(WordKind, Symbol); 4] = [
     (WordKind::Word(Keyword::Specifier), Symbol::RootStatements),
     (WordKind::Quoted, Symbol::PrimName),
@@ -12,7 +12,7 @@ const PRIM: [(WordKind, Symbol); 4] = [
     (WordKind::CloseBrace, Symbol::BodyEnd),
 ];
 
-// Whether the prim is taken token by token.
+/// Whether the prim is taken token by token.
 fn takes_prim(stack: &mut Items<Symbol>) -> Result<bool, Fail> {
     for (kind, symbol) in PRIM {
         if step(stack, kind)? != Some(symbol) {

@@ -1,10 +1,10 @@
-// Each call with ample memory.
+//! Each call with ample memory.
 use std::test::Fail;
 use usd_names::{
     goes_on, is_continue, is_identifier, is_name, is_number_word, is_start, is_variant_character,
 };
 
-// Characters, each with whether an identifier begins with it, goes on with it, and whether it stands in the name of a variant.
+/// Characters, each with whether an identifier begins with it, goes on with it, and whether it stands in the name of a variant.
 const CHARACTERS: [(char, bool, bool, bool); 8] = [
     ('_', true, true, true),
     ('é', true, true, true),
@@ -30,8 +30,8 @@ fn characters_begin_names_or_stand_in_them(rt: HostRuntime) -> Result<(), Fail> 
     Ok(())
 }
 
-// Texts, each with whether it is an identifier, a name, and a word that is a number: names are identifiers joined by colons, and
-// no numbers.
+/// Texts, each with whether it is an identifier, a name, and a word that is a number: names are identifiers joined by colons, and
+/// no numbers.
 const TEXTS: [(&str, bool, bool, bool); 25] = [
     ("", false, false, false),
     ("a", true, true, false),

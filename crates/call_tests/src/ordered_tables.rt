@@ -1,10 +1,10 @@
-// Each call with ample memory.
+//! Each call with ample memory.
 use plain_data::{copy, same};
 use spec_tables::OrderedTable;
 use std::alloc::Global;
 use std::test::Fail;
 
-// The table of 3, 5 and 9, each with ten times as much.
+/// The table of 3, 5 and 9, each with ten times as much.
 fn three_entries(alloc: Global) -> Result<OrderedTable<u64, u64>, Fail> {
     let mut table = OrderedTable::new(alloc);
     table.insert(5, 50)?;

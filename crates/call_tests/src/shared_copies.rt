@@ -1,10 +1,10 @@
-// Each call with ample memory, and copies that stay as they were.
+//! Each call with ample memory, and copies that stay as they were.
 use plain_data::{copy, same};
 use shared_tables::SharedTable;
 use std::alloc::Global;
 use std::test::Fail;
 
-// The table of 3, 5 and 9, where what 5 had at first was replaced.
+/// The table of 3, 5 and 9, where what 5 had at first was replaced.
 fn three_entries(alloc: Global) -> Result<SharedTable<u64, u64>, Fail> {
     let mut table = SharedTable::new(alloc);
     table.insert(5, 50)?;
@@ -14,7 +14,7 @@ fn three_entries(alloc: Global) -> Result<SharedTable<u64, u64>, Fail> {
     Ok(table)
 }
 
-// The table of 3 and 5.
+/// The table of 3 and 5.
 fn two_entries(alloc: Global) -> Result<SharedTable<u64, u64>, Fail> {
     let mut table = SharedTable::new(alloc);
     table.insert(3, 30)?;
@@ -87,7 +87,7 @@ fn a_removal_takes_one_entry_and_none_of_a_copy(rt: HostRuntime) -> Result<(), F
     Ok(())
 }
 
-// The table of the numbers below 1000, each with itself.
+/// The table of the numbers below 1000, each with itself.
 fn thousand_entries(alloc: Global) -> Result<SharedTable<u64, u64>, Fail> {
     let mut table = SharedTable::new(alloc);
     for key in 0..1000 {
@@ -96,7 +96,7 @@ fn thousand_entries(alloc: Global) -> Result<SharedTable<u64, u64>, Fail> {
     Ok(table)
 }
 
-// Replaces the upper half by zeros, and adds as many entries.
+/// Replaces the upper half by zeros, and adds as many entries.
 fn overwrite_upper_half(table: &mut SharedTable<u64, u64>) -> Result<(), Fail> {
     for key in 500..1500 {
         table.insert(key, 0)?;
@@ -104,7 +104,7 @@ fn overwrite_upper_half(table: &mut SharedTable<u64, u64>) -> Result<(), Fail> {
     Ok(())
 }
 
-// Whether each fourth number below 1000 had an entry, which is taken.
+/// Whether each fourth number below 1000 had an entry, which is taken.
 fn take_each_fourth(table: &mut SharedTable<u64, u64>) -> Result<bool, Fail> {
     for key in 0..250 {
         if !table.remove(&(4 * key))? {
@@ -114,7 +114,7 @@ fn take_each_fourth(table: &mut SharedTable<u64, u64>) -> Result<bool, Fail> {
     Ok(true)
 }
 
-// Whether the entries are the numbers below 1000 in order, each with itself.
+/// Whether the entries are the numbers below 1000 in order, each with itself.
 fn is_gone_over_in_order(table: &SharedTable<u64, u64>) -> bool {
     let mut expected: u64 = 0;
     for (key, value) in table.iter() {
@@ -126,7 +126,7 @@ fn is_gone_over_in_order(table: &SharedTable<u64, u64>) -> bool {
     expected == 1000
 }
 
-// Whether each number below 1000 has itself in the one table, and all but each fourth an entry in the other.
+/// Whether each number below 1000 has itself in the one table, and all but each fourth an entry in the other.
 fn are_found(before: &SharedTable<u64, u64>, after: &SharedTable<u64, u64>) -> bool {
     for key in 0..1000 {
         if before.get(&key) != Some(&key) || after.has(&key) != (key % 4 != 0) {
@@ -149,7 +149,7 @@ fn a_copy_of_many_entries_stays_as_it_was(rt: HostRuntime) -> Result<(), Fail> {
     Ok(())
 }
 
-// The table of the numbers below 257, as they are inserted: rising, falling and mixed.
+/// The table of the numbers below 257, as they are inserted: rising, falling and mixed.
 fn rising(alloc: Global) -> Result<SharedTable<u64, u64>, Fail> {
     let mut table = SharedTable::new(alloc);
     for key in 0..257 {
@@ -174,7 +174,7 @@ fn mixed(alloc: Global) -> Result<SharedTable<u64, u64>, Fail> {
     Ok(table)
 }
 
-// Whether each of the numbers below 257 had an entry, which is taken.
+/// Whether each of the numbers below 257 had an entry, which is taken.
 fn take_all(table: &mut SharedTable<u64, u64>) -> Result<bool, Fail> {
     for key in 0..257 {
         if !table.remove(&((key * 55) % 257))? {

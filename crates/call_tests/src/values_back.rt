@@ -1,4 +1,4 @@
-// Values through their texts and back.
+//! Values through their texts and back.
 use plain_data::{Items, Text};
 use sdf_values::{Decimal, DictItem, DictType, ElementType, Num, TypeName, Value};
 use std::test::Fail;

@@ -5,7 +5,7 @@ use std::alloc::{AllocError, Global};
 use std::test::Fail;
 use variant_select::{Choices, MAX_ROUNDS, Met, Opinions, decide};
 
-// What is met depends on the number of choices alone.
+/// What is met depends on the number of choices alone.
 #[derive(Drop)]
 struct Stages {
     stages: Items<Items<Met>>,
@@ -22,7 +22,7 @@ impl Opinions for Stages {
     }
 }
 
-// One met set: after how many choices, its name, and the opinion; `-` stands for none.
+/// One met set: after how many choices, its name, and the opinion; `-` stands for none.
 type Row = (usize, &'static str, &'static str);
 
 fn met(alloc: Global, set: &str, opinion: &str) -> Result<Met, AllocError> {
@@ -54,7 +54,7 @@ fn make_stages(alloc: Global, rows: &[Row]) -> Result<Stages, AllocError> {
     Ok(Stages { stages })
 }
 
-// The choices, as `set=variant` and a blank each.
+/// The choices, as `set=variant` and a blank each.
 fn shown(alloc: Global, rows: &[Row]) -> Result<String, AllocError> {
     let chosen = decide(alloc, &mut make_stages(alloc, rows)?)?;
     let mut out = String::new(alloc);
@@ -67,9 +67,9 @@ fn shown(alloc: Global, rows: &[Row]) -> Result<String, AllocError> {
     Ok(out)
 }
 
-// Opinions of rounds, and the choices that they make: none where none is met; the first opinion counts; a set without an
-// opinion stays open, and ends the rounds where no other is decided; a set is decided, or met, in a later round; a choice
-// stays; the empty variant is one; choices stand in the order in which their sets are met.
+/// Opinions of rounds, and the choices that they make: none where none is met; the first opinion counts; a set without an
+/// opinion stays open, and ends the rounds where no other is decided; a set is decided, or met, in a later round; a choice
+/// stays; the empty variant is one; choices stand in the order in which their sets are met.
 const ROUNDS: [(&[Row], &str); 9] = [
     (&[], ""),
     (&[(0, "s", "-"), (0, "s", "x"), (0, "s", "y")], "s=x "),

@@ -83,7 +83,7 @@ impl<C: Composer> Core<C> {
         }
     }
 
-    // Notes an accepted batch, after which the world is this one.
+    /// Notes an accepted batch, after which the world is this one.
     fn note_accepted(
         &mut self,
         seat: u64,
@@ -108,7 +108,7 @@ impl<C: Composer> Core<C> {
         Ok(EditReply::Accepted { number })
     }
 
-    // Notes a refused batch.
+    /// Notes a refused batch.
     fn note_refused(
         &mut self,
         seat: u64,
@@ -159,7 +159,7 @@ impl<C: Composer> Core<C> {
         Ok(edition)
     }
 
-    // Notes the publish of the stage of the world.
+    /// Notes the publish of the stage of the world.
     fn note_published(
         &mut self,
         seat: u64,

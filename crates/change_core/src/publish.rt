@@ -17,7 +17,13 @@ pub struct Items<C: Composer> {
 #[derive(Drop)]
 pub enum PublishReply<C: Composer> {
     /// The stage was published.
-    Published { edition: Items<C> },
-    /// This place has no current entry. A core that composes each place anew never answers it.
-    NotClean { place: C::Place },
+    Published {
+        /// The stage, with its version and its places.
+        edition: Items<C>,
+    },
+    /// A place has no current entry. A core that composes each place anew never answers this.
+    NotClean {
+        /// The place.
+        place: C::Place,
+    },
 }

@@ -1,4 +1,4 @@
-// The laws as the clause of a function that does nothing.
+//! The laws as the clause of a function that does nothing.
 ghost use Rattle.choice_rounds.specs.Laws.{ChoosesByRounds};
 
 /// Composition chooses the variants of a prim by the rounds of `variant_select`, whatever trees nodes have: each round decides what

@@ -1,4 +1,4 @@
-// Classes, and which arcs lead to one.
+//! Classes, and which arcs lead to one.
 ghost use Rattle.std.specs.Prelude.{◌≡◌};
 ghost use Rattle.composition.specs.Arcs.{place, same_kind};
 ghost use Rattle.composition.specs.Trees.{is_class_of};

@@ -1,4 +1,4 @@
-// The law as the clause of a function that does nothing.
+//! The law as the clause of a function that does nothing.
 ghost use Rattle.std.specs.Prelude.{◌≡◌};
 ghost use Rattle.composition.specs.Paths.{Path, limits};
 ghost use Rattle.composition.specs.Trees.{lifted_target};

@@ -1,4 +1,4 @@
-// Classes taken through an arc, from the node that it leads to up to the one that has it.
+//! Classes taken through an arc, from the node that it leads to up to the one that has it.
 ghost use Rattle.std.specs.Prelude.{◌≡◌, ◌-◌, ◌++◌, IfOk, OnOk, length, take, filter_map};
 ghost use Rattle.composition.specs.Paths.{limits, up};
 ghost use Rattle.composition.specs.Nodes.{author};
@@ -66,10 +66,12 @@ fn lifted_target(target: &Path, author: &Path, path: &Path) -> Result<Option<Pat
     if author.is_root() || author.is_property() {
         return Err(AllocError);
     }
+    // By the contract of `elements` both are paths by the rules, within the limits.
     let _author = author.elements();
     let _path = path.elements();
     match path.replace_prefix(target, author) {
         Ok(Some(moved)) => {
+            // So is what comes out.
             let _moved = moved.elements();
             Ok(Some(moved))
         }

@@ -1,4 +1,4 @@
-// The class list of a node.
+//! The class list of a node.
 ghost use Rattle.std.specs.Prelude.{◌≡◌, ◌++◌, IfOk, OnOk, Bool, false};
 ghost use Rattle.composition.specs.Paths.{limits};
 ghost use Rattle.composition.specs.Trees.{classes, own_classes, handed_up, classes_from, hands_up, same_class};

@@ -10,8 +10,13 @@ use std::alloc::AllocError;
 /// Why a batch was not applied.
 #[derive(Debug, Drop)]
 pub enum ApplyRefused<F> {
-    /// The operation of this number, counted from 1, was refused; those before it were not.
-    Op { op: u32, fault: F },
+    /// An operation was refused; those before it were not.
+    Op {
+        /// The number of the operation in the batch, counted from 1.
+        op: u32,
+        /// Why it was refused.
+        fault: F,
+    },
     /// There was no memory for the new world.
     NoMemory,
 }

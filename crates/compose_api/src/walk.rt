@@ -9,7 +9,7 @@ use crate::{Composer, StageRefused};
 use plain_data::Items;
 use std::alloc::{AllocError, Global};
 
-// The entry of the item of this number, where one is named.
+/// The entry of the item of this number, where one is named.
 fn entry_at<P, E>(items: &Items<(P, E)>, at: Option<usize>) -> Option<&E>
     ensures { option_copied result ≡ option_map second (option_and_then (slice_get items.now) at) }
 {
@@ -22,7 +22,8 @@ fn entry_at<P, E>(items: &Items<(P, E)>, at: Option<usize>) -> Option<&E>
     }
 }
 
-// Composes a place and all below it, while there are not more items than this. The parent's entry is that of the item of this number.
+/// Composes a place and all below it, while there are not more items than this. The parent's entry is that of the item of this
+/// number.
 fn push_walked<C: Composer>(
     composer: &C,
     world: &C::World,

@@ -26,7 +26,7 @@ use Rattle.sdf_values.specs.Scales.{Offset, composed}
 use Rattle.composition.specs.World.{World, Heading, headed, no_layer, refused, LayerHead, identity, in_range, same_offset, StackName, first_layer, stack_of, default_target}
 use Rattle.composition.specs.Stacks.{LayerStack, stack}
 
--- in the order of strength
+-- the place of a kind of arc in the order of strength, the strongest first
 abbrev pub place : ArcKind → ℕ
 place Inherits = 1
 place Variant = 2

@@ -4,7 +4,7 @@ use compose_api::StageRefused;
 use std::alloc::Global;
 use std::test::Fail;
 
-// The version, the number of batches and the number of places of a stage.
+/// The version, the number of batches and the number of places of a stage.
 fn told(reply: &PublishReply<Toy>) -> (u64, u64, usize) {
     match reply {
         PublishReply::Published { edition } => {
@@ -14,12 +14,12 @@ fn told(reply: &PublishReply<Toy>) -> (u64, u64, usize) {
     }
 }
 
-// Whether the stage that is published now has this version, after so many batches, and so many places.
+/// Whether the stage that is published now has this version, after so many batches, and so many places.
 fn publishes(core: &mut Core<Toy>, stage: (u64, u64, usize)) -> Result<bool, Fail> {
     Ok(told(&core.publish(0)?) == stage)
 }
 
-// Whether the batch with this world is accepted as the one of this number.
+/// Whether the batch with this world is accepted as the one of this number.
 fn accepts(core: &mut Core<Toy>, world: u64, number: u64) -> Result<bool, Fail> {
     match core.edit(0, Some(world))? {
         EditReply::Accepted { number: given } => Ok(given == number),
@@ -27,7 +27,7 @@ fn accepts(core: &mut Core<Toy>, world: u64, number: u64) -> Result<bool, Fail> 
     }
 }
 
-// Whether the batch with no world is refused as it has to be.
+/// Whether the batch with no world is refused as it has to be.
 fn refuses(core: &mut Core<Toy>) -> Result<bool, Fail> {
     Ok(matches!(core.edit(0, None)?, EditReply::Refused { op: 1, fault: 7 }))
 }
@@ -47,12 +47,12 @@ fn a_batch_counts_from_one_and_a_refused_one_changes_nothing(rt: HostRuntime) ->
     Ok(())
 }
 
-// Whether the history has no room for a batch.
+/// Whether the history has no room for a batch.
 fn is_full(core: &mut Core<Toy>, world: u64) -> Result<bool, Fail> {
     Ok(matches!(core.edit(0, Some(world))?, EditReply::JournalFull))
 }
 
-// Whether the history has room for so many batches, which are made.
+/// Whether the history has room for so many batches, which are made.
 fn has_room_for(core: &mut Core<Toy>, batches: u64) -> Result<bool, Fail> {
     for world in 0..batches {
         if is_full(core, world)? {
@@ -73,7 +73,7 @@ fn the_history_takes_65536_edit_calls(rt: HostRuntime) -> Result<(), Fail> {
     Ok(())
 }
 
-// Whether the fault says this of itself.
+/// Whether the fault says this of itself.
 fn says(alloc: Global, fault: StageRefused, text: &str) -> Result<bool, Fail> {
     let said = format!(in alloc; "{fault}")?;
     Ok(said.as_str() == text)

@@ -1,4 +1,4 @@
-// Keys and places, copied.
+//! Keys and places, copied.
 ghost use Rattle.std.specs.Prelude.{◌≡◌, ◌||◌, IfOk};
 ghost use Rattle.std.specs.List.Sorted.{IsStrictlySortedBy};
 ghost use Rattle.std.specs.BTreeSet.{contains, IsOrdered};
@@ -34,7 +34,7 @@ pub fn all_keys<K: ExactOrd + ExactClone + Drop>(
     Ok(set)
 }
 
-// Adds places to a set.
+/// Adds places to a set.
 fn add_places<P: ExactOrd + ExactClone + Drop>(
     found: &mut BTreeSet<P>,
     places: &BTreeSet<P>,
@@ -49,7 +49,7 @@ fn add_places<P: ExactOrd + ExactClone + Drop>(
     Ok(())
 }
 
-// The places that are noted at these keys, as a set.
+/// The places that are noted at these keys, as a set.
 fn places_of<P: ExactOrd + ExactClone + Drop, K: ExactOrd>(
     alloc: Global,
     readers: &BTreeMap<K, BTreeSet<P>>,
@@ -66,7 +66,7 @@ fn places_of<P: ExactOrd + ExactClone + Drop, K: ExactOrd>(
     Ok(found)
 }
 
-// The members of a set, in order.
+/// The members of a set, in order.
 fn into_list<P: ExactOrd + Drop>(alloc: Global, set: BTreeSet<P>) -> Result<Vec<P>, AllocError>
     ensures order { IsOrdered P.cmp set }
     ensures list { IfOk result (λ list. list.items ≡ set.keys) }

@@ -1,4 +1,4 @@
-// The places noted at each key.
+//! The places noted at each key.
 ghost use Rattle.std.specs.Prelude.{◌≡◌, ◌&&◌, ◌||◌, not, IfOk, OnOk, OnErr, true, false};
 ghost use Rattle.std.specs.BTreeMap.{is_at};
 ghost use Rattle.std.specs.BTreeSet.{contains};
@@ -8,7 +8,7 @@ use plain_data::{ExactClone, ExactOrd, Items, copy};
 use std::alloc::{AllocError, Global};
 use std::collections::{BTreeMap, BTreeSet};
 
-// Whether the place is noted at the key.
+/// Whether the place is noted at the key.
 fn is_linked<P: Ord, K: Ord>(readers: &BTreeMap<K, BTreeSet<P>>, key: &K, place: &P) -> bool
     ensures { result ≡ is_noted P.cmp K.cmp readers.now key.now place.now }
 {
@@ -18,7 +18,7 @@ fn is_linked<P: Ord, K: Ord>(readers: &BTreeMap<K, BTreeSet<P>>, key: &K, place:
     }
 }
 
-// Notes the place at the key.
+/// Notes the place at the key.
 fn link<P: ExactOrd + ExactClone + Drop, K: ExactOrd + ExactClone + Drop>(
     readers: &mut BTreeMap<K, BTreeSet<P>>,
     alloc: Global,
@@ -39,7 +39,7 @@ fn link<P: ExactOrd + ExactClone + Drop, K: ExactOrd + ExactClone + Drop>(
     Ok(())
 }
 
-// Takes the place away from the key.
+/// Takes the place away from the key.
 fn unlink<P: ExactOrd + Drop, K: ExactOrd + Drop>(
     readers: &mut BTreeMap<K, BTreeSet<P>>,
     key: &K,

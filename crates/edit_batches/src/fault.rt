@@ -77,9 +77,14 @@ impl<T: Drop> From<AllocFailed<T>> for OpRefused {
 /// Why a batch was not applied.
 #[derive(Clone, Copy, Debug, PartialEq, Eq, Error)]
 pub enum EditRefused {
-    /// The first operation that is refused, counted from 1, and why.
+    /// An operation is refused; those before it are not.
     #[error("operation {op}: {fault:?}")]
-    Op { op: u32, fault: EditFault },
+    Op {
+        /// The number of the operation in the batch, counted from 1.
+        op: u32,
+        /// Why it is refused.
+        fault: EditFault,
+    },
     /// Memory ran out.
     #[error("out of memory")]
     NoMemory,

@@ -1,4 +1,4 @@
-// What the definitions of edits give, on closed terms: each record of examples as the clause of a function that does nothing.
+//! What the definitions of edits give, on closed terms: each record of examples as the clause of a function that does nothing.
 ghost use Rattle.edit_examples.specs.Batches.{AreTold as BatchesAreTold};
 ghost use Rattle.edit_examples.specs.Fields.{AreTold as FieldsAreTold};
 ghost use Rattle.edit_examples.specs.Metadata.{AreTold as MetadataAreTold};

@@ -41,7 +41,7 @@ abbrev pub if_any : List (ListOp Text) → Option (List Text)
 if_any [] = None
 if_any (op ∷ ops) = Some (folded_texts (op ∷ ops))
 
--- ---- the definitions of composition by name, so that they do not unfold in goals
+-- ---- the definitions of composition under names of their own
 
 -- the names of children, in the order of a prim
 unfoldable pub children_on : List Said → List Text

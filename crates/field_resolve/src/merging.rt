@@ -135,7 +135,7 @@ fn put_below(alloc: Global, meta: &mut Meta, key: &Text, value: &Value) -> Resul
     Ok(())
 }
 
-/// Merges a table of metadata below the stronger ones.
+/// Merges a table of metadata below the stronger ones. After want of memory the table is of no use.
 pub fn merge_into(alloc: Global, meta: &mut Meta, weaker: &Meta) -> Result<(), AllocError>
     ensures { OnOk result (meta.new ≡ fold with_weaker meta.old weaker.now) }
 {

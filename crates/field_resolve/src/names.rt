@@ -167,7 +167,8 @@ pub fn property_names_of(alloc: Global, said: &[SaidAt]) -> Result<Items<Text>, 
     texts_once(alloc, folded_texts(alloc, edits)?)
 }
 
-/// The names of the children of a prim of these sites.
+/// The names of the children of a prim of these sites, each once, in their order. Those of an inactive prim and those too long for
+/// a path are among them; the caller leaves them out.
 ///
 /// # Errors
 ///

@@ -1,4 +1,4 @@
-// What an owner says is proper, each law as the clause of a function that does nothing.
+//! What an owner says is proper, each law as the clause of a function that does nothing.
 ghost use Rattle.std.specs.Prelude.{Bool};
 ghost use Rattle.usda_grammar.specs.declared.kinds.Keyword.{Keyword};
 ghost use Rattle.fields_read.specs.Laws.{OwnersBeginSound, ReadListsAreProper, ReadMetadataIsProper, ReadKeysAreProper, SelectionsAndOrdersAreRead, SublayersAreRead, SaidIsProper};

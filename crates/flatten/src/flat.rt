@@ -1,4 +1,4 @@
-// A stage as a layer, and its text.
+//! A stage as a layer, and its text.
 ghost use Rattle.std.specs.Prelude.{◌≡◌, IfOk, OnOk, [], slice_get};
 ghost use Rattle.std.specs.Option.{option_copied};
 ghost use Rattle.sdf_paths.specs.Order.{path_cmp};

@@ -1,4 +1,4 @@
-// What the stage has at `/`, as the head of a layer.
+//! What the stage has at `/`, as the head of a layer.
 ghost use Rattle.std.specs.Prelude.{◌≡◌, IfOk};
 ghost use Rattle.std.specs.Option.{option_copied};
 ghost use Rattle.flatten.specs.Flattened.{text_of, default_in, beside_default, flat_head, head_of};

@@ -1,4 +1,4 @@
-// A composed prim as a spec.
+//! A composed prim as a spec.
 ghost use Rattle.std.specs.Prelude.{◌≡◌, IfOk, OnOk, []};
 ghost use Rattle.flatten.specs.Flattened.{explicit_list, flat_property, with_properties, flat_body, flat_spec};
 

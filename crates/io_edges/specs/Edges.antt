@@ -36,7 +36,7 @@ Asks (Some before) after names = after ≡ Some (before ++ names)
 abbrev pub AsksAtMost : Option (List (List ℕ)) → Option (List (List ℕ)) → List ℕ → Type 0
 AsksAtMost before after name = Asks before after [] ⊎ Asks before after (name ∷ [])
 
--- a fetch asks for its name and for no other; where memory ran out for it, the name may be missing
+-- a fetch asks for its name and for no other; a fetch that failed, or for which memory ran out, may leave the name out
 abbrev pub FetchAsks : Fetched → Option (List (List ℕ)) → Option (List (List ℕ)) → List ℕ → Type 0
 FetchAsks Found before after name = Asks before after (name ∷ [])
 FetchAsks Absent before after name = Asks before after (name ∷ [])

@@ -13,7 +13,7 @@ use std::io::{self, ErrorKind, Read, Write};
 use std::marker::Model;
 use std::rt::Files;
 
-// How many bytes of a file are read at once.
+/// How many bytes of a file are read at once.
 const PIECE: usize = 65_536;
 
 /// The files of the machine, a relative name being taken from the working folder. Contracts see the count of faults.
@@ -40,7 +40,7 @@ impl<R: Files + Drop> FolderFiles<R> {
     }
 }
 
-// What a file that could not be opened is: a missing one is no fault.
+/// What a file that could not be opened is: a missing one is no fault.
 fn fault_of(e: &io::Error) -> Fetched
     ensures fault { result ≢ Fetched.Found }
     ensures absent { result ≡ Fetched.Absent ↔ error_kind e.now ≡ ErrorKind.NotFound }
@@ -53,7 +53,7 @@ fn fault_of(e: &io::Error) -> Fetched
     }
 }
 
-// Adds what a reader gives, at most `MAX_FETCH`.
+/// Adds what a reader gives, at most `MAX_FETCH`.
 fn append_all<T: Read>(reader: &mut T, into: &mut Vec<u8>) -> Fetched
     ensures leaves { FetchLeaves result into.old.items into.new.items }
     ensures present { result ≢ Fetched.Absent }

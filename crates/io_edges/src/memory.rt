@@ -12,7 +12,7 @@ use crate::{Fetched, Gate, GatePoint, Got, LayerFiles, MAX_FETCH, Put, Sink, Sou
 use std::alloc::{AllocError, Global};
 use std::marker::Model;
 
-// Adds a file's first bytes.
+/// Adds a file's first bytes.
 fn append_file(file: &[u8], into: &mut Vec<u8>) -> Result<(), AllocError>
     ensures ok { OnOk result (into.new.items ≡ into.old.items ++ take most file.now) }
     ensures err { OnErr result (into.new.items ≡ into.old.items) }
@@ -21,7 +21,7 @@ fn append_file(file: &[u8], into: &mut Vec<u8>) -> Result<(), AllocError>
     into.extend_from_slice(&file[..len])
 }
 
-// The first file of this name.
+/// The first file of this name.
 fn find_file<'f>(files: &'f [(String, Vec<u8>)], name: &str) -> Option<&'f [u8]>
     ensures { option_copied result ≡ file_named (map entry_of files.now) name.now }
 {
@@ -83,7 +83,7 @@ impl LayerFiles for SureFiles {
     }
 }
 
-// Adds a name to those that were asked for.
+/// Adds a name to those that were asked for.
 fn note(asked: &mut Vec<String>, name: &str) -> Result<(), AllocError>
     ensures ok { OnOk result (map string_bytes asked.new.items ≡ map string_bytes asked.old.items ++ name.now ∷ []) }
     ensures err { OnErr result (asked.new.items ≡ asked.old.items) }
@@ -188,7 +188,7 @@ impl SureSource {
     }
 }
 
-// The bytes from a place on.
+/// The bytes from a place on.
 fn rest_of(bytes: &[u8], at: usize) -> &[u8]
     requires { at ≤ length bytes.now }
     ensures { result.now ≡ drop at bytes.now }
@@ -196,7 +196,7 @@ fn rest_of(bytes: &[u8], at: usize) -> &[u8]
     &bytes[at..]
 }
 
-// Puts the first bytes of a text at the front of the buffer, and says how many.
+/// Puts the first bytes of a text at the front of the buffer, and says how many.
 fn give(text: &[u8], step: usize, into: &mut [u8]) -> usize
     ensures within { result ≤ length text.now }
     ensures room { result ≤ length into.new }
@@ -320,7 +320,7 @@ impl SureSink {
     }
 }
 
-// Keeps the first bytes of a piece.
+/// Keeps the first bytes of a piece.
 fn keep(bytes: &mut Vec<u8>, step: usize, piece: &[u8]) -> Put
     requires some { 0 < length piece.now }
     requires moves { 0 < step }

@@ -1,4 +1,4 @@
-// Operations one after the other.
+//! Operations one after the other.
 ghost use Rattle.std.specs.Prelude.{◌≡◌, Ok, Err, IfOk, IfErr};
 ghost use Rattle.layer_apply.specs.Edits.{edited, edit};
 ghost use Rattle.layer_apply.specs.Answers.{DoesOne, DoesAll, IfOp};

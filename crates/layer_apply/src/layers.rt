@@ -1,4 +1,4 @@
-// Operations on one layer that is present.
+//! Operations on one layer that is present.
 ghost use Rattle.std.specs.Prelude.{◌≡◌, Ok};
 ghost use Rattle.std.specs.Option.{option_copied};
 ghost use Rattle.layer_edit.specs.Outcomes.{Does};

@@ -1,4 +1,4 @@
-// Operations on whole layers and on load rules.
+//! Operations on whole layers and on load rules.
 ghost use Rattle.std.specs.Prelude.{◌≡◌, Some, true, OnOk};
 ghost use Rattle.std.specs.Option.{option_copied};
 ghost use Rattle.layer_set.specs.Worlds.{with_held};

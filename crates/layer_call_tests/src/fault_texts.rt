@@ -1,9 +1,9 @@
-// What the fault of a layer's table says of itself.
+//! What the fault of a layer's table says of itself.
 use sdf_specs::PutRefused;
 use std::alloc::Global;
 use std::test::Fail;
 
-// Whether the fault says this of itself.
+/// Whether the fault says this of itself.
 fn says(alloc: Global, fault: PutRefused, text: &str) -> Result<bool, Fail> {
     let said = format!(in alloc; "{fault}")?;
     Ok(said.as_str() == text)

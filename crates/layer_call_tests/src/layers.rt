@@ -1,5 +1,5 @@
-// Each call with ample memory. What is made stands in a function of its own and is looked at by reference in another one, so that each way out of the
-// first lets go of it once.
+//! Each call with ample memory. What is made stands in a function of its own and is looked at by reference in another one, so that
+//! each way out of the first lets go of it once.
 use plain_data::{Text, copy, same};
 use sdf_paths::{Path, PathFault};
 use sdf_specs::{Head, Layer, PutRefused, Spec, Specifier};
@@ -15,7 +15,7 @@ fn path(alloc: Global, text: &str) -> Result<Path, Fail> {
     }
 }
 
-// Puts a class at a path, and answers whether it was put; the only other answer is that its owner is missing.
+/// Puts a class at a path, and answers whether it was put; the only other answer is that its owner is missing.
 fn put(layer: &mut Layer, path: &Path, alloc: Global) -> Result<bool, Fail> {
     if path.is_property() || path.is_root() {
         return Err(Fail::from("no prim"));
@@ -38,7 +38,7 @@ fn a_new_layer_has_no_spec(rt: HostRuntime) -> Result<(), Fail> {
     Ok(())
 }
 
-// Whether a class that is put is found.
+/// Whether a class that is put is found.
 fn is_found(alloc: Global, layer: &mut Layer, place: &Path) -> Result<bool, Fail> {
     let is_put = put(layer, place, alloc)?;
     match layer.get(place) {
@@ -59,7 +59,7 @@ fn a_spec_that_is_put_is_found(rt: HostRuntime) -> Result<(), Fail> {
     Ok(())
 }
 
-// Whether nothing is put at a path.
+/// Whether nothing is put at a path.
 fn is_left_empty(alloc: Global, layer: &mut Layer, place: &Path) -> Result<bool, Fail> {
     Ok(!put(layer, place, alloc)? && layer.is_empty())
 }
@@ -85,7 +85,7 @@ fn put_at(alloc: Global, layer: &mut Layer, text: &str) -> Result<(), Fail> {
     }
 }
 
-// A layer of `/A`, `/A/B` and `/AB`.
+/// A layer of `/A`, `/A/B` and `/AB`.
 fn three(alloc: Global) -> Result<Layer, Fail> {
     let mut layer = Layer::new(alloc);
     put_three(alloc, &mut layer)?;
@@ -98,7 +98,7 @@ fn put_three(alloc: Global, layer: &mut Layer) -> Result<(), Fail> {
     put_at(alloc, layer, "/A/B")
 }
 
-// Whether the tree at `place` is removed, once, and the spec at `other` is left.
+/// Whether the tree at `place` is removed, once, and the spec at `other` is left.
 fn is_removed(layer: &mut Layer, place: &Path, other: &Path) -> Result<bool, Fail> {
     Ok(
         layer.remove_tree(place)?
@@ -125,7 +125,7 @@ fn a_tree_is_removed(rt: HostRuntime) -> Result<(), Fail> {
     Ok(())
 }
 
-// A head that names a default prim.
+/// A head that names a default prim.
 fn naming(alloc: Global) -> Result<Head, Fail> {
     let name = Text::of(alloc, "A")?;
     let mut head = Head::blank(alloc);

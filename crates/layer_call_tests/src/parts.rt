@@ -1,4 +1,4 @@
-// Each call with ample memory.
+//! Each call with ample memory.
 use plain_data::{Items, Text, copy, same};
 use sdf_paths::Path;
 use sdf_values::LayerOffset;
@@ -18,7 +18,7 @@ fn sublayer(alloc: Global) -> Result<SubLayer, Fail> {
     })
 }
 
-// A head with one sublayer.
+/// A head with one sublayer.
 fn layered_head(alloc: Global) -> Result<Head, Fail> {
     let low = sublayer(alloc)?;
     let mut head = Head::blank(alloc);
@@ -42,7 +42,7 @@ fn a_copied_head_is_its_original(rt: HostRuntime) -> Result<(), Fail> {
     Ok(())
 }
 
-// A reference to the root.
+/// A reference to the root.
 fn references(alloc: Global) -> Result<Items<RefItem>, Fail> {
     let mut references = Items::new(alloc);
     references.push(RefItem {
@@ -56,7 +56,7 @@ fn references(alloc: Global) -> Result<Items<RefItem>, Fail> {
     Ok(references)
 }
 
-// A variant set of one variant.
+/// A variant set of one variant.
 fn sizes(alloc: Global) -> Result<VariantSet, Fail> {
     let mut variants = Items::new(alloc);
     variants.push(Text::of(alloc, "big")?)?;
@@ -66,14 +66,14 @@ fn sizes(alloc: Global) -> Result<VariantSet, Fail> {
     })
 }
 
-// Gives a prim a reference and a variant set.
+/// Gives a prim a reference and a variant set.
 fn refer(alloc: Global, arcs: &mut ArcPart, body: &mut BodyPart) -> Result<(), Fail> {
     arcs.references.explicit = Some(references(alloc)?);
     body.variant_names.push(sizes(alloc)?)?;
     Ok(())
 }
 
-// Whether a prim is its copy, until it has no reference any more.
+/// Whether a prim is its copy, until it has no reference any more.
 fn is_until_changed(spec: &mut Spec, copied: &Spec) -> bool {
     let was_same = same(spec, copied);
     spec.arcs.references.explicit = None;
@@ -101,7 +101,7 @@ fn a_copied_spec_is_its_original(rt: HostRuntime) -> Result<(), Fail> {
     Ok(())
 }
 
-// A refusal in the second line.
+/// A refusal in the second line.
 fn refusal_at(column: u64) -> Refusal {
     Refusal {
         kind: RefusalKind::Syntax,

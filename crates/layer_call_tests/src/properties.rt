@@ -1,4 +1,4 @@
-// Each call with ample memory.
+//! Each call with ample memory.
 use list_ops::ListOp;
 use plain_data::{Text, copy, same};
 use sdf_values::{TypeName, Value};
@@ -13,7 +13,7 @@ fn bool_type() -> Result<TypeName, Fail> {
     }
 }
 
-// An attribute of one truth value.
+/// An attribute of one truth value.
 fn truth(alloc: Global, name: Text, ty: TypeName, custom: bool) -> Property {
     Property::Attr {
         name,
@@ -33,7 +33,7 @@ fn attribute(alloc: Global, name: &str, custom: bool) -> Result<Property, Fail> 
     Ok(truth(alloc, name, ty, custom))
 }
 
-// Whether an attribute is put where none of its name stood.
+/// Whether an attribute is put where none of its name stood.
 fn is_new(alloc: Global, properties: &mut Properties, name: &str) -> Result<bool, Fail> {
     let before = properties.insert(attribute(alloc, name, false)?)?;
     let is_new = before.is_none();
@@ -60,7 +60,7 @@ fn new_names_are_put(rt: HostRuntime) -> Result<(), Fail> {
     Ok(())
 }
 
-// The attributes `size` and `kind`.
+/// The attributes `size` and `kind`.
 fn two(alloc: Global) -> Result<Properties, Fail> {
     let mut properties = Properties::new(alloc);
     let _are_new = are_new(alloc, &mut properties)?;
@@ -90,7 +90,7 @@ fn is_first(alloc: Global, was: &Option<Property>) -> Result<bool, Fail> {
     Ok(is_first)
 }
 
-// Makes `size` a custom attribute, and answers whether it was none.
+/// Makes `size` a custom attribute, and answers whether it was none.
 fn is_customized(alloc: Global, properties: &mut Properties) -> Result<bool, Fail> {
     let was = properties.insert(attribute(alloc, "size", true)?)?;
     let answer = is_first(alloc, &was);
@@ -122,7 +122,7 @@ fn a_name_stands_once(rt: HostRuntime) -> Result<(), Fail> {
     Ok(())
 }
 
-// The attributes `size`, which is a custom one, and `kind`.
+/// The attributes `size`, which is a custom one, and `kind`.
 fn customized(alloc: Global) -> Result<Properties, Fail> {
     let mut properties = two(alloc)?;
     let _is_customized = is_customized(alloc, &mut properties)?;
@@ -176,7 +176,7 @@ fn names_are_found(rt: HostRuntime) -> Result<(), Fail> {
     Ok(())
 }
 
-// Whether this is the attribute of a name.
+/// Whether this is the attribute of a name.
 fn is_attribute(
     alloc: Global,
     found: Option<&Property>,

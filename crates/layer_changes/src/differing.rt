@@ -1,4 +1,4 @@
-// Those of some keys at which two worlds differ.
+//! Those of some keys at which two worlds differ.
 ghost use Rattle.std.specs.Prelude.{◌≡◌, ◌++◌, ◌∷◌, [], if◌then◌else◌, IfOk, OnOk};
 ghost use Rattle.layer_changes.specs.Changed.{IsChangedKey};
 ghost use Rattle.layer_changes.specs.Covering.{Keeps};

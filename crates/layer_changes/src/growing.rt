@@ -1,4 +1,4 @@
-// Sets that grow item by item.
+//! Sets that grow item by item.
 ghost use Rattle.std.specs.Prelude.{◌≡◌, OnOk, IfOk};
 ghost use Rattle.std.specs.List.{Contains};
 ghost use Rattle.std.specs.BTreeSet.{IsOrdered};

@@ -1,4 +1,4 @@
-// Keys that a batch names: those at which the two worlds may differ.
+//! Keys that a batch names: those at which the two worlds may differ.
 ghost use Rattle.std.specs.Prelude.{OnOk, IfOk};
 ghost use Rattle.std.specs.List.{Contains, All};
 ghost use Rattle.std.specs.List.Sorted.{IsStrictlySortedBy};

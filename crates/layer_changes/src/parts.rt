@@ -1,4 +1,4 @@
-// The parts of a world that an operation may change.
+//! The parts of a world that an operation may change.
 ghost use Rattle.std.specs.Prelude.{◌≡◌, ◌∷◌, [], IfOk};
 ghost use Rattle.layer_edit.specs.Places.{above};
 ghost use Rattle.layer_changes.specs.Parts.{of_layer, of_new, of_owner, of_tree, of_head, of_arcs, of_body, of_rule, of_meta, of_list, parts_of};

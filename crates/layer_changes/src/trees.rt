@@ -1,4 +1,4 @@
-// Keys at a path of a layer and below it.
+//! Keys at a path of a layer and below it.
 ghost use Rattle.std.specs.Prelude.{◌≡◌, IfOk, OnOk};
 ghost use Rattle.std.specs.List.{Contains, All};
 ghost use Rattle.std.specs.Map.{keys_of};

@@ -76,8 +76,8 @@ paths_set field edit items path layer =
     passing ((not (is_spec_path path), WrongPath) ∷ (not (has_spec path layer), NoSpec) ∷ (list_any is_bad_target items, BadArc) ∷ [])
     (Ok (changed_spec path (with_paths field edit items) layer))
 
--- references or payloads are given to a prim or a variant that is there; all offsets are judged before targets and assets
--- for anchoring, the name of the layer
+-- References or payloads are given to a prim or a variant that is there. The offsets of all items are judged first, and then their
+-- targets and assets; an asset has to name a layer from the folder of this one, whose name is given.
 unfoldable pub references_set : List ℕ → ReferenceField → ListEdit → List WrittenReference → List Element → LayerTable → Made LayerTable
 references_set name field edit written path layer =
     passing ((not (is_spec_path path), WrongPath) ∷ (not (has_spec path layer), NoSpec) ∷ [])

@@ -1,11 +1,11 @@
 -- What stands at paths of a layer, and layers with something else there.
-use Rattle.std.specs.Prelude.{◌≡◌, ℕ, ◌-◌, Bool, true, false, not, ◌&&◌, List, [], ◌∷◌, length, take, slice_get, Option, Some, None, is_some}
+use Rattle.std.specs.Prelude.{ℕ, ◌-◌, Bool, true, false, not, ◌&&◌, List, [], ◌∷◌, length, take, slice_get, Option, Some, None, is_some}
 use Rattle.sdf_paths.specs.Paths.{is_empty, is_plain, is_property}
 use Rattle.sdf_paths.specs.declared.element.Element.{Element}
 use Rattle.sdf_paths.specs.declared.element.Element.TheVariants.{Prim, Property as Named, Selection}
 use Rattle.sdf_specs.specs.Layers.{LayerTable, spec_at, with_spec_for}
 use Rattle.spec_parts.specs.declared.spec.Spec.{Spec}
-use Rattle.spec_properties.specs.Properties.{property_at, property_name, with_property}
+use Rattle.spec_properties.specs.Properties.{property_at, with_property}
 use Rattle.spec_properties.specs.declared.property.Property.{Property}
 
 -- ---- kinds of paths
@@ -40,16 +40,19 @@ ends_in_spec (Some (Prim name)) = true
 ends_in_spec (Some (Selection set variant)) = true
 ends_in_spec last = false
 
--- the path of a prim, of a variant, of one of the two, of a property
+-- the path of a prim
 abbrev pub is_prim_path : List Element → Bool
 is_prim_path path = ends_in_prim (last_element path)
 
+-- the path of a variant
 abbrev pub is_variant_path : List Element → Bool
 is_variant_path path = ends_in_variant (last_element path)
 
+-- the path of a prim or a variant
 abbrev pub is_spec_path : List Element → Bool
 is_spec_path path = ends_in_spec (last_element path)
 
+-- the path of a property
 abbrev pub is_property_path : List Element → Bool
 is_property_path path = ends_in_property (last_element path)
 
@@ -101,7 +104,3 @@ with_changed_property (Some p) path change layer = changed_spec (above path) (λ
 -- the layer with the property at a path changed, where there is one
 unfoldable pub changed_property : List Element → (Property → Property) → LayerTable → LayerTable
 changed_property path change layer = with_changed_property (property_in path layer) path change layer
-
--- a change of properties that leaves their names
-abbrev pub KeepsName : (Property → Property) → Type 0
-KeepsName change = (p : Property) → property_name (change p) ≡ property_name p

@@ -71,12 +71,13 @@ renamed (e ∷ owner) change layer = changed_spec (e ∷ owner) (with_children c
 abbrev pub with_variants : List Element → (List VariantSet → List VariantSet) → LayerTable → LayerTable
 with_variants owner change layer = changed_spec owner (with_sets change) layer
 
--- the owner names what is added below it, last, and names no more what is removed
+-- the owner names what is added below it, behind its other names; a property is not named
 abbrev pub listed : Option Element → List Element → LayerTable → LayerTable
 listed (Some (Prim name)) owner layer = renamed owner (with_name name) layer
 listed (Some (Selection set variant)) owner layer = with_variants owner (with_variant set variant) layer
 listed last owner layer = layer
 
+-- the owner no longer names what is removed below it
 abbrev pub unlisted : Option Element → List Element → LayerTable → LayerTable
 unlisted (Some (Prim name)) owner layer = renamed owner (without_name name) layer
 unlisted (Some (Selection set variant)) owner layer = with_variants owner (without_variant set variant) layer

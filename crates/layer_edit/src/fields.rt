@@ -1,4 +1,4 @@
-// Lists of fields, selections, orders and sublayers.
+//! Lists of fields, selections, orders and sublayers.
 ghost use Rattle.std.specs.Prelude.{◌≡◌, OnOk, OnErr};
 ghost use Rattle.std.specs.Option.{option_copied};
 ghost use Rattle.layer_edit.specs.Outcomes.{Does};

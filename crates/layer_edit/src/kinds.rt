@@ -1,4 +1,4 @@
-// Kinds of paths.
+//! Kinds of paths.
 ghost use Rattle.std.specs.Prelude.{◌≡◌};
 ghost use Rattle.sdf_paths.specs.Paths.{IsPath};
 ghost use Rattle.layer_edit.specs.Places.{is_prim_path, is_variant_path, is_spec_path, is_property_path, is_stage_prim};

@@ -1,4 +1,4 @@
-// Metadata of layers, prims, variants and properties.
+//! Metadata of layers, prims, variants and properties.
 ghost use Rattle.std.specs.Prelude.{◌≡◌, OnOk, IfOk};
 ghost use Rattle.layer_edit.specs.Outcomes.{Does};
 ghost use Rattle.layer_edit.specs.Metadata.{text_of, with_head_entry, with_meta, meta_set, meta_cleared};

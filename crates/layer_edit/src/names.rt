@@ -1,4 +1,4 @@
-// Names of children and of variants, and their changes.
+//! Names of children and of variants, and their changes.
 ghost use Rattle.std.specs.Prelude.{◌≡◌, ◌++◌, [], ◌∷◌, map, IfOk, OnOk};
 ghost use Rattle.std.specs.List.{list_any, flat_map};
 ghost use Rattle.layer_edit.specs.Prims.{with_name, without_name, is_of, grown, new_set, with_variant, if_any, shrunk, without_variant};
@@ -123,7 +123,7 @@ fn with_variant(
     }
 }
 
-// Adds a set, unless it has no variant.
+/// Adds a set, unless it has no variant.
 fn push_if_any(all: &mut Items<VariantSet>, names: VariantSet) -> Result<(), AllocError>
     ensures { OnOk result (all.new ≡ all.old ++ if_any names names.variants) }
 {

@@ -1,4 +1,4 @@
-// Offsets, references and sublayers as they are written.
+//! Offsets, references and sublayers as they are written.
 ghost use Rattle.std.specs.Prelude.{◌≡◌, IfOk};
 ghost use Rattle.std.specs.List.{list_any};
 ghost use Rattle.usda_lists.specs.Offsets.{whole_number};

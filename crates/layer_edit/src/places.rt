@@ -1,4 +1,4 @@
-// What stands at paths of a layer, and putting something else there.
+//! What stands at paths of a layer, and putting something else there.
 ghost use Rattle.std.specs.Prelude.{◌≡◌, Some, None, is_some, IfOk, OnOk};
 ghost use Rattle.std.specs.Option.{option_copied};
 ghost use Rattle.sdf_specs.specs.Layers.{spec_at, with_spec_for, has_parent};

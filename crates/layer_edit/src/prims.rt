@@ -1,4 +1,4 @@
-// Adding and removing prims, variants and properties.
+//! Adding and removing prims, variants and properties.
 ghost use Rattle.std.specs.Prelude.{◌≡◌, ◌≢◌, [], Ok, true, false, IfOk, OnOk};
 ghost use Rattle.sdf_paths.specs.Paths.{is_property};
 ghost use Rattle.sdf_specs.specs.Layers.{has_parent, without_tree};

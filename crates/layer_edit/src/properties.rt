@@ -1,4 +1,4 @@
-// Adding properties, and their defaults and samples.
+//! Adding properties, and their defaults and samples.
 ghost use Rattle.std.specs.Prelude.{◌≡◌, Ok, true, OnOk};
 ghost use Rattle.std.specs.Option.{option_copied};
 ghost use Rattle.layer_edit.specs.Outcomes.{Does, Gives};

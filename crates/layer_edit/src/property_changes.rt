@@ -1,4 +1,4 @@
-// Changes of properties.
+//! Changes of properties.
 ghost use Rattle.std.specs.Prelude.{◌≡◌, IfOk};
 ghost use Rattle.layer_edit.specs.Fields.{given_list, with_targets};
 ghost use Rattle.layer_edit.specs.Metadata.{with_entry, with_property_entry};

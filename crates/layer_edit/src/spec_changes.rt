@@ -1,4 +1,4 @@
-// Changes of the specs of prims and variants.
+//! Changes of the specs of prims and variants.
 ghost use Rattle.std.specs.Prelude.{◌≡◌, OnOk, IfOk};
 ghost use Rattle.spec_properties.specs.Properties.{property_at, with_property, without_property};
 ghost use Rattle.layer_edit.specs.Fields.{given_list, with_paths, with_references, with_texts, with_selection, with_order};

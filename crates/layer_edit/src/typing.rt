@@ -1,4 +1,4 @@
-// Values as an attribute or a key of metadata takes them.
+//! Values as an attribute or a key of metadata takes them.
 ghost use Rattle.std.specs.Prelude.{◌≡◌, map, IfOk};
 ghost use Rattle.std.specs.Result.{result_ok};
 ghost use Rattle.sdf_values.specs.Conforms.{one};
@@ -73,7 +73,7 @@ pub fn typed(alloc: Global, ty: TypeName, value: &Value) -> Result<Option<Value>
     }
 }
 
-// A value of metadata, inside an entry of a dictionary or not: a number is kept as a whole one where it is one.
+/// A value of metadata, inside an entry of a dictionary or not: a number is kept as a whole one where it is one.
 #[cycle(kept)]
 fn kept(alloc: Global, is_typed: bool, value: &Value) -> Result<Value, AllocError>
     ensures { IfOk result (λ v. v ≡ kept value.now is_typed) }

@@ -13,10 +13,11 @@ use Rattle.layer_load.specs.declared.fault.LoadFault.{LoadFault}
 use Rattle.layer_load.specs.declared.fault.LoadFault.TheVariants.{RootRefused, WorldTooLarge}
 use Rattle.layer_load.specs.declared.load.Loaded.{Loaded}
 
--- the most names, and the most bytes in all
+-- as many names as may have their turn
 abbrev pub most_names : ℕ
 most_names = 4096
 
+-- as many bytes as may be fetched in all
 abbrev pub most_bytes : ℕ
 most_bytes = 268435456
 

@@ -1,4 +1,4 @@
-// The assets of the arcs of a spec.
+//! The assets of the arcs of a spec.
 ghost use Rattle.std.specs.Prelude.{◌≡◌, ◌++◌, map, OnOk};
 ghost use Rattle.spec_parts.specs.declared.items.SubLayer.{SubLayer as SaidSubLayer};
 ghost use Rattle.layer_load.specs.Assets.{given, assets_of_items, explicit_assets, assets_of_list, assets_of_arcs};
@@ -18,7 +18,7 @@ pub fn push_sublayers(out: &mut Items<Text>, sublayers: &[SubLayer]) -> Result<(
     Ok(())
 }
 
-// Appends the asset of an item, if it has one.
+/// Appends the asset of an item, if it has one.
 fn push_given(out: &mut Items<Text>, asset: &Option<Text>) -> Result<(), AllocError>
     ensures { OnOk result (out.new ≡ out.old ++ given asset.now) }
 {
@@ -46,7 +46,7 @@ fn push_explicit(out: &mut Items<Text>, explicit: &Option<Items<RefItem>>) -> Re
     }
 }
 
-// Appends the assets of an opinion on a list, one list after the other.
+/// Appends the assets of an opinion on a list, one list after the other.
 fn push_list(out: &mut Items<Text>, op: &ListOp<RefItem>) -> Result<(), AllocError>
     ensures { OnOk result (out.new ≡ out.old ++ assets_of_list op.now) }
 {

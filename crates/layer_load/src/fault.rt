@@ -9,13 +9,15 @@ pub enum LoadFault {
     /// A file could not be read.
     #[error("reading failed")]
     ReadFault,
-    /// The root or the session layer is not there, or is refused for this reason.
+    /// The root or the session layer is not there, or is refused.
     #[error("the root or the session layer is absent or refused")]
     RootRefused {
+        /// The name of the layer.
         name: AssetId,
+        /// Why the layer is refused; none where it is absent.
         refusal: Option<Refusal>,
     },
-    /// There are more names or more bytes than a world may have.
+    /// There are more names than a world may have, or more bytes were fetched in all than may be.
     #[error("too many layers or bytes")]
     WorldTooLarge,
     /// Memory ran out.

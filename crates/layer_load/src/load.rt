@@ -1,4 +1,4 @@
-// A world from its files.
+//! A world from its files.
 ghost use Rattle.std.specs.Prelude.{◌≡◌, Err, IfSome};
 ghost use Rattle.io_edges.specs.Causes.{IsCounted};
 ghost use Rattle.layer_load.specs.Opening.{most_names};
@@ -24,7 +24,7 @@ pub struct Loaded {
     pub bytes: u64,
 }
 
-// Opens a world in which so many names may have their turn.
+/// Opens a world in which so many names may have their turn.
 fn load_within<F: LayerFiles>(
     alloc: Global,
     files: &mut F,

@@ -60,7 +60,7 @@ impl Names {
         Ok(())
     }
 
-    // Adds the name of an asset of a layer, if it has one.
+    /// Adds the name of an asset of a layer, if it has one.
     fn note_asset(&mut self, alloc: Global, layer: &AssetId, asset: &Text) -> Result<(), AllocError>
         requires { AreMet self.old }
         ensures listed { OnOk result (self.new.listed ≡ with_asset layer.now self.old.listed asset.now) }

@@ -1,4 +1,4 @@
-// One layer from its file.
+//! One layer from its file.
 ghost use Rattle.std.specs.Prelude.{◌≡◌, ◌≢◌, ◌+◌, ◌<◌, ◌≤◌, Err, length, MatchResult};
 ghost use Rattle.asset_names.specs.Anchoring.{kind_of};
 ghost use Rattle.io_edges.specs.Causes.{IsCounted};
@@ -20,7 +20,7 @@ use usda_reader::{LayerFault, read_layer};
 /// The most bytes that are fetched in all.
 pub const MAX_FETCHED: u64 = 268_435_456;
 
-// The bytes in all, unless they are too many.
+/// The bytes in all, unless they are too many.
 fn counted(before: u64, size: usize) -> Result<u64, LoadFault>
     ensures { MatchResult result (λ total. (total ≡ before + size) × (total ≤ most_bytes)) (λ e. (e ≡ LoadFault.WorldTooLarge) × (most_bytes < before + size)) }
 {
@@ -36,7 +36,7 @@ fn counted(before: u64, size: usize) -> Result<u64, LoadFault>
     }
 }
 
-// A layer of a kind that is not read.
+/// A layer of a kind that is not read.
 fn unread(kind: RefusalKind, before: u64) -> Result<(Held, u64), LoadFault>
     ensures answers { AnswersWith (λ (h : SaidHeld). h ≡ unread kind) before 0 result }
     ensures calm { result ≡ Err LoadFault.ReadFault → ⊥ }
@@ -50,7 +50,7 @@ fn unread(kind: RefusalKind, before: u64) -> Result<(Held, u64), LoadFault>
     Ok((Held::Broken(refusal), total))
 }
 
-// What the bytes of a file say.
+/// What the bytes of a file say.
 fn read_fetched(alloc: Global, bytes: &[u8]) -> Result<Held, LoadFault>
     ensures { MatchResult result (Says bytes.now) (λ e. e ≡ LoadFault.NoMemory) }
 {
@@ -61,7 +61,7 @@ fn read_fetched(alloc: Global, bytes: &[u8]) -> Result<Held, LoadFault>
     }
 }
 
-// The bytes in all, and then what the bytes of a file say.
+/// The bytes in all, and then what the bytes of a file say.
 fn read_counted(alloc: Global, bytes: &[u8], before: u64) -> Result<(Held, u64), LoadFault>
     ensures answers { AnswersWith (Says bytes.now) before (length bytes.now) result }
     ensures calm { result ≡ Err LoadFault.ReadFault → ⊥ }
@@ -71,7 +71,7 @@ fn read_counted(alloc: Global, bytes: &[u8], before: u64) -> Result<(Held, u64),
     Ok((held, total))
 }
 
-// The layer that is absent.
+/// The layer that is absent.
 fn absent(before: u64) -> Result<(Held, u64), LoadFault>
     ensures answers { AnswersWith (λ (h : SaidHeld). h ≡ Held.Absent) before 0 result }
     ensures calm { result ≡ Err LoadFault.ReadFault → ⊥ }
@@ -80,7 +80,7 @@ fn absent(before: u64) -> Result<(Held, u64), LoadFault>
     Ok((Held::Absent, total))
 }
 
-// What the file of a name holds.
+/// What the file of a name holds.
 fn fetch_one<F: LayerFiles>(
     alloc: Global,
     files: &mut F,

@@ -1,4 +1,4 @@
-// A world that is being opened.
+//! A world that is being opened.
 ghost use Rattle.std.specs.Prelude.{◌≡◌, ◌+◌, [], Ok, Err, length, slice_get, map, IfOk, OnOk};
 ghost use Rattle.io_edges.specs.Causes.{IsCounted};
 ghost use Rattle.layer_set.specs.Worlds.{with_held};
@@ -41,7 +41,7 @@ fn is_session(world: &World, name: &AssetId) -> bool
     }
 }
 
-// Whether the layer of a name has to be there.
+/// Whether the layer of a name has to be there.
 fn is_needed(world: &World, name: &AssetId) -> bool
     ensures { result ≡ is_needed world.now name.now }
 {
@@ -58,7 +58,7 @@ fn refusal_of(held: &Held) -> Option<Option<Refusal>>
     }
 }
 
-// Why the layer of a name that has to be there is not.
+/// Why the layer of a name that has to be there is not.
 fn refusal_at(world: &World, name: &AssetId, held: &Held) -> Option<Option<Refusal>>
     ensures { result ≡ if_needed (is_needed world.now name.now) held.now }
 {
@@ -69,7 +69,7 @@ fn refusal_at(world: &World, name: &AssetId, held: &Held) -> Option<Option<Refus
     }
 }
 
-// Adds the names of what a layer names.
+/// Adds the names of what a layer names.
 fn note_held(
     alloc: Global,
     names: &mut Names,
@@ -90,7 +90,7 @@ fn note_held(
     }
 }
 
-// Adds the names of the root and the session layer.
+/// Adds the names of the root and the session layer.
 fn note_first(
     names: &mut Names,
     root: &AssetId,
@@ -108,7 +108,7 @@ fn note_first(
     }
 }
 
-// The names of the root and the session layer.
+/// The names of the root and the session layer.
 fn first_names(
     alloc: Global,
     root: &AssetId,
@@ -156,7 +156,7 @@ pub fn begin(
     }
 }
 
-// Puts what stands at a name.
+/// Puts what stands at a name.
 fn put_held(world: &mut World, name: &AssetId, held: Held) -> Result<(), AllocError>
     ensures { OnOk result (world.new ≡ with_held name.now held world.old) }
 {
@@ -169,7 +169,7 @@ fn put_held(world: &mut World, name: &AssetId, held: Held) -> Result<(), AllocEr
     }
 }
 
-// Adds what stands at a name, and the names of what it names, unless it has to be there and is not. The bytes are then this many.
+/// Adds what stands at a name, and the names of what it names, unless it has to be there and is not. The bytes are then this many.
 fn add(
     alloc: Global,
     draft: &mut WorldDraft,

@@ -1,4 +1,4 @@
-// The prims and variants of a layer, one after the other as its canonical text has them.
+//! The prims and variants of a layer, one after the other as its canonical text has them.
 ghost use Rattle.std.specs.Prelude.{◌≡◌, ◌++◌, false, OnOk, IfOk};
 ghost use Rattle.std.specs.List.{flat_map};
 ghost use Rattle.sdf_paths.specs.Paths.{is_property};
@@ -28,7 +28,7 @@ pub fn assets_of_layer(alloc: Global, layer: &Layer) -> Result<Items<Text>, Allo
     Ok(assets)
 }
 
-// Appends the assets of the prims of these names below a path, each with what stands within it for so many levels.
+/// Appends the assets of the prims of these names below a path, each with what stands within it for so many levels.
 #[cycle(walk)]
 fn push_prims(
     out: &mut Items<Text>,

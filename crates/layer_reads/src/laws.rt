@@ -1,4 +1,4 @@
-// What holds of the words of a layer's parts, each law as the clause of a function that does nothing.
+//! What holds of the words of a layer's parts, each law as the clause of a function that does nothing.
 ghost use Rattle.layer_reads.specs.Bodies.{AreOrdersRead, ArePrimsRead, AreVariantsRead};
 ghost use Rattle.layer_reads.specs.Laws.{AreFieldListsTaken, AreFieldsOpened, AreLinesTaken, AreValues, ValuesAreTaken};
 ghost use Rattle.layer_reads.specs.MetadataLaws.{AreFieldsRead, AreKeysRead, IsPrimMetadataRead};

@@ -1,4 +1,4 @@
-// What holds of the words of layers, each law as the clause of a function that does nothing.
+//! What holds of the words of layers, each law as the clause of a function that does nothing.
 ghost use Rattle.layer_returns.specs.Examples.{ExamplesComeBack};
 ghost use Rattle.layer_returns.specs.Heads.{HeadsComeBack};
 ghost use Rattle.layer_returns.specs.Layers.{AreLayersTaken, AreTextsTaken};

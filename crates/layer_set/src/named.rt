@@ -1,4 +1,4 @@
-// What stands at names of layers, shared with copies.
+//! What stands at names of layers, shared with copies.
 ghost use Rattle.std.specs.Prelude.{◌≡◌, length, slice_get, is_some, IfOk, OnOk, OnErr};
 ghost use Rattle.std.specs.Map.{keys_of};
 ghost use Rattle.std.specs.Option.{option_copied};

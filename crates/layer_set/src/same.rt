@@ -1,4 +1,4 @@
-// Whether parts of worlds are one, without a copy.
+//! Whether parts of worlds are one, without a copy.
 ghost use Rattle.std.specs.Prelude.{◌≡◌, ◌↔◌, IsTrue};
 ghost use Rattle.std.specs.Option.{option_copied, option_map};
 ghost use Rattle.layer_set.specs.LookUps.{layer_head, root_names, heading_of, roots_of};

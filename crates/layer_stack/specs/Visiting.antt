@@ -39,7 +39,7 @@ is_on (Some on) = on
 abbrev pub is_above : Marks → Text → Bool
 is_above marks name = is_on (at_name name marks)
 
--- of a name: it stands on the chain, it is listed
+-- the mark of a name: true where it stands on the chain, else false where it is listed, and none where it is neither
 abbrev pub mark : Bool → Bool → Option Bool
 mark true listed = Some true
 mark false true = Some false
@@ -70,6 +70,7 @@ module _ (w : World) (most : ℕ) where
   abbrev pub Steps : Type 0
   Steps = List Text → Text → Offset → LayerStack → ℕ
 
+  -- the steps below one sublayer: those of its layer, and none where it is not followed
   abbrev pub steps_of_sublayer : Steps → List Text → Text → Offset → LayerStack → SubLayer → ℕ
   steps_of_sublayer below chain layer o s sub =
       elim (anchor layer sub.asset) [
@@ -80,11 +81,13 @@ module _ (w : World) (most : ℕ) where
         ]
       ]
 
+  -- the steps of the sublayers of a layer that are left, where so many more layers may be open, and one for the layer itself
   unfoldable pub steps_of_rest : ℕ → Steps → List Text → Text → Offset → LayerStack → List SubLayer → ℕ
   steps_of_rest deep below chain layer o s [] = 1
   steps_of_rest deep below chain layer o s (sub ∷ rest) =
       1 + (steps_of_sublayer below chain layer o s sub + steps_of_rest deep below chain layer o (with_sublayer w (listed w deep) chain layer o s sub) rest)
 
+  -- the steps of a layer that is met, where so many more layers may be open; none where it is listed already, or where none may be
   unfoldable pub steps_below : ℕ → Steps
   steps_below zero chain layer o s = 0
   steps_below (suc deep) chain layer o s =
@@ -93,6 +96,7 @@ module _ (w : World) (most : ℕ) where
         | false ↦ steps_of_rest deep (steps_below deep) chain layer o (with_layer s layer o) (sublayers_of (w.heading layer))
       ]
 
+  -- the steps of all layers that are open, the innermost one first
   unfoldable pub steps : List OpenLayer → LayerStack → ℕ
   steps [] s = 0
   steps (f ∷ fs) s =

@@ -1,4 +1,4 @@
-// A law of stacks.
+//! A law of stacks.
 ghost use Rattle.std.specs.Prelude.{◌≡◌, ◌≤◌, length};
 ghost use Rattle.layer_set.specs.LookUps.{look_ups};
 ghost use Rattle.layer_stack.specs.Meant.{defined_stack, meant, stack_within};

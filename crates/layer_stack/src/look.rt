@@ -1,4 +1,4 @@
-// One sublayer: its name, and why it is not followed.
+//! One sublayer: its name, and why it is not followed.
 ghost use Rattle.std.specs.Prelude.{◌≡◌, Some, None, IfOk, IfErr};
 ghost use Rattle.sdf_values.specs.Scales.{composed};
 ghost use Rattle.layer_set.specs.LookUps.{heading_of};

@@ -1,4 +1,4 @@
-// Names each once.
+//! Names each once.
 ghost use Rattle.std.specs.Prelude.{◌≡◌, IfOk};
 ghost use Rattle.layer_stack.specs.Meant.{each_once};
 

@@ -14,7 +14,8 @@ use prim_view::{PrimFault, StackName, SublayerFault};
 use sdf_values::LayerOffset;
 use std::alloc::{AllocError, Global};
 
-/// How many layers a world has at most; no chain of sublayers is longer.
+/// How many layers a chain of sublayers has at most: as many as a world that was opened or edited may have names. In a world with
+/// more, what lies deeper on a chain is left out without a fault.
 pub const MAX_LAYERS: usize = 4096;
 
 /// The layers of a stack.

@@ -1,4 +1,4 @@
-// The walk over the sublayers of a stack, with the layers that are open on a stack of its own.
+//! The walk over the sublayers of a stack, with the layers that are open on a stack of its own.
 ghost use Rattle.std.specs.Prelude.{◌≡◌, [], ◌∷◌, MatchOption, IfOk, OnOk};
 ghost use Rattle.composition.specs.Stacks.{nothing_listed, sublayers_of};
 ghost use Rattle.layer_set.specs.LookUps.{look_ups, heading_of};

@@ -1,4 +1,4 @@
-// What holds of the canonical texts of layers, each law as the clause of a function that does nothing.
+//! What holds of the canonical texts of layers, each law as the clause of a function that does nothing.
 ghost use Rattle.layer_texts.specs.Examples.{AreTold};
 ghost use Rattle.layer_texts.specs.Laws.{AreListsSpelled, IsMetadataSpelled, ArePropertiesSpelled, ArePrimsSpelled, AreLayersSpelled, ArePartsWritable};
 

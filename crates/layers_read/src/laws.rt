@@ -1,4 +1,4 @@
-// What holds of each layer that a text says, each law as the clause of a function that does nothing.
+//! What holds of each layer that a text says, each law as the clause of a function that does nothing.
 ghost use Rattle.layers_read.specs.Laws.{SaidIsRead, SaidPropertiesAreProper, LayersAreRead};
 
 /// What a text says of the layer, of its prims and of its variants in their metadata and their orders is proper.

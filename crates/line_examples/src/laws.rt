@@ -1,5 +1,5 @@
-// What the definitions of a session's script give, on closed terms: each record of examples as the clause of a function that does
-// nothing.
+//! What the definitions of a session's script give, on closed terms: each record of examples as the clause of a function that does
+//! nothing.
 ghost use Rattle.line_examples.specs.Lines.{AreTold as LinesAreTold};
 ghost use Rattle.line_examples.specs.Operations.{AreTold as OperationsAreTold};
 ghost use Rattle.line_examples.specs.Questions.{AreTold as QuestionsAreTold};

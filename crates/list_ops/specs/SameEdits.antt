@@ -16,6 +16,7 @@ module _ {T : Type 0} (E : T → T → Bool) (exact : (x y : T) → E x y ≡ tr
       && (pointwise E x.appended y.appended
       && pointwise E x.ordered y.ordered))))
 
+  -- edits that pass the test are one
   pub edits_same : (x y : ListOp T) → same_edits x y ≡ true → x ≡ y
   edits_same x y h =
       let first = both_true (option_eq (pointwise E) x.explicit y.explicit) _ h in

@@ -1,4 +1,4 @@
-// A copy of an edit is the edit, and edits that compare equal are one.
+//! A copy of an edit is the edit, and edits that compare equal are one.
 use crate::op::ListOp;
 use plain_data::{ExactClone, ExactEq, copy};
 use std::alloc::AllocError;

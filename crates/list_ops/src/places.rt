@@ -1,4 +1,4 @@
-// Where items stand in a list: by going through it, or by their order.
+//! Where items stand in a list: by going through it, or by their order.
 ghost use Rattle.std.specs.Prelude.{◌≡◌, ℕ, Option, Some, IfOk, OnOk, cond};
 ghost use Rattle.std.specs.Option.{is_some};
 ghost use Rattle.std.specs.BTreeMap.{get};

@@ -1,4 +1,4 @@
--- The classes that are lifted, by names that stay closed in goals.
+-- The classes that are lifted: the definitions of composition under names of their own.
 use Rattle.std.specs.Prelude.{true, false, List, flat_map}
 use Rattle.path_maps.specs.declared.kind.ArcKind.{ArcKind}
 use Rattle.composition.specs.Paths.{limits}

@@ -1,4 +1,4 @@
-// The arcs that a node follows: its own, and the classes that its arcs hand up.
+//! The arcs that a node follows: its own, and the classes that its arcs hand up.
 ghost use Rattle.std.specs.Prelude.{◌≡◌, ◌++◌, IfOk, OnOk, flat_map, map, Bool, false};
 ghost use Rattle.composition.specs.Paths.{limits, has_selections};
 ghost use Rattle.composition.specs.Nodes.{refusal};

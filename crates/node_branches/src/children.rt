@@ -1,4 +1,4 @@
-// The nodes to which arcs lead.
+//! The nodes to which arcs lead.
 ghost use Rattle.std.specs.Prelude.{◌≡◌, ◌∷◌, ◌++◌, ◌+◌, IfOk, take, false};
 ghost use Rattle.path_maps.specs.declared.kind.ArcKind.TheVariants.{Variant};
 ghost use Rattle.composition.specs.Nodes.{author, child_path, child_chain};

@@ -1,4 +1,4 @@
-// Whether an arc is followed, and where it leads.
+//! Whether an arc is followed, and where it leads.
 ghost use Rattle.std.specs.Prelude.{◌≡◌, ◌==◌, ◌++◌, ◌∷◌, [], IfOk, not};
 ghost use Rattle.sdf_paths.specs.Paths.{plain};
 ghost use Rattle.sdf_values.specs.Scales.{composed};
@@ -37,10 +37,12 @@ fn if_fits(
     if target.is_root() || target.is_property() {
         return Err(AllocError);
     }
+    // By the contract of `elements` both are paths by the rules, within the limits.
     let _target = target.elements();
     let _path = path.elements();
     match path.replace_prefix(author, target) {
         Ok(Some(there)) => {
+            // So is what comes out.
             let _there = there.elements();
             Ok(Some(there))
         }

@@ -1,4 +1,4 @@
-// The levels of a path, and the paths at them.
+//! The levels of a path, and the paths at them.
 ghost use Rattle.std.specs.Prelude.{◌≡◌, IfOk, take};
 ghost use Rattle.composition.specs.Paths.{has_selections, levels};
 

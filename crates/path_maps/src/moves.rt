@@ -1,4 +1,4 @@
-// Paths moved from one prefix to another.
+//! Paths moved from one prefix to another.
 ghost use Rattle.std.specs.Prelude.{◌≡◌, IfOk, IfErr, OnOk, IsSomeAnd};
 ghost use Rattle.std.specs.Option.{ForSome};
 ghost use Rattle.sdf_paths.specs.Paths.{IsPath, IsRefusal, plain, replaced};
@@ -14,6 +14,7 @@ pub fn copied(path: &Path) -> Result<Path, PathFault>
     ensures path { IsPath path.now }
     ensures bad { IfErr result (λ e. IsRefusal path.now e) }
 {
+    // By the contract of `elements` this is a path by the rules, as the clause `path` says.
     let _elements = path.elements();
     Ok(copy(path)?)
 }
@@ -36,6 +37,7 @@ pub fn through_target(target: &Path, author: &Path, path: &Path) -> Result<Optio
 {
     let moved = path.replace_prefix(target, author)?;
     if let Some(there) = &moved {
+        // By the contract of `elements` this is a path by the rules, as the clause `path` says.
         let _elements = there.elements();
     }
     Ok(moved)

@@ -1,4 +1,4 @@
-// Arcs are copied and compared as values.
+//! Arcs are copied and compared as values.
 use crate::arc_map::ArcMap;
 use plain_data::{ExactClone, ExactEq};
 

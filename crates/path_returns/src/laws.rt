@@ -1,4 +1,4 @@
-// What holds of the printed texts of paths, each law as the clause of a function that does nothing.
+//! What holds of the printed texts of paths, each law as the clause of a function that does nothing.
 ghost use Rattle.path_returns.specs.Returns.{AreUtf8, ArePathTexts, AreTextsRead, PathsReturn, TargetsReturn, ValuePathsReturn};
 
 /// The printed text of a path is UTF-8.

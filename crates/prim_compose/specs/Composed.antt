@@ -1,10 +1,7 @@
--- The composed view of a path by parts that do not unfold in goals.
+-- The composed view of a path and its parts: the definitions of composition under names of their own.
 -- docs/COMPOSITION.md, 'The stage'.
 use Rattle.std.specs.Prelude.{Bool, true, false, List, [], ◌∷◌, map, Option, Some, None}
 use Rattle.std.specs.List.{flat_map}
-use Rattle.std.specs.BTreeMap.{is_at}
-use Rattle.std.specs.Cmp.Lexicographic.{slice_cmp}
-use Rattle.std.specs.Ordering.{nat_cmp}
 use Rattle.prim_view.specs.declared.view.PrimView.{PrimView}
 use Rattle.prim_view.specs.declared.view.PropertyView.{PropertyView}
 use Rattle.spec_properties.specs.Entries.{MetaEntries}
@@ -57,10 +54,6 @@ faults_of_property name ps = property_faults limits name ps
 -- the metadata of a property, merged over the specs that count
 unfoldable pub merged_metadata : List PropertySaid → MetaEntries
 merged_metadata ps = merged_all (map (λ p. property_meta p.property) ps)
-
--- the two texts are one
-abbrev pub same_name : Text → Text → Bool
-same_name a b = is_at (slice_cmp nat_cmp a) b
 
 -- the names of children, unless the prim is inactive
 abbrev pub unless_inactive : Bool → List Text → List Text

@@ -15,7 +15,7 @@ use Rattle.prim_index.specs.Once.{faults_once}
 use Rattle.prim_compose.specs.Composed.{unless_inactive}
 use Rattle.prim_compose.specs.Properties.{views_on, faults_on}
 
--- what an index has
+-- what an index has; an overgrown one has no choices and no sites, and that fault alone
 abbrev pub index_in : Option Index → Index
 index_in i = record { choices = choices_in i; sites = sites_in i; faults = faults_in i }
 

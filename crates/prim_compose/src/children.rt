@@ -1,4 +1,4 @@
-// The names of children: those that a path can have, and those whose paths would pass a limit.
+//! The names of children: those that a path can have, and those whose paths would pass a limit.
 ghost use Rattle.std.specs.Prelude.{◌≡◌, ◌++◌, ◌∷◌, [], true, false, map, Some, IfOk, OnOk};
 ghost use Rattle.std.specs.List.{list_all};
 ghost use Rattle.composition.specs.Faults.{child_too_long};

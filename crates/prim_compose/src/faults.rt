@@ -1,4 +1,4 @@
-// Faults, each once.
+//! Faults, each once.
 ghost use Rattle.std.specs.Prelude.{◌≡◌, ◌++◌, IfOk};
 ghost use Rattle.prim_index.specs.Once.{faults_once};
 

@@ -1,4 +1,4 @@
-// Copies of lists, and one list after another.
+//! Copies of lists, and one list after another.
 ghost use Rattle.std.specs.Prelude.{◌≡◌, IfOk};
 
 use list_ops::push_all;

@@ -1,4 +1,4 @@
-// The properties of a prim, by the opinions on it.
+//! The properties of a prim, by the opinions on it.
 ghost use Rattle.std.specs.Prelude.{◌≡◌, ◌++◌, [], flat_map, IfOk, OnOk};
 ghost use Rattle.std.specs.List.{list_any};
 ghost use Rattle.composition.specs.Views.{is_custom, property_meta};

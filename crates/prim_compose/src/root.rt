@@ -1,4 +1,4 @@
-// What the stage has at `/`.
+//! What the stage has at `/`.
 ghost use Rattle.std.specs.Prelude.{◌≡◌, ◌++◌, ◌∷◌, [], fold, IfOk, OnOk};
 ghost use Rattle.composition.specs.Merging.{with_weaker};
 ghost use Rattle.composition.specs.Views.{empty_view, with_default_prim, head_meta, root_site};

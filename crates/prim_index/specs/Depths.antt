@@ -1,4 +1,4 @@
--- What composition makes at each depth, by names that stay closed in goals.
+-- What composition makes at each depth: its definitions under names of their own.
 use Rattle.std.specs.Prelude.{ℕ, zero, suc, Bool, List, take}
 use Rattle.composition.specs.Paths.{Path, Limits}
 use Rattle.composition.specs.Nodes.{Node, Here, Frame}

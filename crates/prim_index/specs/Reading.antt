@@ -1,4 +1,4 @@
--- What the layers say at a node, by names that stay closed in goals.
+-- What the layers say at a node: the definitions of composition under names of their own, and part by part.
 use Rattle.std.specs.Prelude.{ℕ, Bool, true, false, not, List, [], ◌∷◌, ◌++◌, map, flat_map, Option, Some, None}
 use Rattle.std.specs.List.{filter_map}
 use Rattle.path_maps.specs.declared.kind.ArcKind.{ArcKind}

@@ -1,4 +1,4 @@
-// The tree of a node, the frames of a prim, and the rounds of choices, which rest on each other.
+//! The tree of a node, the frames of a prim, and the rounds of choices, which rest on each other.
 ghost use Rattle.std.specs.Prelude.{◌≡◌, ◌==◌, ◌-◌, [], IfOk, length};
 ghost use Rattle.composition.specs.Paths.{limits};
 ghost use Rattle.composition.specs.Trees.{node as node_of_tree, none, cut, size_among, own_branches, lifted_branches};
@@ -33,7 +33,7 @@ pub const MAX_DEPTH: usize = 64;
 /// How many nodes a tree has at most.
 pub const MAX_NODES: usize = 4096;
 
-/// How many rounds of choices are made.
+/// How many rounds of choices are made at most.
 pub const MAX_ROUNDS: usize = 16;
 
 /// The payloads that are followed.

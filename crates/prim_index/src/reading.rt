@@ -1,4 +1,4 @@
-// What the layers of a node's stack say at it.
+//! What the layers of a node's stack say at it.
 ghost use Rattle.std.specs.Prelude.{◌≡◌, ◌++◌, ◌∷◌, [], IfOk, OnOk, map, not};
 ghost use Rattle.std.specs.Option.{option_copied};
 ghost use Rattle.composition.specs.Texts.{same_text, find_at};
@@ -196,9 +196,11 @@ fn variant(
     if author.is_root() || author.is_property() {
         return Err(AllocError);
     }
+    // By the contract of `elements` this is a path by the rules, within the limits.
     let _author = author.elements();
     match author.select(set.as_str(), variant.as_str()) {
         Ok(target) => {
+            // So is what comes out.
             let _target = target.elements();
             let chosen = if_fitting(node, level, target)?;
             Ok(chosen)

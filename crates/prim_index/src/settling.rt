@@ -1,4 +1,4 @@
-// The tree of a prim of the stage. The last round of its choices makes it, unless the rounds rest on an overgrown listing.
+//! The tree of a prim of the stage. The last round of its choices makes it, unless the rounds rest on an overgrown listing.
 ghost use Rattle.std.specs.Prelude.{◌≡◌, [], IfOk};
 ghost use Rattle.std.specs.Option.{IfSome};
 ghost use Rattle.composition.specs.Paths.{limits};

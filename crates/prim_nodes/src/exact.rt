@@ -1,4 +1,4 @@
-// Copies that are the value itself.
+//! Copies that are the value itself.
 use crate::arcs::{Authored, Branch, Lead, Outcome};
 use crate::here::Chosen;
 use crate::node::{Frame, Node};

@@ -1,4 +1,4 @@
-// The specs of a property that count.
+//! The specs of a property that count.
 ghost use Rattle.std.specs.Prelude.{◌≡◌, ◌↔◌, IsTrue, IfOk, OnOk};
 ghost use Rattle.sdf_values.specs.TypeNames.{type_text};
 ghost use Rattle.spec_properties.specs.Properties.{property_at};

@@ -1,4 +1,4 @@
-// The stacks of some sites, each built once.
+//! The stacks of some sites, each built once.
 ghost use Rattle.std.specs.Prelude.{◌≡◌, true, IfOk, OnOk, is_some};
 ghost use Rattle.std.specs.BTreeMap.{get};
 ghost use Rattle.layer_set.specs.LookUps.{look_ups};

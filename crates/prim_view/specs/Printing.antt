@@ -123,13 +123,15 @@ sublayer_reason_name sublayer.Offset = codes "SublayerOffset"
 abbrev pub sublayer_text : SublayerFault → Text
 sublayer_text f = sublayer_reason_name f.reason ++ codes " " ++ asset_text f.layer ++ codes " " ++ asset_text f.asset
 
--- the words of faults that are not an arc's and not a sublayer's
+-- the word of a target or a connection that has no translation
 unfoldable pub target_word : Text
 target_word = codes "TargetOutside "
 
+-- the word of an attribute of which something leaves the range of times
 unfoldable pub time_word : Text
 time_word = codes "TimeOutside "
 
+-- the word of a child that is not listed, since its path would be too long
 unfoldable pub child_word : Text
 child_word = codes "PathTooLong "
 

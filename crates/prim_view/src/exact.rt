@@ -1,4 +1,4 @@
-// Copies that are the value itself, and equality that tells every two apart.
+//! Copies that are the value itself, and equality that tells every two apart.
 ghost use Rattle.std.specs.Prelude.{◌≡◌, ◌↔◌, IsTrue};
 
 use crate::fault::{

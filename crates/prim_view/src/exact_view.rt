@@ -1,4 +1,4 @@
-// The composed prim: copies that are the value itself, and equality that tells every two apart.
+//! The composed prim: copies that are the value itself, and equality that tells every two apart.
 ghost use Rattle.std.specs.Prelude.{◌≡◌, ◌↔◌, IsTrue, OnOk};
 
 use crate::site::Site;

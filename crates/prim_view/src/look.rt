@@ -1,4 +1,4 @@
-// Looking at a composed prim.
+//! Looking at a composed prim.
 ghost use Rattle.std.specs.Prelude.{◌≡◌};
 ghost use Rattle.std.specs.Option.{option_copied};
 ghost use Rattle.prim_view.specs.Looks.{view_name, property_of};

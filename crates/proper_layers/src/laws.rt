@@ -1,4 +1,4 @@
-// What holds of proper layers, each law as the clause of a function that does nothing.
+//! What holds of proper layers, each law as the clause of a function that does nothing.
 ghost use Rattle.proper_layers.specs.Examples.{ProperExamples};
 ghost use Rattle.proper_layers.specs.Laws.{ProperLayersReturn, ProperTextsDiffer};
 

@@ -1,4 +1,4 @@
-// What holds of each property that the statements of a text make, each law as the clause of a function that does nothing.
+//! What holds of each property that the statements of a text make, each law as the clause of a function that does nothing.
 ghost use Rattle.properties_read.specs.Aims.{StepsKeepAims, ValuesAreAimed};
 ghost use Rattle.properties_read.specs.DraftLaws.{DraftsAreRead};
 ghost use Rattle.properties_read.specs.Laws.{TargetsAreProper, TimesAreNear, TypedValuesAreProper, ReadPropertiesAreProper, OwnersAreRead};

@@ -1,4 +1,4 @@
-// Layers that are written and read again, with ample memory.
+//! Layers that are written and read again, with ample memory.
 use plain_data::{Items, Text, same};
 use proper_layers::read_back;
 use sdf_paths::{Path, PathFault};
@@ -16,7 +16,7 @@ fn path(alloc: Global, text: &str) -> Result<Path, Fail> {
     }
 }
 
-// Puts a class at a path.
+/// Puts a class at a path.
 fn put_class(alloc: Global, layer: &mut Layer, place: &Path) -> Result<(), Fail> {
     if place.is_property() || place.is_root() {
         return Err(Fail::from("no prim"));
@@ -28,13 +28,13 @@ fn put_class(alloc: Global, layer: &mut Layer, place: &Path) -> Result<(), Fail>
     }
 }
 
-// Puts a class at `/A`.
+/// Puts a class at `/A`.
 fn put_one(alloc: Global, layer: &mut Layer) -> Result<(), Fail> {
     let place = path(alloc, "/A")?;
     put_class(alloc, layer, &place)
 }
 
-// A layer of the class `/A`.
+/// A layer of the class `/A`.
 fn one_class(alloc: Global) -> Result<Layer, Fail> {
     let mut layer = Layer::new(alloc);
     match put_one(alloc, &mut layer) {
@@ -53,7 +53,7 @@ fn push_names(alloc: Global, names: &mut Items<Text>, times: u32) -> Result<(), 
     Ok(())
 }
 
-// A head that names the prim `/A` so often.
+/// A head that names the prim `/A` so often.
 fn head_naming(alloc: Global, times: u32) -> Result<Head, Fail> {
     let name = Text::of(alloc, "A")?;
     let mut head = Head::blank(alloc);
@@ -67,7 +67,7 @@ fn head_naming(alloc: Global, times: u32) -> Result<Head, Fail> {
     }
 }
 
-// A layer of the class `/A`, which its head names so often.
+/// A layer of the class `/A`, which its head names so often.
 fn naming(alloc: Global, times: u32) -> Result<Layer, Fail> {
     let mut layer = one_class(alloc)?;
     match head_naming(alloc, times) {

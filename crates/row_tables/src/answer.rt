@@ -22,7 +22,7 @@ struct Look<'r> {
     words: &'r str,
 }
 
-// Looks at what a prim is composed of.
+/// Looks at what a prim is composed of.
 fn push_composed(
     alloc: Global,
     out: &mut String,
@@ -38,7 +38,7 @@ fn push_composed(
     }
 }
 
-// Looks at the index of a prim, and those above.
+/// Looks at the index of a prim, and the looks of `push_composed`.
 fn push_indexes(
     alloc: Global,
     out: &mut String,
@@ -53,7 +53,7 @@ fn push_indexes(
     }
 }
 
-// Looks at layer stacks, and those above.
+/// Looks at layer stacks, and the looks of `push_indexes`.
 fn push_stacks(
     alloc: Global,
     out: &mut String,
@@ -69,7 +69,7 @@ fn push_stacks(
     }
 }
 
-// Looks at what stands in a world, and those above.
+/// Looks at what stands in a world, and the looks of `push_stacks`.
 fn push_looks(
     alloc: Global,
     out: &mut String,
@@ -85,7 +85,7 @@ fn push_looks(
     }
 }
 
-// The calls on a world.
+/// The calls on a world.
 fn push_call(
     alloc: Global,
     out: &mut String,
@@ -102,7 +102,7 @@ fn push_call(
     }
 }
 
-// The calls on files, and those on a world.
+/// The calls on files, and those on a world.
 fn push_trial(
     alloc: Global,
     out: &mut String,

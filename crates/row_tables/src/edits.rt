@@ -20,7 +20,7 @@ use std::mem;
 /// How the reply to a batch begins that is refused.
 const REFUSED: &str = "batch refused: op ";
 
-// The files of lines, for `open`. A name without one is that of a file that is gone.
+/// The files of lines, for `open`. A name without one is that of a file that is gone.
 fn files_of(alloc: Global, lines: &str) -> Result<SureFiles, AllocError> {
     let mut all = Vec::new(alloc);
     for case in read_table(alloc, lines)?.cases {
@@ -35,7 +35,7 @@ fn files_of(alloc: Global, lines: &str) -> Result<SureFiles, AllocError> {
     Ok(SureFiles::new(all))
 }
 
-// The operation that puts a layer from its file.
+/// The operation that puts a layer from its file.
 fn opening(alloc: Global, files: &mut SureFiles, id: AssetId) -> Result<Op, CallFault> {
     match load_one(alloc, files, &id, 0) {
         Ok((held, _bytes)) => Ok(Op::PutLayer { id, held }),
@@ -43,7 +43,7 @@ fn opening(alloc: Global, files: &mut SureFiles, id: AssetId) -> Result<Op, Call
     }
 }
 
-// Takes a line of a script.
+/// Takes a line of a script.
 fn take_line(
     alloc: Global,
     files: &mut SureFiles,
@@ -61,12 +61,12 @@ fn take_line(
     }
 }
 
-// Whether a line is one of a file.
+/// Whether a line is one of a file.
 fn is_of_file(line: &str) -> bool {
     line.starts_with("|") || line.starts_with("layer ")
 }
 
-// Takes the lines of a script.
+/// Takes the lines of a script.
 fn take_lines(
     alloc: Global,
     files: &mut SureFiles,
@@ -81,7 +81,7 @@ fn take_lines(
     Ok(())
 }
 
-// The operations of lines, with their files.
+/// The operations of lines, with their files.
 fn ops_from(alloc: Global, files: &mut SureFiles, lines: &str) -> Result<Items<Op>, CallFault> {
     let mut ops = Items::new(alloc);
     match take_lines(alloc, files, &mut ops, lines) {
@@ -93,20 +93,20 @@ fn ops_from(alloc: Global, files: &mut SureFiles, lines: &str) -> Result<Items<O
     }
 }
 
-// The operations of lines.
+/// The operations of lines.
 fn ops_of(alloc: Global, lines: &str) -> Result<Items<Op>, CallFault> {
     let mut files = files_of(alloc, lines)?;
     ops_from(alloc, &mut files, lines)
 }
 
-// The reply to a batch of which an operation is refused.
+/// The reply to a batch of which an operation is refused.
 fn reply_of(alloc: Global, op: u32, fault: EditFault) -> Result<String, AllocError> {
     let mut reply = Vec::new(alloc);
     push_edit_reply(alloc, &mut reply, &EditReply::Refused { op, fault })?;
     String::from_utf8_lossy(alloc, reply.as_slice())
 }
 
-// Appends which operation is refused, and why.
+/// Appends which operation is refused, and why.
 fn push_refused(
     alloc: Global,
     out: &mut String,
@@ -121,7 +121,7 @@ fn push_refused(
     }
 }
 
-// What a batch makes of a world.
+/// What a batch makes of a world.
 fn applied(
     alloc: Global,
     world: &World,
@@ -137,7 +137,8 @@ fn applied(
     }
 }
 
-// Tries a batch: the keys that it changes, or nothing where it is refused, and then why is appended. An accepted batch makes the world a new one.
+/// Tries a batch: the keys that it changes, or nothing where it is refused, and then why is appended. An accepted batch makes the
+/// world a new one.
 fn try_batch(
     alloc: Global,
     out: &mut String,
@@ -157,7 +158,7 @@ fn try_batch(
     }
 }
 
-// Appends the keys that change.
+/// Appends the keys that change.
 fn push_changed(out: &mut String, keys: &[Key]) -> Result<(), CallFault> {
     if keys.is_empty() {
         out.push_str("nothing changed\n")?;

@@ -30,7 +30,7 @@ fn push_type(out: &mut String, type_name: &Option<Text>) -> Result<(), AllocErro
     }
 }
 
-// Appends the lines of the specifier and the type.
+/// Appends the lines of the specifier and the type.
 fn push_kind(out: &mut String, fields: &Fields<'_>) -> Result<(), AllocError> {
     out.push_str("specifier ")?;
     out.push_str(specifier_word(fields.specifier))?;
@@ -39,14 +39,14 @@ fn push_kind(out: &mut String, fields: &Fields<'_>) -> Result<(), AllocError> {
     out.push_str("\n")
 }
 
-// Appends a line of texts, or `none`, behind a word.
+/// Appends a line of texts, or `none`, behind a word.
 fn push_list(out: &mut String, word: &str, texts: &Option<Items<Text>>) -> Result<(), AllocError> {
     out.push_str(word)?;
     push_texts_or_none(out, texts)?;
     out.push_str("\n")
 }
 
-// Appends a line of names behind a word.
+/// Appends a line of names behind a word.
 fn push_names(out: &mut String, word: &str, names: &[Text]) -> Result<(), AllocError> {
     out.push_str(word)?;
     push_texts(out, names)?;
@@ -63,7 +63,7 @@ pub(crate) fn push_fields(out: &mut String, fields: &Fields<'_>) -> Result<(), A
     push_meta(out, "", fields.meta)
 }
 
-// Appends the lines of fields and of names.
+/// Appends the lines of fields and of names.
 fn push_all(
     out: &mut String,
     fields: &PrimFields,
@@ -82,7 +82,7 @@ fn push_all(
     Ok(push_fields(out, &printed)?)
 }
 
-// Appends the lines of the fields at sites.
+/// Appends the lines of the fields at sites.
 fn push_fields_at(
     alloc: Global,
     out: &mut String,

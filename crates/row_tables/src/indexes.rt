@@ -18,7 +18,7 @@ pub(crate) fn index_of(alloc: Global, world: &World, word: &str) -> Result<PrimI
     Ok(index(alloc, world, &path)?)
 }
 
-// Appends all that an index tells.
+/// Appends all that an index tells.
 fn push_index(out: &mut String, world: &World, found: &PrimIndex) -> Result<(), CallFault> {
     push_sites(out, world, found.sites())?;
     push_choices(out, "choice", found.choices().as_slice())?;
@@ -29,7 +29,7 @@ fn push_index(out: &mut String, world: &World, found: &PrimIndex) -> Result<(), 
     Ok(())
 }
 
-// Appends the sites that have a spec.
+/// Appends the sites that have a spec.
 fn push_spec_sites(out: &mut String, world: &World, sites: &[Site]) -> Result<(), CallFault> {
     for site in sites {
         if site.has_spec {
@@ -76,7 +76,7 @@ fn push_map(out: &mut String, map: &ArcMap) -> Result<(), AllocError> {
     out.push_str("\n")
 }
 
-// Appends a site with all that is known of it.
+/// Appends a site with all that is known of it.
 fn push_whole_site(out: &mut String, world: &World, site: &Site) -> Result<(), AllocError> {
     push_site(out, world, site)?;
     out.push_str(" offset ")?;
@@ -90,7 +90,7 @@ fn push_whole_site(out: &mut String, world: &World, site: &Site) -> Result<(), A
     Ok(())
 }
 
-// Appends a site by its number.
+/// Appends a site by its number.
 fn push_numbered_site(
     out: &mut String,
     world: &World,

@@ -42,7 +42,7 @@ static TABLES: [&str; 13] = [
     "opening.rows",
 ];
 
-// The text of a file, if there is one.
+/// The text of a file, if there is one.
 fn text_of(rt: &HostRuntime, name: &str) -> Result<Option<String>, AllocError> {
     let alloc = rt.alloc();
     let mut bytes = Vec::new(alloc);
@@ -55,7 +55,7 @@ fn text_of(rt: &HostRuntime, name: &str) -> Result<Option<String>, AllocError> {
     }
 }
 
-// Makes the calls of a table, and prints what comes of them.
+/// Makes the calls of a table, and prints what comes of them.
 fn one(rt: &HostRuntime, name: &str, text: &str) -> io::Result<Count> {
     let alloc = rt.alloc();
     let table = read_table(alloc, text)?;

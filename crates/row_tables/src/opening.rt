@@ -36,7 +36,7 @@ pub(crate) struct Trial {
     pub opened: Option<Opened>,
 }
 
-// Appends that the root layer is refused, or absent.
+/// Appends that the root layer is refused, or absent.
 fn push_root_refused(
     out: &mut String,
     name: &AssetId,
@@ -51,7 +51,7 @@ fn push_root_refused(
     out.push_str("\n")
 }
 
-// Appends why a world or a layer was not opened.
+/// Appends why a world or a layer was not opened.
 fn push_unopened(out: &mut String, fault: &LoadFault) -> Result<(), AllocError> {
     match fault {
         LoadFault::RootRefused { name, refusal } => push_root_refused(out, name, refusal),
@@ -61,7 +61,7 @@ fn push_unopened(out: &mut String, fault: &LoadFault) -> Result<(), AllocError> 
     }
 }
 
-// The name of the session layer, if there is one.
+/// The name of the session layer, if there is one.
 fn session_of(alloc: Global, word: &str) -> Result<Option<AssetId>, CallFault> {
     if word.is_empty() {
         return Ok(None);
@@ -69,7 +69,7 @@ fn session_of(alloc: Global, word: &str) -> Result<Option<AssetId>, CallFault> {
     Ok(Some(layer_name(alloc, word)?))
 }
 
-// Opens the world of files, whose session layer has the name that a word is. Where it is refused, why is appended.
+/// Opens the world of files, whose session layer has the name that a word is. Where it is refused, why is appended.
 fn opened_files(
     alloc: Global,
     out: &mut String,
@@ -100,7 +100,7 @@ pub(crate) fn open_once(
     Ok(())
 }
 
-// Appends a line for each name of a world.
+/// Appends a line for each name of a world.
 fn push_world(out: &mut String, world: &World) -> Result<(), AllocError> {
     for i in 0..world.names() {
         if let Some(name) = world.name_at(i) {
@@ -112,24 +112,24 @@ fn push_world(out: &mut String, world: &World) -> Result<(), AllocError> {
     Ok(())
 }
 
-// Appends how many bytes were fetched.
+/// Appends how many bytes were fetched.
 fn push_bytes(out: &mut String, bytes: u64) -> Result<(), AllocError> {
     writeln!(out, "{bytes} bytes")
 }
 
-// Appends what was opened: the names of a world, and the bytes.
+/// Appends what was opened: the names of a world, and the bytes.
 fn push_loaded(out: &mut String, loaded: &Loaded) -> Result<(), AllocError> {
     push_world(out, &loaded.world)?;
     push_bytes(out, loaded.bytes)
 }
 
-// Appends what stands at the name of a layer, and the bytes.
+/// Appends what stands at the name of a layer, and the bytes.
 fn push_one(out: &mut String, held: &Held, bytes: u64) -> Result<(), AllocError> {
     push_held(out, held)?;
     push_bytes(out, bytes)
 }
 
-// Appends the names that were asked, and the world that was opened or why none was.
+/// Appends the names that were asked, and the world that was opened or why none was.
 fn push_answer(
     out: &mut String,
     asked: &str,
@@ -142,7 +142,7 @@ fn push_answer(
     }
 }
 
-// The same of a layer by itself.
+/// The same of a layer by itself.
 fn push_one_answer(
     out: &mut String,
     asked: &str,
@@ -191,7 +191,7 @@ pub(crate) fn push_one_call(
     told
 }
 
-// Puts the layer of a name into a world.
+/// Puts the layer of a name into a world.
 fn put_layer(
     alloc: Global,
     files: &mut AskedFiles,
@@ -205,7 +205,7 @@ fn put_layer(
     }
 }
 
-// Puts the layers of names into a world.
+/// Puts the layers of names into a world.
 fn put_layers(
     alloc: Global,
     files: &mut AskedFiles,
@@ -218,7 +218,7 @@ fn put_layers(
     Ok(())
 }
 
-// An empty world, whose session layer has the name that a word is.
+/// An empty world, whose session layer has the name that a word is.
 fn empty_world(alloc: Global, session: &str) -> Result<World, CallFault> {
     let root = layer_name(alloc, ROOT)?;
     let session = session_of(alloc, session)?;

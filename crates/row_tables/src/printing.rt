@@ -168,7 +168,7 @@ pub(crate) fn push_faults(out: &mut String, faults: &[PrimFault]) -> Result<(), 
     Ok(())
 }
 
-// Appends a value at the end of a line.
+/// Appends a value at the end of a line.
 fn push_last_value(out: &mut String, value: &Value) -> Result<(), AllocError> {
     out.push_str(" ")?;
     push_value(out, value, 0)?;

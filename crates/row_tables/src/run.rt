@@ -23,7 +23,7 @@ impl Count {
         }
     }
 
-    // One row.
+    /// One row.
     fn one(differs: bool) -> Count {
         Count {
             rows: 1,
@@ -32,7 +32,7 @@ impl Count {
     }
 }
 
-// Appends lines, each behind a mark.
+/// Appends lines, each behind a mark.
 fn push_marked(out: &mut String, mark: &str, lines: &str) -> Result<(), AllocError> {
     for line in lines.lines() {
         out.push_str(mark)?;
@@ -42,7 +42,7 @@ fn push_marked(out: &mut String, mark: &str, lines: &str) -> Result<(), AllocErr
     Ok(())
 }
 
-// Appends a row that differs, with what was answered and what is wanted.
+/// Appends a row that differs, with what was answered and what is wanted.
 fn push_row(out: &mut String, name: &str, row: &Row, got: &str) -> Result<(), AllocError> {
     let line = row.line;
     let call = row.call.as_str();
@@ -51,7 +51,7 @@ fn push_row(out: &mut String, name: &str, row: &Row, got: &str) -> Result<(), Al
     push_marked(out, "=", row.wanted.as_str())
 }
 
-// Makes the call of a row.
+/// Makes the call of a row.
 fn run_row(
     alloc: Global,
     name: &str,
@@ -67,7 +67,7 @@ fn run_row(
     Ok(Count::one(differs))
 }
 
-// Makes the calls of rows.
+/// Makes the calls of rows.
 fn run_rows(
     alloc: Global,
     name: &str,
@@ -82,7 +82,7 @@ fn run_rows(
     Ok(all)
 }
 
-// Makes the calls on a world.
+/// Makes the calls on a world.
 fn run_case(alloc: Global, name: &str, case: Case, out: &mut String) -> Result<Count, AllocError> {
     let Case {
         session,
@@ -100,7 +100,7 @@ fn run_case(alloc: Global, name: &str, case: Case, out: &mut String) -> Result<C
     count
 }
 
-// Appends the lines that no table has at their place; each counts as a row that differs.
+/// Appends the lines that no table has at their place; each counts as a row that differs.
 fn run_strange(name: &str, strange: &[usize], out: &mut String) -> Result<Count, AllocError> {
     let mut all = Count { rows: 0, differ: 0 };
     for line in strange {

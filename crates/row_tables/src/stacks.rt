@@ -15,14 +15,14 @@ use sdf_paths::Path;
 use sdf_values::LayerOffset;
 use std::alloc::{AllocError, Global};
 
-// Appends a layer's name and a path.
+/// Appends a layer's name and a path.
 fn push_place(out: &mut String, layer: &AssetId, path: &Path) -> Result<(), AllocError> {
     out.push_str(layer.text())?;
     out.push_str(" ")?;
     push_target(out, path)
 }
 
-// Appends a key of a world.
+/// Appends a key of a world.
 fn push_key(out: &mut String, key: &Key) -> Result<(), AllocError> {
     match key {
         Key::Head(layer) => {
@@ -54,14 +54,14 @@ pub(crate) fn push_keys(out: &mut String, word: &str, keys: &[Key]) -> Result<()
     Ok(())
 }
 
-// Appends a line for the name of a stack.
+/// Appends a line for the name of a stack.
 fn push_name(out: &mut String, name: &StackName) -> Result<(), AllocError> {
     out.push_str("stack ")?;
     push_stack(out, name)?;
     out.push_str("\n")
 }
 
-// Appends a line for each layer of a stack.
+/// Appends a line for each layer of a stack.
 fn push_layers(out: &mut String, layers: &[(AssetId, LayerOffset)]) -> Result<(), AllocError> {
     for (name, offset) in layers {
         out.push_str("layer ")?;
@@ -73,7 +73,7 @@ fn push_layers(out: &mut String, layers: &[(AssetId, LayerOffset)]) -> Result<()
     Ok(())
 }
 
-// Appends a line for each name that was asked.
+/// Appends a line for each name that was asked.
 fn push_asked(out: &mut String, asked: &[AssetId]) -> Result<(), AllocError> {
     for name in asked {
         out.push_str("asked ")?;
@@ -83,7 +83,7 @@ fn push_asked(out: &mut String, asked: &[AssetId]) -> Result<(), AllocError> {
     Ok(())
 }
 
-// Appends all that a layer stack has.
+/// Appends all that a layer stack has.
 fn push_found(out: &mut String, found: &LayerStack) -> Result<(), CallFault> {
     push_name(out, &found.name)?;
     push_layers(out, found.layers.as_slice())?;
@@ -105,7 +105,7 @@ pub(crate) fn push_stack_call(
     told
 }
 
-// Appends the first words of the line of an arc.
+/// Appends the first words of the line of an arc.
 fn push_target_of(out: &mut String, arc: &ArcItem) -> Result<(), AllocError> {
     out.push_str("arc ")?;
     push_stack(out, &arc.stack)?;
@@ -122,14 +122,14 @@ fn push_arc(out: &mut String, arc: &ArcItem) -> Result<(), AllocError> {
     out.push_str("\n")
 }
 
-// The name of a stack and the path that words tell.
+/// The name of a stack and the path that words tell.
 fn place_of(alloc: Global, words: &str) -> Result<(StackName, Path), CallFault> {
     let (name, path) = first_word(words);
     let name = stack_name(alloc, name)?;
     Ok((name, path_of(alloc, path)?))
 }
 
-// The arcs of a kind, of a stack and a path, that words tell.
+/// The arcs of a kind, of a stack and a path, that words tell.
 fn arcs_of(alloc: Global, world: &World, words: &str) -> Result<ArcsHere, CallFault> {
     let (kind, words) = first_word(words);
     let kind = kind_of(kind)?;
@@ -138,7 +138,7 @@ fn arcs_of(alloc: Global, world: &World, words: &str) -> Result<ArcsHere, CallFa
     Ok(arcs_at(alloc, world, &stack, &path, kind)?)
 }
 
-// Appends arcs, and the faults of items that are none.
+/// Appends arcs, and the faults of items that are none.
 fn push_arcs(out: &mut String, here: &ArcsHere) -> Result<(), CallFault> {
     for arc in here.items.as_slice() {
         push_arc(out, arc)?;
@@ -180,7 +180,7 @@ struct Authored {
     has_spec: bool,
 }
 
-// What the layers author of the stack and at the path that words tell.
+/// What the layers author of the stack and at the path that words tell.
 fn authored_by_words(alloc: Global, world: &World, words: &str) -> Result<Authored, CallFault> {
     let (name, path) = place_of(alloc, words)?;
     let stack = stack_of(alloc, world, &name)?;
@@ -194,7 +194,7 @@ fn authored_by_words(alloc: Global, world: &World, words: &str) -> Result<Author
     })
 }
 
-// Appends a line for each variant set.
+/// Appends a line for each variant set.
 fn push_sets(out: &mut String, sets: &[Text]) -> Result<(), AllocError> {
     for set in sets {
         out.push_str("set ")?;
@@ -204,7 +204,7 @@ fn push_sets(out: &mut String, sets: &[Text]) -> Result<(), AllocError> {
     Ok(())
 }
 
-// Appends what is authored.
+/// Appends what is authored.
 fn push_authored(out: &mut String, found: &Authored) -> Result<(), CallFault> {
     push_sets(out, found.sets.as_slice())?;
     push_choices(out, "selection", found.selections.as_slice())?;

@@ -15,7 +15,7 @@ use std::mem;
 /// As many paths as a stage has at most.
 const MAX_PATHS: usize = 262_144;
 
-// The stage of a world.
+/// The stage of a world.
 fn composed(alloc: Global, world: &World) -> Result<Stage, CallFault> {
     match stage_items_within(alloc, &UsdComposer::new(alloc), world, MAX_PATHS) {
         Ok(items) => Ok(Edition::build(alloc, 0, 0, items, None)?),
@@ -24,7 +24,7 @@ fn composed(alloc: Global, world: &World) -> Result<Stage, CallFault> {
     }
 }
 
-// Composes the stage of the world that was opened, where it was not asked before.
+/// Composes the stage of the world that was opened, where it was not asked before.
 fn compose_once(alloc: Global, opened: &mut Opened) -> Result<(), CallFault> {
     if opened.stage.is_none() {
         let stage = composed(alloc, &opened.world)?;
@@ -33,7 +33,7 @@ fn compose_once(alloc: Global, opened: &mut Opened) -> Result<(), CallFault> {
     Ok(())
 }
 
-// The question of a line.
+/// The question of a line.
 fn question_of(alloc: Global, line: &str) -> Result<Question, CallFault> {
     match read_line(alloc, line.as_bytes())? {
         Some(Line::Ask(question)) => Ok(question),
@@ -44,13 +44,13 @@ fn question_of(alloc: Global, line: &str) -> Result<Question, CallFault> {
     }
 }
 
-// Appends bytes as text.
+/// Appends bytes as text.
 pub(crate) fn push_bytes(alloc: Global, out: &mut String, bytes: &[u8]) -> Result<(), AllocError> {
     let text = String::from_utf8_lossy(alloc, bytes)?;
     out.push_str(text.as_str())
 }
 
-// Appends the answer to a question on the stage that was composed.
+/// Appends the answer to a question on the stage that was composed.
 fn push_reply(
     alloc: Global,
     out: &mut String,

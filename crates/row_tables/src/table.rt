@@ -56,7 +56,7 @@ pub(crate) struct Table {
     pub strange: Vec<usize>,
 }
 
-// The files and rows of a world of which nothing was read yet.
+/// The files and rows of a world of which nothing was read yet.
 fn empty_case(alloc: Global) -> Case {
     Case {
         session: String::new(alloc),
@@ -66,13 +66,13 @@ fn empty_case(alloc: Global) -> Case {
     }
 }
 
-// Appends a line with its line feed.
+/// Appends a line with its line feed.
 fn push_line(text: &mut String, line: &str) -> Result<(), AllocError> {
     text.push_str(line)?;
     text.push_str("\n")
 }
 
-// Makes bytes so many by further `-`, or leaves out the last ones.
+/// Makes bytes so many by further `-`, or leaves out the last ones.
 fn fill(alloc: Global, bytes: &mut Vec<u8>, size: usize) -> Result<(), AllocError> {
     let mut piece = Vec::new(alloc);
     piece.resize(PIECE, b'-')?;
@@ -93,7 +93,7 @@ struct Draft {
 }
 
 impl Draft {
-    // Ends the file or the row that was begun.
+    /// Ends the file or the row that was begun.
     fn end(&mut self) -> Result<(), AllocError> {
         if let Some(file) = self.file.take() {
             self.case.files.push(file)?;
@@ -104,7 +104,7 @@ impl Draft {
         Ok(())
     }
 
-    // Ends the world that was begun.
+    /// Ends the world that was begun.
     fn end_case(&mut self) -> Result<(), AllocError> {
         self.end()?;
         let case = mem::replace(&mut self.case, empty_case(self.alloc));
@@ -123,7 +123,7 @@ impl Draft {
         Ok(())
     }
 
-    // A line of a file with its end; false where none was begun.
+    /// A line of a file with its end; false where none was begun.
     fn push_text(&mut self, text: &str, end: &str) -> Result<bool, AllocError> {
         match &mut self.file {
             Some((_name, bytes)) => {
@@ -135,7 +135,7 @@ impl Draft {
         }
     }
 
-    // The size of a file; false where none was begun.
+    /// The size of a file; false where none was begun.
     fn set_size(&mut self, size: &str) -> Result<bool, AllocError> {
         match (self.file.take(), size.parse::<usize>()) {
             (Some((name, mut bytes)), Ok(size)) => {
@@ -147,7 +147,7 @@ impl Draft {
         }
     }
 
-    // A line that belongs to a call, or is wanted of it; false where no call was begun.
+    /// A line that belongs to a call, or is wanted of it; false where no call was begun.
     fn push_row_line(&mut self, text: &str, is_wanted: bool) -> Result<bool, AllocError> {
         match &mut self.row {
             Some(row) => {
@@ -162,7 +162,7 @@ impl Draft {
         }
     }
 
-    // Takes all lines of a text.
+    /// Takes all lines of a text.
     fn take_all(&mut self, text: &str) -> Result<(), AllocError> {
         let mut number: usize = 0;
         for line in text.split('\n') {
@@ -174,14 +174,14 @@ impl Draft {
         self.end_case()
     }
 
-    // Begins a file without bytes.
+    /// Begins a file without bytes.
     fn begin_file(&mut self, name: &str) -> Result<(), AllocError> {
         let name = String::from_str(self.alloc, name)?;
         self.file = Some((name, Vec::new(self.alloc)));
         Ok(())
     }
 
-    // Takes a line that tells of the session layer or of fetches that fail; false where it does not.
+    /// Takes a line that tells of the session layer or of fetches that fail; false where it does not.
     fn take_told(&mut self, line: &str) -> Result<bool, AllocError> {
         if let Some(name) = line.strip_prefix("session ") {
             self.case.session = String::from_str(self.alloc, name)?;
@@ -196,7 +196,7 @@ impl Draft {
         }
     }
 
-    // Takes a line that begins with a word; false where no table has it there.
+    /// Takes a line that begins with a word; false where no table has it there.
     fn take_word(&mut self, line: &str) -> Result<bool, AllocError> {
         if let Some(size) = line.strip_prefix("size ") {
             return self.set_size(size);
@@ -215,7 +215,7 @@ impl Draft {
         }
     }
 
-    // Takes a line of a row; false where no table has it there.
+    /// Takes a line of a row; false where no table has it there.
     fn take_row(&mut self, number: usize, line: &str) -> Result<bool, AllocError> {
         if let Some(call) = line.strip_prefix("? ") {
             self.begin_row(number, call)?;
@@ -230,7 +230,7 @@ impl Draft {
         }
     }
 
-    // Takes a line; false where no table has it there.
+    /// Takes a line; false where no table has it there.
     fn take(&mut self, number: usize, line: &str) -> Result<bool, AllocError> {
         if line.is_empty() || line.starts_with("#") {
             return Ok(true);

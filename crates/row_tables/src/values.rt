@@ -28,21 +28,21 @@ struct Asked {
     name: Text,
 }
 
-// The property that a word is the path of.
+/// The property that a word is the path of.
 fn asked_of(alloc: Global, world: &World, word: &str) -> Result<Asked, CallFault> {
     let (prim, name) = property_of(alloc, word)?;
     let found = index(alloc, world, &prim)?;
     Ok(Asked { found, name })
 }
 
-// Appends what is resolved of an attribute.
+/// Appends what is resolved of an attribute.
 fn push_resolved(out: &mut String, value: &AttrValue) -> Result<(), CallFault> {
     push_default(out, &value.default)?;
     push_samples(out, "", &value.samples)?;
     Ok(push_faults(out, value.faults.as_slice())?)
 }
 
-// Appends the value of the attribute that is asked for.
+/// Appends the value of the attribute that is asked for.
 fn push_value_at(
     alloc: Global,
     out: &mut String,
@@ -77,13 +77,13 @@ fn push_target_line(out: &mut String, targets: &Option<Items<Path>>) -> Result<(
     out.push_str("\n")
 }
 
-// Appends the list of targets and its faults.
+/// Appends the list of targets and its faults.
 fn push_list(out: &mut String, list: &TargetList) -> Result<(), CallFault> {
     push_target_line(out, &list.targets)?;
     Ok(push_faults(out, list.faults.as_slice())?)
 }
 
-// Appends the targets or the connections of the property that is asked for.
+/// Appends the targets or the connections of the property that is asked for.
 fn push_targets_at(
     alloc: Global,
     out: &mut String,

@@ -48,7 +48,7 @@ fn push_paths(out: &mut String, word: &str, paths: &Option<Items<Path>>) -> Resu
     }
 }
 
-// Appends the name and the type of an attribute.
+/// Appends the name and the type of an attribute.
 fn push_typed_name(out: &mut String, name: &Text, ty: TypeName) -> Result<(), AllocError> {
     out.push_str("attr ")?;
     out.push_str(name.as_str())?;
@@ -56,7 +56,7 @@ fn push_typed_name(out: &mut String, name: &Text, ty: TypeName) -> Result<(), Al
     push_type(out, ty)
 }
 
-// Appends the first line of an attribute.
+/// Appends the first line of an attribute.
 fn push_attribute(
     out: &mut String,
     name: &Text,
@@ -70,7 +70,7 @@ fn push_attribute(
     out.push_str("\n")
 }
 
-// Appends the first line of a relationship.
+/// Appends the first line of a relationship.
 fn push_relationship(out: &mut String, name: &Text, custom: bool) -> Result<(), AllocError> {
     out.push_str("rel ")?;
     out.push_str(name.as_str())?;
@@ -78,7 +78,7 @@ fn push_relationship(out: &mut String, name: &Text, custom: bool) -> Result<(), 
     out.push_str("\n")
 }
 
-// Appends the lines of a property.
+/// Appends the lines of a property.
 fn push_property(out: &mut String, property: &PropertyView) -> Result<(), AllocError> {
     match property {
         PropertyView::Attr {
@@ -110,7 +110,7 @@ fn push_property(out: &mut String, property: &PropertyView) -> Result<(), AllocE
     }
 }
 
-// The names of properties.
+/// The names of properties.
 fn names_of(alloc: Global, properties: &[PropertyView]) -> Result<Items<Text>, AllocError> {
     let mut names = Items::new(alloc);
     for property in properties {
@@ -119,7 +119,7 @@ fn names_of(alloc: Global, properties: &[PropertyView]) -> Result<Items<Text>, A
     Ok(names)
 }
 
-// Appends the lines of the fields of a view.
+/// Appends the lines of the fields of a view.
 fn push_view_fields(alloc: Global, out: &mut String, view: &PrimView) -> Result<(), AllocError> {
     let names = names_of(alloc, view.properties.as_slice())?;
     push_fields(
@@ -136,7 +136,7 @@ fn push_view_fields(alloc: Global, out: &mut String, view: &PrimView) -> Result<
     )
 }
 
-// Appends the lines of a view.
+/// Appends the lines of a view.
 fn push_view(
     alloc: Global,
     out: &mut String,

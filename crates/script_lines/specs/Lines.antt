@@ -96,7 +96,7 @@ is_at_front fault = false
 unfoldable pub is_open_comment : Lexer → Bool
 is_open_comment t = if no_word (left t).words then is_at_front (left t).fault else false
 
--- a line that begins with a comment is passed over whole
+-- a line that begins with a comment is passed over whole, unless the comment has no end on the line
 unfoldable pub comment_line : List ℕ → Option Line
 comment_line bytes = lexer_of bytes >>= λ t. if is_open_comment t then None else Some Blank
 

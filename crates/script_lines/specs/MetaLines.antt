@@ -17,13 +17,15 @@ use Rattle.script_lines.specs.declared.line.Line.TheVariants.{Change}
 
 -- ---- metadata
 
--- the words of list fields
+-- the word of a field whose items are paths
 abbrev pub is_path_field : List ℕ → Bool
 is_path_field word = same_text word (codes "inherits") || same_text word (codes "specializes")
 
+-- the word of a field whose items are references
 abbrev pub is_reference_field : List ℕ → Bool
 is_reference_field word = same_text word (codes "references") || same_text word (codes "payload")
 
+-- the word of a field whose items are texts
 abbrev pub is_text_field : List ℕ → Bool
 is_text_field word = same_text word (codes "variantSets") || (same_text word (codes "apiSchemas") || same_text word (codes "clipSets"))
 
@@ -81,12 +83,14 @@ order_line bytes =
 
 -- ---- load rules
 
--- `load`, `unload`, `unrule`: a path
+-- `load`: a path
 unfoldable pub load_line : List ℕ → Option Line
 load_line bytes = path_at bytes >>= λ p. changed (op.Load p.0) p.1
 
+-- `unload`: a path
 unfoldable pub unload_line : List ℕ → Option Line
 unload_line bytes = path_at bytes >>= λ p. changed (op.Unload p.0) p.1
 
+-- `unrule`: a path
 unfoldable pub unrule_line : List ℕ → Option Line
 unrule_line bytes = path_at bytes >>= λ p. changed (op.Unrule p.0) p.1

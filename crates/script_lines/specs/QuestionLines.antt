@@ -22,22 +22,26 @@ asked q bytes = ended (Ask q) bytes
 unfoldable pub value_line : List ℕ → Option Line
 value_line bytes = property_at bytes >>= λ p. number_at p.1 >>= λ n. time_in n.0 >>= λ time. asked (question.Value p.0 time) n.1
 
--- `default`, `samples`, `targets`: a property
+-- `default`: a property
 unfoldable pub default_line : List ℕ → Option Line
 default_line bytes = property_at bytes >>= λ p. asked (question.Default p.0) p.1
 
+-- `samples`: a property
 unfoldable pub samples_line : List ℕ → Option Line
 samples_line bytes = property_at bytes >>= λ p. asked (question.Samples p.0) p.1
 
+-- `targets`: a property
 unfoldable pub targets_line : List ℕ → Option Line
 targets_line bytes = property_at bytes >>= λ p. asked (question.Targets p.0) p.1
 
--- `children`, `faults`, `sites`: any path
+-- `children`: any path
 unfoldable pub children_line : List ℕ → Option Line
 children_line bytes = path_at bytes >>= λ p. asked (question.Children p.0) p.1
 
+-- `faults`: any path
 unfoldable pub faults_line : List ℕ → Option Line
 faults_line bytes = path_at bytes >>= λ p. asked (question.Faults p.0) p.1
 
+-- `sites`: any path
 unfoldable pub sites_line : List ℕ → Option Line
 sites_line bytes = path_at bytes >>= λ p. asked (question.Sites p.0) p.1

@@ -13,10 +13,11 @@ use Rattle.script_words.specs.Words.{name_at, text_at, layer_at, is_end, behind_
 use Rattle.script_lines.specs.Places.{target_at, changed}
 use Rattle.script_lines.specs.declared.line.Line.{Line}
 
--- `newlayer`: a layer, and its text or none
+-- a new layer of this name, with the text that stands behind it, or none
 unfoldable pub new_layer_of : List ℕ → List ℕ → Option Line
 new_layer_of layer bytes = if is_end bytes then changed (op.NewLayer layer None) bytes else (text_at bytes >>= λ t. changed (op.NewLayer layer (Some t.0)) t.1)
 
+-- `newlayer`: a layer, and its text or none
 unfoldable pub new_layer_line : List ℕ → Option Line
 new_layer_line bytes = layer_at bytes >>= λ l. new_layer_of l.0 l.1
 

@@ -59,7 +59,7 @@ fn texts_list(alloc: Global, word: &str, base: &Path, bytes: &[u8]) -> Result<Fi
     })
 }
 
-// Targets or connections, without selections.
+/// Targets or connections, without selections.
 #[tactic(auto, unfolding(crate::specs::FieldLines::targets_in))]
 fn targets_in(alloc: Global, base: &Path, bytes: &[u8]) -> Result<Items<Path>, LineFault>
     ensures { Finds result (targets_in base.now bytes.now) }
@@ -69,7 +69,7 @@ fn targets_in(alloc: Global, base: &Path, bytes: &[u8]) -> Result<Items<Path>, L
     Ok(first_paths(alloc, items)?)
 }
 
-// The list of the field that a word names.
+/// The list of the field that a word names.
 #[tactic(auto, unfolding(crate::specs::FieldLines::field_list))]
 fn field_list(alloc: Global, word: &str, base: &Path, bytes: &[u8]) -> Result<FieldList, LineFault>
     ensures { Finds result (field_list word.now base.now bytes.now) }
@@ -91,7 +91,7 @@ fn field_list(alloc: Global, word: &str, base: &Path, bytes: &[u8]) -> Result<Fi
     }
 }
 
-// An edit word, and the bytes behind it.
+/// An edit word, and the bytes behind it.
 #[tactic(auto, unfolding(crate::specs::FieldLines::edit_word_at))]
 fn edit_word_at(bytes: &[u8]) -> Result<(ListEdit, &[u8]), LineFault>
     ensures { FindsAs (λ x. (x.0, x.1.now)) result (edit_word_at bytes.now) }
@@ -103,7 +103,7 @@ fn edit_word_at(bytes: &[u8]) -> Result<(ListEdit, &[u8]), LineFault>
     }
 }
 
-// An edit word or none, and then `=`.
+/// An edit word or none, and then `=`.
 #[tactic(auto, unfolding(crate::specs::FieldLines::edit_at))]
 fn edit_at(bytes: &[u8]) -> Result<(ListEdit, &[u8]), LineFault>
     ensures { FindsAs (λ x. (x.0, x.1.now)) result (edit_at bytes.now) }
@@ -136,7 +136,7 @@ pub fn list_line(alloc: Global, bytes: &[u8]) -> Result<Line, LineFault>
     }))
 }
 
-// Sublayers in brackets, in which repeats stay.
+/// Sublayers in brackets, in which repeats stay.
 #[tactic(auto, unfolding(crate::specs::FieldLines::sublayers_in))]
 fn sublayers_in(alloc: Global, bytes: &[u8]) -> Result<Items<WrittenSubLayer>, LineFault>
     ensures { Finds result (sublayers_in bytes.now) }

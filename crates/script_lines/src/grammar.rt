@@ -23,7 +23,7 @@ use stage_questions::Question;
 use std::alloc::{AllocError, Global};
 use usda_lexer::{LexFault, Tokens, begins, is_blank};
 
-// Behind `open`: a layer.
+/// Behind `open`: a layer.
 #[tactic(auto, unfolding(crate::specs::Lines::open_line))]
 fn open_line(alloc: Global, bytes: &[u8]) -> Result<Line, LineFault>
     ensures { Finds result (open_line bytes.now) }
@@ -32,7 +32,7 @@ fn open_line(alloc: Global, bytes: &[u8]) -> Result<Line, LineFault>
     ended(Line::Open(layer), rest)
 }
 
-// Lines of lists, selections, orders, sublayers and load rules.
+/// Lines of lists, selections, orders, sublayers and load rules.
 #[tactic(auto, unfolding(crate::specs::Lines::field_worded))]
 fn field_worded(alloc: Global, word: &str, bytes: &[u8]) -> Result<Line, LineFault>
     ensures { Finds result (field_worded word.now bytes.now) }
@@ -50,7 +50,7 @@ fn field_worded(alloc: Global, word: &str, bytes: &[u8]) -> Result<Line, LineFau
     }
 }
 
-// Lines of values and metadata, and those above.
+/// Lines of values and metadata, and those of `field_worded`.
 #[tactic(auto, unfolding(crate::specs::Lines::value_worded))]
 fn value_worded(alloc: Global, word: &str, bytes: &[u8]) -> Result<Line, LineFault>
     ensures { Finds result (value_worded word.now bytes.now) }
@@ -66,7 +66,7 @@ fn value_worded(alloc: Global, word: &str, bytes: &[u8]) -> Result<Line, LineFau
     }
 }
 
-// Lines that add and remove, and those above.
+/// Lines that add and remove, and those of `value_worded`.
 #[tactic(auto, unfolding(crate::specs::Lines::spec_worded))]
 fn spec_worded(alloc: Global, word: &str, bytes: &[u8]) -> Result<Line, LineFault>
     ensures { Finds result (spec_worded word.now bytes.now) }
@@ -82,7 +82,7 @@ fn spec_worded(alloc: Global, word: &str, bytes: &[u8]) -> Result<Line, LineFaul
     }
 }
 
-// Questions, and the lines above.
+/// Questions, and the lines of `spec_worded`.
 #[tactic(auto, unfolding(crate::specs::Lines::question_worded))]
 fn question_worded(alloc: Global, word: &str, bytes: &[u8]) -> Result<Line, LineFault>
     ensures { Finds result (question_worded word.now bytes.now) }
@@ -100,7 +100,7 @@ fn question_worded(alloc: Global, word: &str, bytes: &[u8]) -> Result<Line, Line
     }
 }
 
-// A line that begins with this word.
+/// A line that begins with this word.
 #[tactic(auto, unfolding(crate::specs::Lines::worded))]
 fn worded(alloc: Global, word: &str, bytes: &[u8]) -> Result<Line, LineFault>
     ensures { Finds result (worded word.now bytes.now) }
@@ -114,14 +114,14 @@ fn worded(alloc: Global, word: &str, bytes: &[u8]) -> Result<Line, LineFault>
     }
 }
 
-// Whether a byte, before these, begins a comment.
+/// Whether a byte, before these, begins a comment.
 fn begins_comment(c: u8, rest: &[u8]) -> bool
     ensures { result ≡ begins_comment c rest.now }
 {
     c == b'#' || (c == b'/' && (begins(b'/', rest) || begins(b'*', rest)))
 }
 
-// Whether a comment in front has no end.
+/// Whether a comment in front has no end.
 #[tactic(auto, unfolding(crate::specs::Lines::is_open_comment))]
 fn is_open_comment(tokens: &Tokens<'_>) -> bool
     ensures { result ≡ is_open_comment tokens.now }
@@ -132,7 +132,7 @@ fn is_open_comment(tokens: &Tokens<'_>) -> bool
     }
 }
 
-// A line that begins with a comment.
+/// A line that begins with a comment.
 #[tactic(auto, unfolding(crate::specs::Lines::comment_line))]
 fn comment_line(bytes: &[u8]) -> Result<Line, LineFault>
     ensures { Finds result (comment_line bytes.now) }
@@ -145,7 +145,7 @@ fn comment_line(bytes: &[u8]) -> Result<Line, LineFault>
     }
 }
 
-// A line that begins with a word.
+/// A line that begins with a word.
 #[tactic(auto, unfolding(crate::specs::Lines::word_line))]
 fn word_line(alloc: Global, bytes: &[u8]) -> Result<Line, LineFault>
     ensures { Finds result (word_line bytes.now) }
@@ -154,7 +154,7 @@ fn word_line(alloc: Global, bytes: &[u8]) -> Result<Line, LineFault>
     worded(alloc, word, rest)
 }
 
-// A line without the blanks in front.
+/// A line without the blanks in front.
 #[tactic(auto, unfolding(crate::specs::Lines::line_from))]
 fn line_from(alloc: Global, bytes: &[u8]) -> Result<Line, LineFault>
     ensures { Finds result (line_from bytes.now) }
@@ -169,7 +169,7 @@ fn line_from(alloc: Global, bytes: &[u8]) -> Result<Line, LineFault>
     }
 }
 
-// How many blanks stand in front.
+/// How many blanks stand in front.
 fn blanks_len(bytes: &[u8]) -> usize
     ensures value { result ≡ blanks_len bytes.now }
     ensures within { result ≤ length bytes.now }
@@ -182,7 +182,7 @@ fn blanks_len(bytes: &[u8]) -> usize
     bytes.len()
 }
 
-// Whether the bytes are UTF-8.
+/// Whether the bytes are UTF-8.
 fn is_text(bytes: &[u8]) -> bool
     ensures { result ≡ is_utf8 bytes.now }
 {

@@ -1,8 +1,8 @@
 //! The lines of a session's script, each read for itself.
 #![tactic(auto)]
 
-// What is read. Where it is not there, what was read before it is let go by one call, and the function returns: a `?` would go over each
-// field of it.
+/// What is read. Where it is not there, what was read before it is let go by one call, and the function returns: a `?` would go
+/// over each field of it.
 macro_rules! read_or_drop {
     ($read:expr, $before:expr) => {
         match $read {

@@ -5,7 +5,7 @@ use stage_questions::Question;
 /// A line of a script, read for itself.
 #[derive(Debug, Drop)]
 pub enum Line {
-    /// Blanks, or a comment.
+    /// Blanks, or any line that a comment begins.
     Blank,
     /// `begin`: operations follow.
     Begin,

@@ -35,7 +35,7 @@ pub fn is_text_field(word: &str) -> bool
     word == "variantSets" || word == "apiSchemas" || word == "clipSets"
 }
 
-// Words that a layer's text gives another meaning, so that they are no keys.
+/// Words that a layer's text gives another meaning, so that they are no keys.
 #[tactic(auto, unfolding(crate::specs::MetaLines::is_no_key))]
 fn is_no_key(word: &str) -> bool
     ensures { result ≡ is_no_key word.now }
@@ -48,7 +48,7 @@ fn is_no_key(word: &str) -> bool
         || word == "relocates"
 }
 
-// A key, and the bytes behind it.
+/// A key, and the bytes behind it.
 #[tactic(auto, unfolding(crate::specs::MetaLines::key_at))]
 fn key_at(bytes: &[u8]) -> Result<(&str, &[u8]), LineFault>
     ensures { FindsAs (λ x. (x.0.now, x.1.now)) result (key_at bytes.now) }
@@ -95,7 +95,7 @@ pub fn unmeta_line(alloc: Global, bytes: &[u8]) -> Result<Line, LineFault>
     changed(Op::ClearMeta { layer, path, key }, rest)
 }
 
-// The name of a variant set, and the bytes behind it.
+/// The name of a variant set, and the bytes behind it.
 #[tactic(auto, unfolding(crate::specs::MetaLines::set_at))]
 fn set_at(bytes: &[u8]) -> Result<(&str, &[u8]), LineFault>
     ensures { FindsAs (λ x. (x.0.now, x.1.now)) result (set_at bytes.now) }
@@ -155,7 +155,7 @@ fn order_of(word: &str) -> Option<OrderWord>
     }
 }
 
-// Names in brackets, in which repeats stay.
+/// Names in brackets, in which repeats stay.
 #[tactic(auto, unfolding(crate::specs::MetaLines::names_in))]
 fn names_in(alloc: Global, bytes: &[u8]) -> Result<Items<Text>, LineFault>
     ensures { Finds result (names_in bytes.now) }

@@ -10,7 +10,7 @@ use stage_questions::Question;
 use std::alloc::Global;
 use usda_values::finite_time;
 
-// The path of a property, and the bytes behind it.
+/// The path of a property, and the bytes behind it.
 #[tactic(auto, unfolding(crate::specs::QuestionLines::property_at))]
 fn property_at(alloc: Global, bytes: &[u8]) -> Result<(Path, &[u8]), LineFault>
     ensures { FindsAs (λ x. (x.0, x.1.now)) result (property_at bytes.now) }

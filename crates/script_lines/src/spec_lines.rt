@@ -52,7 +52,7 @@ fn specifier_of(word: &str) -> Option<Specifier>
     }
 }
 
-// A type of a prim or none, and the bytes behind it.
+/// A type of a prim or none, and the bytes behind it.
 #[tactic(auto, unfolding(crate::specs::SpecLines::prim_type_at))]
 fn prim_type_at(alloc: Global, bytes: &[u8]) -> Result<(Option<Text>, &[u8]), LineFault>
     ensures { FindsAs (λ x. (x.0, x.1.now)) result (prim_type_at bytes.now) }
@@ -103,7 +103,7 @@ fn type_of(array: bool, element: Option<ElementType>) -> Option<TypeName>
     }
 }
 
-// Whether a pair of brackets stands in front, and the bytes behind it or else all.
+/// Whether a pair of brackets stands in front, and the bytes behind it or else all.
 #[tactic(auto, unfolding(crate::specs::SpecLines::brackets_at))]
 fn brackets_at(bytes: &[u8]) -> Result<(bool, &[u8]), LineFault>
     ensures { FindsAs (λ x. (x.0, x.1.now)) result (brackets_at bytes.now) }
@@ -117,7 +117,7 @@ fn brackets_at(bytes: &[u8]) -> Result<(bool, &[u8]), LineFault>
     }
 }
 
-// A type of attributes, if what is written is one, and the bytes behind it.
+/// A type of attributes, if what is written is one, and the bytes behind it.
 #[tactic(auto, unfolding(crate::specs::SpecLines::type_at))]
 fn type_at(bytes: &[u8]) -> Result<(Option<TypeName>, &[u8]), LineFault>
     ensures { FindsAs (λ x. (x.0, x.1.now)) result (type_at bytes.now) }

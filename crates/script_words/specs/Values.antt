@@ -28,6 +28,6 @@ abbrev pub value_from : List Element → OpenValue → List Word → Option Valu
 value_from base v [] = whole_value v
 value_from base v (w ∷ ws) = made (given base w.kind w.text v) >>= λ next. value_from base next ws
 
--- the value of all tokens of these bytes, of which nothing is expected; a path that does not begin with `/` is taken from this prim
+-- the value of all tokens of these bytes, where no type is expected; a path that does not begin with `/` is taken from this prim
 unfoldable pub value_in : List Element → List ℕ → Option Value
 value_in base bytes = lexer_of bytes >>= λ t. of_all (value_from base (opened Untyped false)) (left t)

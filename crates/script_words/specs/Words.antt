@@ -105,7 +105,7 @@ layer_at bytes = read_at layer_of bytes
 
 -- ---- paths
 
--- the byte that begins no token, where no token stands before it
+-- where the byte stands that begins no token, if that is the fault
 abbrev pub bad_byte : Option LexFault → Option ℕ
 bad_byte (Some (BadByte at)) = Some at
 bad_byte fault = None

@@ -43,7 +43,7 @@ impl ListItems {
     }
 }
 
-// Times as they are.
+/// Times as they are.
 fn no_offset() -> WrittenOffset
     ensures { result ≡ no_offset }
 {
@@ -118,7 +118,7 @@ fn with_target(
     Ok(items)
 }
 
-// An asset without a path; the empty asset is none.
+/// An asset without a path; the empty asset is none.
 fn asset_reference(alloc: Global, text: &str) -> Result<WrittenReference, AllocError>
     ensures { IfOk result (λ item. item ≡ asset_reference text.now) }
 {
@@ -134,7 +134,7 @@ fn asset_reference(alloc: Global, text: &str) -> Result<WrittenReference, AllocE
     })
 }
 
-// The path of an item; `<>` is none.
+/// The path of an item; `<>` is none.
 fn path_or_none(alloc: Global, base: &Path, text: &str) -> Result<Option<Path>, LineFault>
     ensures { Finds result (made (path_or_none base.now text.now)) }
 {
@@ -147,7 +147,7 @@ fn path_or_none(alloc: Global, base: &Path, text: &str) -> Result<Option<Path>, 
     }
 }
 
-// Gives the last item a path.
+/// Gives the last item a path.
 fn amend_path(
     path: Option<Path>,
     items: Items<WrittenReference>,
@@ -185,7 +185,7 @@ fn put_path(
     }
 }
 
-// Gives the last item an offset or a scale.
+/// Gives the last item an offset or a scale.
 fn amend_offset(
     key: OffsetKey,
     number: Num,
@@ -248,7 +248,7 @@ fn with_reference(
     }
 }
 
-// Gives the last sublayer an offset or a scale.
+/// Gives the last sublayer an offset or a scale.
 fn amend_sublayer(
     key: OffsetKey,
     number: Num,

@@ -26,7 +26,7 @@ pub struct ListDraft {
     pub items: ListItems,
 }
 
-// The draft behind a token.
+/// The draft behind a token.
 #[tactic(auto, unfolding(crate::specs::Lists::draft_behind))]
 fn draft_behind(
     alloc: Global,
@@ -58,7 +58,7 @@ fn draft_behind(
     }
 }
 
-// The items, where the list may end.
+/// The items, where the list may end.
 fn whole_list(draft: ListDraft) -> Result<ListItems, LineFault>
     ensures { Finds result (whole_list draft) }
 {
@@ -70,7 +70,7 @@ fn whole_list(draft: ListDraft) -> Result<ListItems, LineFault>
     }
 }
 
-// The items of the list that the tokens complete.
+/// The items of the list that the tokens complete.
 fn list_from(
     alloc: Global,
     base: &Path,

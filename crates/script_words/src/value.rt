@@ -14,7 +14,7 @@ use usda_lexer::{Token, Tokens};
 use usda_statements::OpenValue;
 use usda_values::Shape;
 
-// The value, where it is complete.
+/// The value, where it is complete.
 fn whole_value(alloc: Global, value: &mut OpenValue) -> Result<Value, LineFault>
     ensures { Finds result (whole_value value.old) }
 {
@@ -25,7 +25,7 @@ fn whole_value(alloc: Global, value: &mut OpenValue) -> Result<Value, LineFault>
     }
 }
 
-// Takes a token: what is left behind it is read from what is there then.
+/// Takes a token: what is left behind it is read from what is there then.
 fn take_token(
     alloc: Global,
     base: &Path,
@@ -37,7 +37,7 @@ fn take_token(
     Ok(value.give(alloc, base, token.kind, token.text)?)
 }
 
-// The value that the tokens complete.
+/// The value that the tokens complete.
 fn value_from(
     alloc: Global,
     base: &Path,

@@ -30,7 +30,7 @@ pub fn tokens_of(bytes: &[u8]) -> Option<Tokens<'_>>
     }
 }
 
-// The first token, and the bytes behind it.
+/// The first token, and the bytes behind it.
 #[tactic(auto, unfolding(crate::specs::Words::token_at))]
 fn token_at(bytes: &[u8]) -> Option<(Token<'_>, &[u8])>
     ensures { option_map (λ x. (word_of x.0, x.1.now)) result ≡ token_at bytes.now }
@@ -43,7 +43,7 @@ fn token_at(bytes: &[u8]) -> Option<(Token<'_>, &[u8])>
     }
 }
 
-// Whether no token and no fault is left.
+/// Whether no token and no fault is left.
 fn is_over(tokens: &Tokens<'_>) -> bool
     ensures { result ≡ is_over (left tokens.now) }
 {
@@ -89,7 +89,7 @@ pub fn name_at(bytes: &[u8]) -> Result<(&str, &[u8]), LineFault>
     }
 }
 
-// The text that a string token stands for.
+/// The text that a string token stands for.
 fn string_of(alloc: Global, token: &str) -> Result<Text, LineFault>
     ensures { Finds result (string_text token.now) }
 {
@@ -159,7 +159,7 @@ pub fn layer_at(alloc: Global, bytes: &[u8]) -> Result<(AssetId, &[u8]), LineFau
     }
 }
 
-// How far it is to the next blank.
+/// How far it is to the next blank.
 fn run_len(bytes: &[u8]) -> usize
     ensures value { result ≡ run_len bytes.now }
     ensures within { result ≤ length bytes.now }
@@ -172,7 +172,7 @@ fn run_len(bytes: &[u8]) -> usize
     bytes.len()
 }
 
-// The path of these bytes, from the root down.
+/// The path of these bytes, from the root down.
 #[tactic(auto, unfolding(crate::specs::Words::path_in))]
 fn path_in(alloc: Global, run: &[u8]) -> Result<Path, LineFault>
     ensures { Finds result (path_in run.now) }
@@ -186,7 +186,7 @@ fn path_in(alloc: Global, run: &[u8]) -> Result<Path, LineFault>
     }
 }
 
-// The bytes up to the next blank as a path.
+/// The bytes up to the next blank as a path.
 #[tactic(auto, unfolding(crate::specs::Words::run_path))]
 fn run_path(alloc: Global, bytes: &[u8]) -> Result<(Path, &[u8]), LineFault>
     ensures { FindsAs (λ x. (x.0, x.1.now)) result (run_path bytes.now) }
@@ -196,7 +196,7 @@ fn run_path(alloc: Global, bytes: &[u8]) -> Result<(Path, &[u8]), LineFault>
     Ok((path, rest))
 }
 
-// Where the byte stands that begins no token, where no token stands before it.
+/// Where the byte stands that begins no token, where no token stands before it.
 fn stop_of(tokens: &Tokens<'_>) -> Option<usize>
     ensures value { result ≡ stop_of (left tokens.now) }
     ensures within { IfSome result (λ at. at ≤ length tokens.now.source) }
@@ -208,7 +208,7 @@ fn stop_of(tokens: &Tokens<'_>) -> Option<usize>
     }
 }
 
-// Where the byte stands that begins no token. Only blanks and comments stand before it.
+/// Where the byte stands that begins no token. Only blanks and comments stand before it.
 #[tactic(auto, unfolding(crate::specs::Words::path_start, crate::specs::Words::lexer_of))]
 fn path_start(bytes: &[u8]) -> Option<usize>
     ensures value { result ≡ path_start bytes.now }

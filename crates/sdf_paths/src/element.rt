@@ -1,6 +1,6 @@
 use plain_data::{ExactClone, ExactEq, ExactOrd, Text};
 
-/// One step of a path. Prims come before properties and properties before selections.
+/// One step of a path. In the order of paths a prim's name sorts before a property's, and that before a selection.
 #[derive(Clone, Debug, Drop, PartialEq, Eq, PartialOrd, Ord)]
 pub enum Element {
     /// The name of a prim, an identifier.
@@ -8,7 +8,12 @@ pub enum Element {
     /// The name of a property: identifiers joined by `:`, but not `inf` or `nan`, which are numbers.
     Property(Text),
     /// The choice of a variant in a variant set.
-    Selection { set: Text, variant: Text },
+    Selection {
+        /// The name of the variant set.
+        set: Text,
+        /// The name of the variant.
+        variant: Text,
+    },
 }
 
 impl ExactClone for Element {

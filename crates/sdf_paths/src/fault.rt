@@ -4,10 +4,12 @@ use thiserror::Error;
 /// Why there is no path.
 #[derive(Debug, Drop, Error)]
 pub enum PathFault {
-    /// The text is no path. `at` is the first byte with which none goes on, or past a limit the
-    /// first byte too many.
+    /// The text is no path. A call that makes a path of others gives 0: what would come out is no path.
     #[error("no path goes on at byte {at}")]
-    Bad { at: usize },
+    Bad {
+        /// The first byte with which no path goes on, or past a limit the first byte too many; 0 where no text is read.
+        at: usize,
+    },
     /// Memory ran out.
     #[error("out of memory")]
     NoMemory,

@@ -1,4 +1,4 @@
-// Paths of texts, and texts with paths in them.
+//! Paths of texts, and texts with paths in them.
 ghost use Rattle.std.specs.Prelude.{◌≡◌, ◌↔◌, ◌++◌, List, IfOk, OnOk, Some, string_bytes};
 ghost use Rattle.sdf_paths.specs.Paths.{IsReadAs, path_text, printed};
 ghost use Rattle.sdf_paths.specs.Reader.{path_of};
@@ -21,7 +21,7 @@ pub fn path_of(alloc: Global, text: &str) -> Result<Option<Path>, AllocError>
     }
 }
 
-/// Appends a path as it is printed.
+/// Appends a path as it is printed. After want of memory the text is of no use.
 pub fn push_path(out: &mut String, path: &Path) -> Result<(), AllocError>
     ensures { OnOk result (string_bytes out.new ≡ string_bytes out.old ++ printed path.now) }
 {
@@ -29,7 +29,7 @@ pub fn push_path(out: &mut String, path: &Path) -> Result<(), AllocError>
     out.push_str(text.as_str())
 }
 
-/// Appends a path between `<` and `>`.
+/// Appends a path between `<` and `>`. After want of memory the text is of no use.
 pub fn push_path_text(out: &mut String, path: &Path) -> Result<(), AllocError>
     ensures { OnOk result (string_bytes out.new ≡ string_bytes out.old ++ path_text path.now) }
 {

@@ -1,4 +1,4 @@
-// Whether a text is the name of a variant.
+//! Whether a text is the name of a variant.
 ghost use Rattle.std.specs.Prelude.{◌≡◌};
 ghost use Rattle.std.specs.Str.{chars};
 ghost use Rattle.usd_names.specs.Names.{is_variant, spells_variant};
@@ -38,7 +38,7 @@ fn is_whole(part: VariantPart) -> bool
     matches!(part, VariantPart::Run)
 }
 
-// Whether the characters of a text are the name of a variant.
+/// Whether the characters of a text are the name of a variant.
 fn spells_variant(text: &str) -> bool
     ensures { result ≡ spells_variant (chars text.now) }
 {

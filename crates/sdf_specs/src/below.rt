@@ -1,4 +1,4 @@
-// The prims and variants below a path.
+//! The prims and variants below a path.
 ghost use Rattle.std.specs.Prelude.{◌≡◌, IfOk, false};
 ghost use Rattle.std.specs.Option.{option_map};
 ghost use Rattle.sdf_paths.specs.Paths.{is_property};
@@ -21,7 +21,7 @@ pub fn stand_at_paths(layer: &Layer)
     }
 }
 
-// A spec with its path, which it is given.
+/// A spec with its path, which it is given.
 fn with_spec<'l>(layer: &'l Layer, path: Path) -> Option<(Path, &'l Spec)>
     ensures { IsAt (option_map (λ f. (f.0, f.1.now)) result) path (spec_at path layer.now.specs) }
 {

@@ -1,4 +1,4 @@
-// Keys of metadata.
+//! Keys of metadata.
 ghost use Rattle.std.specs.Prelude.{◌≡◌, IfOk};
 ghost use Rattle.sdf_specs.specs.Keys.{default_key};
 

@@ -1,4 +1,4 @@
-// What stands at a path and below it, in a table by path.
+//! What stands at a path and below it, in a table by path.
 ghost use Rattle.std.specs.Prelude.{◌≡◌, Some, Err, true, false, IfOk, OnOk, OnErr};
 ghost use Rattle.std.specs.Map.{keys_of};
 ghost use Rattle.sdf_specs.specs.Layers.{is_owner, has_parent, has_tree, tree, without_tree, without_paths, with_spec};

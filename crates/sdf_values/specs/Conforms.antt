@@ -103,6 +103,7 @@ abbrev pub is_block_step : Value-F Bool Bool → Bool
 is_block_step Value-F.Block = true
 is_block_step _ = false
 
+-- an entry is a block where its value is
 abbrev pub is_block_item : DictItem-F Bool Bool → Bool
 is_block_item item = item.value
 

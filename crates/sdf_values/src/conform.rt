@@ -1,4 +1,4 @@
-// Which values a type takes.
+//! Which values a type takes.
 ghost use Rattle.std.specs.Prelude.{◌≡◌, map};
 ghost use Rattle.sdf_values.specs.Conforms.{conforms, holds, all_hold, is_block, count_of, role_width, matrix_width, whole_bounds, is_between, members_of, are_members, one};
 

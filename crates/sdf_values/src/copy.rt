@@ -1,4 +1,4 @@
-// `clone`, written out since a derived one says nothing of a type that holds itself.
+//! `clone`, written out since a derived one says nothing of a type that holds itself.
 ghost use Rattle.std.specs.Prelude.{◌≡◌, IfOk};
 
 use crate::value::{DictItem, Value};

@@ -52,9 +52,12 @@ pub enum Num {
 /// Why a text gives no decimal.
 #[derive(Clone, Copy, Debug, PartialEq, Eq, Error)]
 pub enum NumberFault {
-    /// The text is no number written with digits: no such text goes on with the byte at `at`, or it ends there too soon.
+    /// The text is no number written with digits.
     #[error("no number goes on at byte {at}")]
-    BadNumber { at: usize },
+    BadNumber {
+        /// The byte with which no such text goes on, or the length of the text where it ends too soon.
+        at: usize,
+    },
     /// The number has more than 34 digits or an exponent beyond 400.
     #[error("a number has at most 34 digits and an exponent within 400 of 0")]
     NumberTooLong,
@@ -78,7 +81,7 @@ impl Decimal {
     }
 }
 
-// A number's text, with as many digits as it has.
+/// A number's text, with as many digits as it has.
 fn read_number(text: &[u8]) -> Result<Decimal, NumberFault>
     requires { IsTrue (is_number text.now) }
     ensures read { (d : DecimalNumber) → (result ≡ Ok d) ↔ IsNumberOf d (written_digits text.now) (written_exponent text.now) }
@@ -113,7 +116,7 @@ pub fn with_sign(negative: bool, n: u128) -> i128
     if negative { -(n as i128) } else { n as i128 }
 }
 
-// The decimal of some digits and an exponent.
+/// The decimal of some digits and an exponent.
 fn of_parts(negative: bool, kept: Significant, exponent: i128) -> Result<Decimal, NumberFault>
     requires room { kept.zeros < 2 ^ 64 }
     requires near { unsigned_abs exponent < 2 ^ 110 }

@@ -1,4 +1,4 @@
-// A copy is the value, and values that compare equal are one.
+//! A copy is the value, and values that compare equal are one.
 ghost use Rattle.std.specs.Prelude.{◌≡◌};
 
 use crate::decimal::{Decimal, Num};

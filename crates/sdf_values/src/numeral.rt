@@ -1,4 +1,4 @@
-// The canonical text of numbers and times.
+//! The canonical text of numbers and times.
 ghost use Rattle.std.specs.Prelude.{◌≡◌, ◌++◌, ◌+◌, ◌-◌, ◌≤◌, ◌<◌, ◌^◌, ◌∷◌, [], OnOk, IfOk, string_bytes, replicate, unsigned_abs, ℕ, ℤ, pos, negsuc};
 ghost use Rattle.std.specs.Fmt.{decimal};
 ghost use Rattle.sdf_values.specs.NumberTexts.{Writes};
@@ -56,7 +56,7 @@ pub fn push_num(out: &mut String, number: Num) -> Result<(), AllocError>
     }
 }
 
-/// Appends a time's text.
+/// Appends a time's text. After want of memory the text is of no use.
 pub fn push_time(out: &mut String, time: TimeCode) -> Result<(), AllocError>
     ensures { OnOk result (string_bytes out.new ≡ string_bytes out.old ++ time_text time) }
 {
@@ -73,7 +73,7 @@ fn push_decimal(out: &mut String, decimal: Decimal) -> Result<(), AllocError>
     push_parts(out, digits, exp)
 }
 
-// digits * 10^exp
+/// Appends digits * 10^exp.
 fn push_parts(out: &mut String, digits: i128, exp: i16) -> Result<(), AllocError>
     requires { IsDecimal (record { digits = digits; exp = exp }) }
     ensures text { OnOk result (string_bytes out.new ≡ string_bytes out.old ++ decimal_text (record { digits = digits; exp = exp })) }
@@ -96,7 +96,7 @@ fn push_sign(out: &mut String, n: i128) -> Result<(), AllocError>
     Ok(())
 }
 
-// digits * 10^exp
+/// Appends digits * 10^exp.
 fn push_large(out: &mut String, digits: u128, exp: u16) -> Result<(), AllocError>
     ensures { OnOk result (string_bytes out.new ≡ string_bytes out.old ++ scaled_text digits (pos exp)) }
 {
@@ -108,7 +108,7 @@ fn push_large(out: &mut String, digits: u128, exp: u16) -> Result<(), AllocError
     }
 }
 
-// digits * 10^-exp
+/// Appends digits * 10^-exp.
 fn push_small(out: &mut String, digits: u128, exp: u16) -> Result<(), AllocError>
     requires { 0 < exp }
     ensures { OnOk result (string_bytes out.new ≡ string_bytes out.old ++ scaled_text digits (negsuc (exp - 1))) }
@@ -129,7 +129,7 @@ fn push_zeros(out: &mut String, count: u16) -> Result<(), AllocError>
     Ok(())
 }
 
-// n in units of 10^-places
+/// Appends n in units of 10^-places.
 fn push_point(out: &mut String, places: u16, n: u128) -> Result<(), AllocError>
     requires { places ≤ 34 }
     ensures { OnOk result (string_bytes out.new ≡ string_bytes out.old ++ point_text places n) }
@@ -145,7 +145,7 @@ fn push_point(out: &mut String, places: u16, n: u128) -> Result<(), AllocError>
     Ok(())
 }
 
-// The digits of a rest in units of 10^-places, down to its last one.
+/// The digits of a rest in units of 10^-places, down to its last one.
 fn push_fraction(out: &mut String, places: u16, rest: u128) -> Result<(), AllocError>
     requires few { places ≤ 34 }
     requires below { rest < 10 ^ places }

@@ -119,7 +119,7 @@ fn offset_of(offset: i128, scale: u128) -> LayerOffset
     }
 }
 
-// A scale, which is above 0.
+/// A scale, which is above 0.
 fn unit_of(scale: i64) -> u128
     requires least { pos 1 ≤ℤ scale }
     requires most { scale ≤ℤ pos 1000000 }

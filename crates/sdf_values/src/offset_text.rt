@@ -1,4 +1,4 @@
-// The text of an offset behind an item.
+//! The text of an offset behind an item.
 ghost use Rattle.std.specs.Prelude.{◌≡◌, ◌++◌, OnOk, false, string_bytes};
 ghost use Rattle.sdf_values.specs.Print.{offset_text, unless_identity};
 ghost use Rattle.sdf_values.specs.Scales.{is_identity, is_one, is_zero};
@@ -30,7 +30,7 @@ fn push_shift(out: &mut String, offset: i64, scale: i64) -> Result<(), AllocErro
     write!(out, " (offset = {offset}; scale = {scale})")
 }
 
-/// Appends an offset and a scale behind an item, unless together they change no time.
+/// Appends an offset and a scale behind an item, unless together they change no time. After want of memory the text is of no use.
 pub fn push_offset(out: &mut String, offset: i64, scale: i64) -> Result<(), AllocError>
     ensures { OnOk result (string_bytes out.new ≡ string_bytes out.old
         ++ offset_text (record { offset = offset; scale = scale })) }

@@ -1,4 +1,4 @@
-// Reading a number's text: whether it is one, its significant digits and its exponent.
+//! Reading a number's text: whether it is one, its significant digits and its exponent.
 ghost use Rattle.std.specs.Prelude.{◌≡◌, ℕ, ◌<◌, ◌≤◌, ◌+◌, ◌*◌, ◌^◌, if◌then◌else◌, List, [], ◌∷◌, take, drop, length, min, Some, None, MatchOption, IsTrue, true, false};
 ghost use Rattle.sdf_values.specs.NumberTexts.{is_digit, is_sign, is_mark, is_number, is_unsigned, ends_whole, is_negative, FailsAt, digits_number, before_mark, after_mark, after_point};
 ghost use Rattle.sdf_values.specs.Places.{accepts, Keeps};
@@ -55,7 +55,7 @@ pub fn first_fault(text: &[u8]) -> Option<usize>
     }
 }
 
-// The place behind a byte; `None` where no number goes on with it.
+/// The place behind a byte; `None` where no number goes on with it.
 fn next(place: Place, byte: u8) -> Option<Place>
     ensures { MatchOption result
         ((rest : List ℕ) → accepts place (byte ∷ rest) ≡ false)
@@ -259,7 +259,7 @@ fn with_digit(kept: Significant, digit: u8) -> Significant
     }
 }
 
-// Behind the zeros comes a digit that is none.
+/// Behind the zeros comes a digit that is none.
 fn with_last_digit(digits: u128, zeros: usize, digit: u8) -> Significant
     requires digit { digit < 10 }
     requires some { 0 < digits }

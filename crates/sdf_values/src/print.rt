@@ -1,4 +1,4 @@
-// The canonical text of values.
+//! The canonical text of values.
 ghost use Rattle.std.specs.Prelude.{◌≡◌, ◌++◌, ◌+◌, ◌*◌, ◌<◌, ◌^◌, ◌∷◌, OnOk, OnErr, IfOk, map, replicate, string_bytes, []};
 ghost use Rattle.sdf_values.specs.Print.{print, print_item, listed, lines, dict_text, blanks, quoted, escaped, escape, asset_text, key_text, dict_type_text, hex_digit, is_escaped, is_long_asset};
 ghost use Rattle.sdf_values.specs.TypeNames.{type_text};
@@ -20,7 +20,7 @@ pub fn print_value(alloc: Global, v: &Value, indent: usize) -> Result<String, Al
     Ok(out)
 }
 
-/// Appends the text of `print_value`.
+/// Appends the text of `print_value`. After want of memory the text is of no use.
 #[cycle(print)]
 pub fn push_value(out: &mut String, value: &Value, indent: usize) -> Result<(), AllocError>
     ensures { OnOk result (string_bytes out.new ≡ string_bytes out.old ++ print value.now indent) }
@@ -100,7 +100,7 @@ fn push_item(out: &mut String, item: &DictItem, indent: usize) -> Result<(), All
     push_value(out, &item.value, indent)
 }
 
-/// Appends four blanks a level.
+/// Appends four blanks a level. After want of memory the text is of no use.
 pub fn push_blanks(out: &mut String, indent: usize) -> Result<(), AllocError>
     ensures { OnOk result (string_bytes out.new ≡ string_bytes out.old ++ blanks indent) }
 {
@@ -127,7 +127,7 @@ fn push_dict_type(out: &mut String, ty: DictType) -> Result<(), AllocError>
     }
 }
 
-/// Appends a type as a layer writes it.
+/// Appends a type as a layer writes it. After want of memory the text is of no use.
 pub fn push_type(out: &mut String, ty: TypeName) -> Result<(), AllocError>
     ensures { OnOk result (string_bytes out.new ≡ string_bytes out.old ++ type_text ty) }
 {
@@ -148,7 +148,8 @@ fn push_key(out: &mut String, key: &str) -> Result<(), AllocError>
     }
 }
 
-/// Appends an asset's name between `@`, or between `@@@` where it has an `@` or a line feed.
+/// Appends an asset's name between `@`, or between `@@@` where it has an `@` or a line feed. After want of memory the text is of no
+/// use.
 pub fn push_asset(out: &mut String, text: &str) -> Result<(), AllocError>
     ensures { OnOk result (string_bytes out.new ≡ string_bytes out.old ++ asset_text text.now) }
 {
@@ -170,7 +171,7 @@ fn is_long_asset(text: &[u8]) -> bool
     false
 }
 
-/// Appends a string between quotes, with escapes.
+/// Appends a string between quotes, with escapes. After want of memory the text is of no use.
 pub fn push_string(out: &mut String, text: &str) -> Result<(), AllocError>
     ensures { OnOk result (string_bytes out.new ≡ string_bytes out.old ++ quoted text.now) }
 {

@@ -1,4 +1,4 @@
-// Equality of values, which decides `≡`.
+//! Equality of values, which decides `≡`.
 ghost use Rattle.std.specs.Prelude.{◌≡◌, ◌↔◌, IsTrue};
 
 use crate::value::{DictItem, Value};

@@ -1,4 +1,4 @@
-// Powers of ten.
+//! Powers of ten.
 ghost use Rattle.std.specs.Prelude.{◌≡◌, ◌≤◌, ◌<◌, ◌^◌, ◌*◌, ℤ, pos, ◌*ℤ◌, unsigned_abs};
 
 /// A power of ten of at most 35 digits.

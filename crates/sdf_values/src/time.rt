@@ -66,7 +66,7 @@ fn time_of(digits: i128, exp: i16) -> Result<TimeCode, TimeRange>
     Ok(TimeCode { units })
 }
 
-// The power of ten by which an exponent is above that of a unit.
+/// The power of ten by which an exponent is above that of a unit.
 fn places(exp: i16) -> u32
     requires least { negsuc 17 ≤ℤ exp }
     requires most { exp ≤ℤ pos 12 }

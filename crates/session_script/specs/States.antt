@@ -41,7 +41,7 @@ AnswersNext (Err (Refused n kind)) line before after = (before ≡ refused n kin
 AnswersNext (Err ReadFault) line before after = after ≡ before
 AnswersNext (Err NoMemory) line before after = after ≡ before
 
--- no line feed is among these bytes
+-- a line feed is among these bytes
 abbrev pub has_feed : List ℕ → Bool
 has_feed = list_any (λ c. c == 10)
 

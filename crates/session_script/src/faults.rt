@@ -16,7 +16,7 @@ pub enum ScriptKind {
 /// Why a script gave no step.
 #[derive(Clone, Copy, Debug, PartialEq, Eq)]
 pub enum ScriptFault {
-    /// This line, counted from 1, is refused, and nothing behind it is read.
+    /// This line, counted from 1, is refused, and no line behind it is taken.
     Refused {
         /// The line's number. Where the script ends too early, it is that after the last line.
         line: u64,

@@ -13,7 +13,7 @@ use io_edges::{Got, Source};
 /// The most bytes of a script.
 pub const MAX_BYTES: usize = 16_777_216;
 
-// How many bytes are asked of the source at once.
+/// How many bytes are asked of the source at once.
 const PIECE: usize = 4096;
 
 /// What stands in front of a script.
@@ -27,7 +27,7 @@ pub enum Front {
     End,
 }
 
-// The first line feed from a place on.
+/// The first line feed from a place on.
 fn find_feed(bytes: &[u8], from: usize) -> Option<usize>
     requires { from ≤ length bytes.now }
     ensures found { IfSome result (λ at. (from ≤ at) × (at < length bytes.now) × (slice_index bytes.now at ≡ 10) × (has_feed (take (at - from) (drop from bytes.now)) ≡ false)) }
@@ -41,7 +41,7 @@ fn find_feed(bytes: &[u8], from: usize) -> Option<usize>
     None
 }
 
-// Takes the next bytes from the source; `false` where it is at its end. A fault leaves the bytes as they were.
+/// Takes the next bytes from the source; `false` where it is at its end. A fault leaves the bytes as they were.
 fn read_more<S: Source>(bytes: &mut Vec<u8>, source: &mut S) -> Result<bool, ScriptFault>
     ensures more { ReadsMore result bytes.old.items bytes.new.items (S.left source.old) (S.left source.new) }
     ensures counted { IsCounted (result ≡ Err ScriptFault.ReadFault) (S.faults source.old) (S.faults source.new) }
@@ -59,7 +59,7 @@ fn read_more<S: Source>(bytes: &mut Vec<u8>, source: &mut S) -> Result<bool, Scr
     }
 }
 
-// A line that ends at this place.
+/// A line that ends at this place.
 fn line_to(start: usize, end: usize) -> Front
     requires { start ≤ end }
     ensures { result ≡ (if nat_lt 16777216 end then Front.TooLong else Front.Line (end - start)) }
@@ -71,7 +71,7 @@ fn line_to(start: usize, end: usize) -> Front
     }
 }
 
-// What is in front where so many bytes are held without a line feed, and the source is at its end.
+/// What is in front where so many bytes are held without a line feed, and the source is at its end.
 fn last_front(len: usize) -> Front
     ensures { result ≡ (if len == 0 then Front.End else Front.Line len) }
 {

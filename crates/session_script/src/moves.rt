@@ -11,7 +11,7 @@ use plain_data::Items;
 use script_lines::Line;
 use std::alloc::{AllocError, Global};
 
-// A batch has fewer operations.
+/// A batch has fewer operations.
 const MAX_OPS: usize = 4_294_967_296;
 
 /// What comes of a line.
@@ -25,7 +25,7 @@ pub enum Moved {
     Refuses,
 }
 
-// Ends the batch that is open. 2^32 operations, which no script has, are told as want of memory.
+/// Ends the batch that is open. 2^32 operations, which no script has, are told as want of memory.
 fn commit(batch: &mut Option<Items<Op>>) -> Result<Moved, AllocError>
     ensures moves { IfOk result (λ m. IsMoved m batch.new batch.old (move batch.old (Some Line.Commit))) }
     ensures err { OnErr result (batch.new ≡ batch.old) }
@@ -45,7 +45,7 @@ fn commit(batch: &mut Option<Items<Op>>) -> Result<Moved, AllocError>
     }
 }
 
-// Begins a batch.
+/// Begins a batch.
 fn begin(alloc: Global, batch: &mut Option<Items<Op>>) -> Moved
     ensures { IsMoved result batch.new batch.old (move batch.old (Some Line.Begin)) }
 {
@@ -56,7 +56,7 @@ fn begin(alloc: Global, batch: &mut Option<Items<Op>>) -> Moved
     Moved::GoesOn
 }
 
-// Adds an operation to the batch that is open.
+/// Adds an operation to the batch that is open.
 fn change(batch: &mut Option<Items<Op>>, op: Op) -> Result<Moved, AllocError>
     ensures moves { IfOk result (λ m. IsMoved m batch.new batch.old (move batch.old (Some (Line.Change op)))) }
     ensures err { OnErr result (batch.new ≡ batch.old) }
@@ -73,7 +73,7 @@ fn change(batch: &mut Option<Items<Op>>, op: Op) -> Result<Moved, AllocError>
     }
 }
 
-// Asks for a step, where no batch is open.
+/// Asks for a step, where no batch is open.
 fn ask(batch: &Option<Items<Op>>, step: Step) -> Moved
     ensures { IsMoved result batch.now batch.now (asked batch.now step) }
 {

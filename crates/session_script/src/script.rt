@@ -44,7 +44,7 @@ impl Model for Script {
     ghost invariant = { λ s. IsKept s.start s.scanned s.lines s.bytes.items };
 }
 
-// So many bytes from a place on.
+/// So many bytes from a place on.
 fn part_of(bytes: &[u8], start: usize, len: usize) -> &[u8]
     requires { start + len ≤ length bytes.now }
     ensures { result.now ≡ take len (drop start bytes.now) }
@@ -82,7 +82,7 @@ impl Script {
         self.line
     }
 
-    // The line in front, read from the source where none is held.
+    /// The line in front, read from the source where none is held.
     fn next_front<S: Source>(&mut self, source: &mut S) -> Result<Front, ScriptFault>
         ensures feeds { Feeds self.old self.new (coming self.old.ended (S.left source.old)) (coming self.new.ended (S.left source.new)) }
         ensures front { IfOk result (λ f. FrontIs f self.new (coming self.old.ended (S.left source.old)) (coming self.new.ended (S.left source.new))) }
@@ -103,7 +103,7 @@ impl Script {
         )
     }
 
-    // Refuses the line behind those that were taken.
+    /// Refuses the line behind those that were taken.
     fn stop(&mut self, kind: ScriptKind) -> ScriptFault
         ensures fault { result ≡ ScriptFault.Refused (self.old.lines + 1) kind }
         ensures after { self.new ≡ stopped_at self.old kind }
@@ -113,7 +113,7 @@ impl Script {
         ScriptFault::Refused { line, kind }
     }
 
-    // Takes the line in front, of so many bytes. After want of memory all is as before.
+    /// Takes the line in front, of so many bytes. After want of memory all is as before.
     fn take_front(&mut self, len: usize) -> Result<Option<Step>, ScriptFault>
         requires some { 0 < len }
         requires within { len ≤ length self.old.held }
@@ -141,7 +141,7 @@ impl Script {
         }
     }
 
-    // What comes of the end of the script.
+    /// What comes of the end of the script.
     fn end(&mut self) -> Result<Option<Step>, ScriptFault>
         ensures { EndsScript result self.old self.new }
     {

@@ -12,7 +12,7 @@ use Rattle.prim_trees.specs.Meant.{meant}
 abbrev pub trees_shown : List (Bor Tree) → List defined.Tree
 trees_shown ts = map (λ t. meant t.now) ts
 
--- an earlier place beats one that is not of lesser rank, a later one only one of greater rank
+-- an earlier place of the same site beats this one where its rank is not greater
 abbrev pub beats : Ranked → Ranked → Bool
 beats e x = both (nat_le x.1 e.1) (same_place x.0 e.0)
 

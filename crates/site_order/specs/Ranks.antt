@@ -16,6 +16,6 @@ is_class_there n c = is_class_child n (led c).0 (led c).1
 abbrev pub shares : Node → Child → Bool
 shares n c = both (leads_on (led c).0) (has_class_child n (led c).1)
 
--- beside the own children of its parent
+-- the rank of a child, where so many lifted inherits nodes stand above it; its siblings are the own children of its parent
 unfoldable pub child_rank : ℕ → Tree → Child → ℕ
 child_rank above parent c = rank_of above (trees_of (out-Tree parent).own (out-Tree parent).own_cut) (led c).0 (node_of (led c).1)

@@ -1,4 +1,4 @@
-// The best place of each site of a part, in a table by site.
+//! The best place of each site of a part, in a table by site.
 ghost use Rattle.std.specs.Prelude.{◌≡◌, ◌==◌, Some, None, IfOk, OnOk, cond};
 ghost use Rattle.std.specs.Option.{option_copied};
 ghost use Rattle.std.specs.BTreeMap.{get};

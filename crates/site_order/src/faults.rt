@@ -1,4 +1,4 @@
-// The faults of the arcs of a tree.
+//! The faults of the arcs of a tree.
 ghost use Rattle.std.specs.Prelude.{◌≡◌, ◌++◌, Bool, IfOk, OnOk, map, filter, flat_map, zip};
 ghost use Rattle.composition.specs.Arcs.{same_kind};
 ghost use Rattle.composition.specs.Paths.{limits};

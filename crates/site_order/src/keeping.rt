@@ -1,4 +1,4 @@
-// The sites of a tree: which of several places of one site is kept.
+//! The sites of a tree: which of several places of one site is kept.
 ghost use Rattle.std.specs.Prelude.{◌≡◌, ◌++◌, [], ◌∷◌, None, IfOk, OnOk, map, filter};
 ghost use Rattle.composition.specs.Paths.{limits};
 ghost use Rattle.composition.specs.Faults.{site_of};

@@ -1,4 +1,4 @@
-// The nodes of a tree from strong to weak.
+//! The nodes of a tree from strong to weak.
 ghost use Rattle.std.specs.Prelude.{◌≡◌, ◌++◌, ◌∷◌, [], IfOk, OnOk, map};
 ghost use Rattle.std.specs.List.{list_any};
 ghost use Rattle.composition.specs.Paths.{limits};

@@ -1,4 +1,4 @@
-// The rank of a node: of several places of one site, one of least rank is kept.
+//! The rank of a node: of several places of one site, one of least rank is kept.
 ghost use Rattle.std.specs.Prelude.{◌≡◌, ◌+◌, IfOk};
 ghost use Rattle.std.specs.List.{list_any};
 ghost use Rattle.composition.specs.Strength.{same_site, is_lifted_inherits, leads_on, has_class_child, above_child};

@@ -1,4 +1,4 @@
-// How many nodes a tree has, and whether it was cut.
+//! How many nodes a tree has, and whether it was cut.
 ghost use Rattle.std.specs.Prelude.{◌≡◌, min, sum_by};
 ghost use Rattle.std.specs.List.{list_any};
 ghost use Rattle.composition.specs.Trees.{size, is_overgrown, is_overgrown_among, has_spec_in};

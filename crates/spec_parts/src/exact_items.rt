@@ -1,4 +1,4 @@
-// Copies of the small parts that are the part itself, and equality that tells every two apart.
+//! Copies of the small parts that are the part itself, and equality that tells every two apart.
 ghost use Rattle.std.specs.Prelude.{◌≡◌, ◌↔◌, IsTrue};
 
 use crate::items::{RefItem, SubLayer, VariantSet};

@@ -1,4 +1,4 @@
-// Copies of heads and specs that are the original itself, and equality that tells every two apart.
+//! Copies of heads and specs that are the original itself, and equality that tells every two apart.
 ghost use Rattle.std.specs.Prelude.{◌≡◌, ◌↔◌, IsTrue, OnOk};
 
 use crate::spec::{ArcPart, BodyPart, Head, Spec};
@@ -23,7 +23,7 @@ impl ExactClone for Head {
     ghost copy_is_same = { λ x y h. h };
 }
 
-// Copies the lists of classes into the place of others.
+/// Copies the lists of classes into the place of others.
 fn copy_classes(from: &ArcPart, into: &mut ArcPart) -> Result<(), AllocError>
     ensures { OnOk result (into.new ≡ record into.old { inherits = from.now.inherits; specializes = from.now.specializes }) }
 {
@@ -32,7 +32,7 @@ fn copy_classes(from: &ArcPart, into: &mut ArcPart) -> Result<(), AllocError>
     Ok(())
 }
 
-// Copies the lists of references and payloads into the place of others.
+/// Copies the lists of references and payloads into the place of others.
 fn copy_targets(from: &ArcPart, into: &mut ArcPart) -> Result<(), AllocError>
     ensures { OnOk result (into.new ≡ record into.old { references = from.now.references; payloads = from.now.payloads }) }
 {
@@ -41,7 +41,7 @@ fn copy_targets(from: &ArcPart, into: &mut ArcPart) -> Result<(), AllocError>
     Ok(())
 }
 
-// Copies the variant sets and the selections into the place of others.
+/// Copies the variant sets and the selections into the place of others.
 fn copy_variants(from: &ArcPart, into: &mut ArcPart) -> Result<(), AllocError>
     ensures { OnOk result (into.new ≡ record into.old { variant_sets = from.now.variant_sets; selections = from.now.selections }) }
 {
@@ -50,7 +50,7 @@ fn copy_variants(from: &ArcPart, into: &mut ArcPart) -> Result<(), AllocError>
     Ok(())
 }
 
-// Copies all arcs into the place of others.
+/// Copies all arcs into the place of others.
 fn copy_arcs(from: &ArcPart, into: &mut ArcPart) -> Result<(), AllocError>
     ensures { OnOk result (into.new ≡ from.now) }
 {
@@ -78,7 +78,7 @@ impl ExactClone for ArcPart {
     ghost copy_is_same = { λ x y h. h };
 }
 
-// Copies the type and the metadata into the place of others.
+/// Copies the type and the metadata into the place of others.
 fn copy_fields(from: &BodyPart, into: &mut BodyPart) -> Result<(), AllocError>
     ensures { OnOk result (into.new ≡ record into.old { type_name = from.now.type_name; meta = from.now.meta }) }
 {
@@ -87,7 +87,7 @@ fn copy_fields(from: &BodyPart, into: &mut BodyPart) -> Result<(), AllocError>
     Ok(())
 }
 
-// Copies the lists of schemas and of clip sets into the place of others.
+/// Copies the lists of schemas and of clip sets into the place of others.
 fn copy_lists(from: &BodyPart, into: &mut BodyPart) -> Result<(), AllocError>
     ensures { OnOk result (into.new ≡ record into.old { api_schemas = from.now.api_schemas; clip_sets = from.now.clip_sets }) }
 {
@@ -96,7 +96,7 @@ fn copy_lists(from: &BodyPart, into: &mut BodyPart) -> Result<(), AllocError>
     Ok(())
 }
 
-// Copies the names of what stands below and their order into the place of others.
+/// Copies the names of what stands below and their order into the place of others.
 fn copy_names(from: &BodyPart, into: &mut BodyPart) -> Result<(), AllocError>
     ensures { OnOk result (into.new ≡ record into.old { children = from.now.children; child_order = from.now.child_order }) }
 {
@@ -105,7 +105,7 @@ fn copy_names(from: &BodyPart, into: &mut BodyPart) -> Result<(), AllocError>
     Ok(())
 }
 
-// Copies the properties and their order into the place of others.
+/// Copies the properties and their order into the place of others.
 fn copy_properties(from: &BodyPart, into: &mut BodyPart) -> Result<(), AllocError>
     ensures { OnOk result (into.new ≡ record into.old { properties = from.now.properties; property_order = from.now.property_order }) }
 {
@@ -114,7 +114,7 @@ fn copy_properties(from: &BodyPart, into: &mut BodyPart) -> Result<(), AllocErro
     Ok(())
 }
 
-// Copies a body into the place of another with its specifier.
+/// Copies a body into the place of another with its specifier.
 fn copy_body(from: &BodyPart, into: &mut BodyPart) -> Result<(), AllocError>
     requires { into.old.specifier ≡ from.now.specifier }
     ensures { OnOk result (into.new ≡ from.now) }

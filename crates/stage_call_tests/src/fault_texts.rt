@@ -1,4 +1,4 @@
-// What faults of names of layers, of batches and of opening say of themselves.
+//! What faults of names of layers, of batches and of opening say of themselves.
 use asset_names::{AssetFault, AssetId};
 use edit_batches::{EditFault, EditRefused};
 use layer_load::LoadFault;
@@ -6,7 +6,7 @@ use std::alloc::Global;
 use std::fmt::Display;
 use std::test::Fail;
 
-// Whether a fault says this of itself.
+/// Whether a fault says this of itself.
 fn says<F: Display>(alloc: Global, fault: &F, text: &str) -> Result<bool, Fail> {
     let said = format!(in alloc; "{fault}")?;
     Ok(said.as_str() == text)
@@ -33,14 +33,14 @@ fn faults_of_batches_say_why(rt: HostRuntime) -> Result<(), Fail> {
     Ok(())
 }
 
-// Whether a failed opening says this of itself.
+/// Whether a failed opening says this of itself.
 fn opening_says(alloc: Global, fault: LoadFault, text: &str) -> Result<bool, Fail> {
     let said = says(alloc, &fault, text);
     drop(fault);
     said
 }
 
-// A root layer that is not there.
+/// A root layer that is not there.
 fn absent_root(alloc: Global) -> Result<LoadFault, Fail> {
     let name = AssetId::of_word(alloc, "root.usda")?;
     Ok(LoadFault::RootRefused {

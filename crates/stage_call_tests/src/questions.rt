@@ -1,4 +1,4 @@
-// Answers and replies as bytes: each question with each kind of answer.
+//! Answers and replies as bytes: each question with each kind of answer.
 use asset_names::AssetId;
 use change_core::EditReply;
 use edit_batches::EditFault;
@@ -247,7 +247,7 @@ fn stage(alloc: Global) -> Result<Edition<Path, PrimView>, Fail> {
     Ok(Edition::build(alloc, 0, 0, items, None)?)
 }
 
-// Words of questions, paths, and what is answered on `stage`.
+/// Words of questions, paths, and what is answered on `stage`.
 static ANSWERS: [(&str, &str, &str); 28] = [
     ("default", "/A.x", "5"),
     ("default", "/A.b:c", "Blocked"),
@@ -336,7 +336,7 @@ fn questions_by_path(rt: HostRuntime) -> Result<(), Fail> {
     Ok(())
 }
 
-// Paths, times, times as they are printed, and what is answered on `stage`.
+/// Paths, times, times as they are printed, and what is answered on `stage`.
 static VALUES: [(&str, &str, &str, &str); 8] = [
     ("/A.x", "2.4999", "2.4999", "2"),
     ("/A.x", "-3", "-3", "2"),

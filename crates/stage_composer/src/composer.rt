@@ -25,8 +25,8 @@ impl UsdComposer {
     }
 }
 
-// The path of a prim right below a path. There is none where the name is no identifier, or below a property; no composed prim lists
-// such a child, and it is told as want of memory.
+/// The path of a prim right below a path. There is none where the name is no identifier, or below a property; no composed prim
+/// lists such a child, and it is told as want of memory.
 fn child_path(place: &Path, name: &str) -> Result<Path, AllocError>
     ensures { IfOk result (λ child. child ≡ place.now ++ element.Prim name.now ∷ []) }
 {
@@ -39,7 +39,7 @@ fn child_path(place: &Path, name: &str) -> Result<Path, AllocError>
     }
 }
 
-// The world after a batch, or the first operation that is refused.
+/// The world after a batch, or the first operation that is refused.
 fn apply_batch(
     alloc: Global,
     world: &World,

@@ -1,5 +1,5 @@
-// What the definitions of arcs' paths, of flattening, of answers and of replies give, on closed terms: each record of examples as the
-// clause of a function that does nothing.
+//! What the definitions of arcs' paths, of flattening, of answers and of replies give, on closed terms: each record of examples as
+//! the clause of a function that does nothing.
 ghost use Rattle.stage_examples.specs.Answers.{AreTold as AnswersAreTold};
 ghost use Rattle.stage_examples.specs.Flattening.{AreTold as LayersAreTold};
 ghost use Rattle.stage_examples.specs.PathMaps.{AreTold as PathsAreTold};

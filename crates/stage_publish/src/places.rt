@@ -1,4 +1,4 @@
-// Where the first item of each place stands in a list.
+//! Where the first item of each place stands in a list.
 ghost use Rattle.std.specs.Prelude.{◌≡◌, Some, IfOk, OnOk, cond};
 ghost use Rattle.std.specs.Option.{is_some};
 ghost use Rattle.std.specs.BTreeMap.{get, is_at};

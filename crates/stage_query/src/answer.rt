@@ -7,7 +7,7 @@ pub enum Answer<T> {
     NoPrim,
     /// The prim has no property of the name, or has a relationship where an attribute was asked for.
     NoProperty,
-    /// There is no opinion.
+    /// There is no opinion on it; of samples also where a default decides, of a default also where there are samples alone.
     NoValue,
     /// The value is blocked.
     Blocked,

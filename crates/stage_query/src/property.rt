@@ -1,4 +1,4 @@
-// What a property of a composed prim answers.
+//! What a property of a composed prim answers.
 ghost use Rattle.std.specs.Prelude.{◌≡◌};
 ghost use Rattle.std.specs.Option.{option_copied, option_map};
 ghost use Rattle.composition.specs.Values.{held_sample, value_at};

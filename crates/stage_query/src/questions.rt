@@ -1,4 +1,4 @@
-// The questions.
+//! The questions.
 ghost use Rattle.std.specs.Prelude.{◌≡◌};
 ghost use Rattle.std.specs.Option.{option_copied};
 ghost use Rattle.stage_query.specs.Answers.{answer_copied, view_at, value_answer, default_answer, samples_answer, targets_answer, children_answer, view_answer};

@@ -1,4 +1,4 @@
-// A question with its answer.
+//! A question with its answer.
 ghost use Rattle.std.specs.Prelude.{◌≡◌, ◌++◌, OnErr, OnOk};
 ghost use Rattle.std.specs.Io.{StartsWith};
 ghost use Rattle.stage_questions.specs.Answers.{line_of, flat_text, measured, answer, answer_line};
@@ -14,7 +14,7 @@ use sdf_paths::Path;
 use stage_publish::View;
 use std::alloc::{AllocError, Global};
 
-// Appends a text and the end of its line.
+/// Appends a text and the end of its line.
 fn push_line(out: &mut Vec<u8>, text: &str) -> Result<(), AllocError>
     ensures added { OnOk result (out.new.items ≡ out.old.items ++ line_of text.now) }
     ensures kept { OnErr result (StartsWith out.new.items out.old.items) }
@@ -23,7 +23,7 @@ fn push_line(out: &mut Vec<u8>, text: &str) -> Result<(), AllocError>
     out.extend_from_slice(b"\n")
 }
 
-// Appends a text behind its length.
+/// Appends a text behind its length.
 fn push_measured(alloc: Global, out: &mut Vec<u8>, text: &[u8]) -> Result<(), AllocError>
     ensures added { OnOk result (out.new.items ≡ out.old.items ++ measured text.now) }
     ensures kept { OnErr result (StartsWith out.new.items out.old.items) }
@@ -34,7 +34,7 @@ fn push_measured(alloc: Global, out: &mut Vec<u8>, text: &[u8]) -> Result<(), Al
     out.extend_from_slice(text)
 }
 
-// Appends the text of the flattened layer of a stage.
+/// Appends the text of the flattened layer of a stage.
 #[tactic(auto, unfolding(crate::specs::Answers::flat_text))]
 fn push_flattened(
     alloc: Global,
@@ -48,7 +48,7 @@ fn push_flattened(
     push_measured(alloc, out, text.as_slice())
 }
 
-// Appends the answer to a question.
+/// Appends the answer to a question.
 fn push_told(
     alloc: Global,
     out: &mut Vec<u8>,

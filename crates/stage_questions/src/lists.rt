@@ -1,4 +1,4 @@
-// Lists of what a stage has, as answers show them.
+//! Lists of what a stage has, as answers show them.
 ghost use Rattle.std.specs.Prelude.{◌≡◌, ◌++◌, length, IfOk, OnOk, string_bytes};
 ghost use Rattle.std.specs.List.{flat_map};
 ghost use Rattle.prim_view.specs.Printing.{fault_text};
@@ -23,7 +23,7 @@ fn push_sample(out: &mut String, time: TimeCode, value: &Value) -> Result<(), Al
     push_value(out, value, 0)
 }
 
-// Appends samples with a comma and a blank between them.
+/// Appends samples with a comma and a blank between them.
 fn push_samples(out: &mut String, samples: &Samples) -> Result<(), AllocError>
     ensures { OnOk result (string_bytes out.new ≡ string_bytes out.old ++ listed sample_text samples.now) }
 {
@@ -48,7 +48,7 @@ pub fn print_samples(alloc: Global, samples: &Samples) -> Result<String, AllocEr
     Ok(out)
 }
 
-// Appends targets with a comma and a blank between them.
+/// Appends targets with a comma and a blank between them.
 fn push_targets(out: &mut String, paths: &[Path]) -> Result<(), AllocError>
     ensures { OnOk result (string_bytes out.new ≡ string_bytes out.old ++ listed path_text paths.now) }
 {
@@ -73,7 +73,7 @@ pub fn print_targets(alloc: Global, paths: &[Path]) -> Result<String, AllocError
     Ok(out)
 }
 
-// Appends names with a comma and a blank between them.
+/// Appends names with a comma and a blank between them.
 fn push_names(out: &mut String, names: &[Text]) -> Result<(), AllocError>
     ensures { OnOk result (string_bytes out.new ≡ string_bytes out.old ++ listed quoted names.now) }
 {
@@ -98,14 +98,14 @@ pub fn print_names(alloc: Global, names: &[Text]) -> Result<String, AllocError>
     Ok(out)
 }
 
-// Begins a line, further in.
+/// Begins a line, further in.
 fn push_line_start(out: &mut String) -> Result<(), AllocError>
     ensures { OnOk result (string_bytes out.new ≡ string_bytes out.old ++ line_start) }
 {
     out.push_str("\n  ")
 }
 
-// Appends a line with a fault.
+/// Appends a line with a fault.
 fn push_fault(alloc: Global, out: &mut String, fault: &PrimFault) -> Result<(), AllocError>
     ensures { OnOk result (string_bytes out.new ≡ string_bytes out.old ++ line_below (fault_text fault.now)) }
 {
@@ -114,7 +114,7 @@ fn push_fault(alloc: Global, out: &mut String, fault: &PrimFault) -> Result<(), 
     out.push_str(text.as_str())
 }
 
-// Appends a line for each fault.
+/// Appends a line for each fault.
 fn push_faults(alloc: Global, out: &mut String, faults: &[PrimFault]) -> Result<(), AllocError>
     ensures { OnOk result (string_bytes out.new ≡ string_bytes out.old ++ flat_map (λ f. line_below (fault_text f)) faults.now) }
 {
@@ -134,7 +134,7 @@ pub fn print_faults(alloc: Global, prim: &PrimView) -> Result<String, AllocError
     Ok(out)
 }
 
-// The first layer of a stack; of that of the root layer, before which the session layer may stand, the root layer.
+/// The first layer of a stack; of that of the root layer, before which the session layer may stand, the root layer.
 fn first_layer<'a>(root: &'a AssetId, stack: &'a StackName) -> &'a AssetId
     ensures { result.now ≡ first_layer root.now stack.now }
 {
@@ -144,7 +144,7 @@ fn first_layer<'a>(root: &'a AssetId, stack: &'a StackName) -> &'a AssetId
     }
 }
 
-// Appends a line with a site.
+/// Appends a line with a site.
 fn push_site(out: &mut String, root: &AssetId, site: &Site) -> Result<(), AllocError>
     ensures { OnOk result (string_bytes out.new ≡ string_bytes out.old ++ line_below (site_text root.now site.now)) }
 {
@@ -154,7 +154,7 @@ fn push_site(out: &mut String, root: &AssetId, site: &Site) -> Result<(), AllocE
     push_path(out, &site.path)
 }
 
-// How many sites have a spec.
+/// How many sites have a spec.
 fn spec_count(sites: &[Site]) -> usize
     ensures { result ≡ length (sites_with_spec sites.now) }
 {
@@ -165,7 +165,7 @@ fn spec_count(sites: &[Site]) -> usize
     count
 }
 
-// Appends a line for each site that has a spec.
+/// Appends a line for each site that has a spec.
 fn push_sites(out: &mut String, root: &AssetId, sites: &[Site]) -> Result<(), AllocError>
     ensures { OnOk result (string_bytes out.new ≡ string_bytes out.old ++ flat_map (λ s. line_below (site_text root.now s)) (sites_with_spec sites.now)) }
 {

@@ -1,4 +1,4 @@
-// Questions, and how they are written.
+//! Questions, and how they are written.
 ghost use Rattle.std.specs.Prelude.{◌≡◌, ◌++◌, IfOk, OnOk, string_bytes};
 ghost use Rattle.stage_questions.specs.Answers.{asked_of, question_text};
 
@@ -12,24 +12,47 @@ use std::alloc::{AllocError, Global};
 #[derive(Debug, Drop)]
 pub enum Question {
     /// The value of an attribute at a time.
-    Value { path: Path, time: TimeCode },
+    Value {
+        /// The path of the attribute.
+        path: Path,
+        /// The time, on the stage.
+        time: TimeCode,
+    },
     /// The default of an attribute.
-    Default { path: Path },
+    Default {
+        /// The path of the attribute.
+        path: Path,
+    },
     /// The samples of an attribute.
-    Samples { path: Path },
+    Samples {
+        /// The path of the attribute.
+        path: Path,
+    },
     /// The targets of a relationship, or the connections of an attribute.
-    Targets { path: Path },
+    Targets {
+        /// The path of the property.
+        path: Path,
+    },
     /// The names of the children of a prim.
-    Children { path: Path },
+    Children {
+        /// The path of the prim.
+        path: Path,
+    },
     /// The faults of a prim.
-    Faults { path: Path },
+    Faults {
+        /// The path of the prim.
+        path: Path,
+    },
     /// The sites of a prim that have a spec.
-    Sites { path: Path },
+    Sites {
+        /// The path of the prim.
+        path: Path,
+    },
     /// The flattened layer of the stage.
     Flatten,
 }
 
-// Appends a word and a path.
+/// Appends a word and a path.
 fn push_asked(out: &mut String, word: &str, path: &Path) -> Result<(), AllocError>
     ensures { OnOk result (string_bytes out.new ≡ string_bytes out.old ++ asked_of word.now path.now) }
 {
@@ -37,7 +60,7 @@ fn push_asked(out: &mut String, word: &str, path: &Path) -> Result<(), AllocErro
     push_path(out, path)
 }
 
-// Appends a question in its one spelling.
+/// Appends a question in its one spelling.
 fn push_question(out: &mut String, question: &Question) -> Result<(), AllocError>
     ensures { OnOk result (string_bytes out.new ≡ string_bytes out.old ++ question_text question.now) }
 {

@@ -1,4 +1,4 @@
-// The replies to batches and publishes.
+//! The replies to batches and publishes.
 ghost use Rattle.std.specs.Prelude.{◌≡◌, ◌++◌, OnErr, OnOk, codes};
 ghost use Rattle.std.specs.Fmt.{decimal};
 ghost use Rattle.std.specs.Io.{StartsWith};
@@ -20,7 +20,7 @@ fn push_number(alloc: Global, out: &mut Vec<u8>, number: u64) -> Result<(), Allo
     out.extend_from_slice(text.as_bytes())
 }
 
-// Appends a number behind a word.
+/// Appends a number behind a word.
 fn push_behind(alloc: Global, out: &mut Vec<u8>, word: &[u8], number: u64) -> Result<(), AllocError>
     ensures added { OnOk result (out.new.items ≡ out.old.items ++ word.now ++ decimal number) }
     ensures kept { OnErr result (StartsWith out.new.items out.old.items) }
@@ -29,7 +29,7 @@ fn push_behind(alloc: Global, out: &mut Vec<u8>, word: &[u8], number: u64) -> Re
     push_number(alloc, out, number)
 }
 
-// Appends the line and the column of a refusal, behind a blank.
+/// Appends the line and the column of a refusal, behind a blank.
 fn push_place(alloc: Global, out: &mut Vec<u8>, refusal: Refusal) -> Result<(), AllocError>
     ensures added { OnOk result (out.new.items ≡ out.old.items ++ codes " " ++ decimal refusal.line ++ codes ":" ++ decimal refusal.column) }
     ensures kept { OnErr result (StartsWith out.new.items out.old.items) }
@@ -38,7 +38,7 @@ fn push_place(alloc: Global, out: &mut Vec<u8>, refusal: Refusal) -> Result<(), 
     push_behind(alloc, out, b":", refusal.column)
 }
 
-// Appends the name of a kind of refusal, behind a blank.
+/// Appends the name of a kind of refusal, behind a blank.
 fn push_kind(out: &mut Vec<u8>, kind: RefusalKind) -> Result<(), AllocError>
     ensures added { OnOk result (out.new.items ≡ out.old.items ++ codes " " ++ refusal_name kind) }
     ensures kept { OnErr result (StartsWith out.new.items out.old.items) }
@@ -47,7 +47,7 @@ fn push_kind(out: &mut Vec<u8>, kind: RefusalKind) -> Result<(), AllocError>
     out.extend_from_slice(refusal_name(kind).as_bytes())
 }
 
-// Appends a refusal with its place, behind a blank.
+/// Appends a refusal with its place, behind a blank.
 fn push_refusal(alloc: Global, out: &mut Vec<u8>, refusal: Refusal) -> Result<(), AllocError>
     ensures added { OnOk result (out.new.items ≡ out.old.items ++ refusal_text refusal) }
     ensures kept { OnErr result (StartsWith out.new.items out.old.items) }
@@ -56,7 +56,7 @@ fn push_refusal(alloc: Global, out: &mut Vec<u8>, refusal: Refusal) -> Result<()
     push_place(alloc, out, refusal)
 }
 
-// Appends why an operation is refused.
+/// Appends why an operation is refused.
 fn push_fault(alloc: Global, out: &mut Vec<u8>, fault: EditFault) -> Result<(), AllocError>
     ensures added { OnOk result (out.new.items ≡ out.old.items ++ edit_fault_text fault) }
     ensures kept { OnErr result (StartsWith out.new.items out.old.items) }
@@ -82,7 +82,7 @@ fn push_fault(alloc: Global, out: &mut Vec<u8>, fault: EditFault) -> Result<(), 
     }
 }
 
-// Appends the reply to a batch that was accepted.
+/// Appends the reply to a batch that was accepted.
 fn push_accepted(alloc: Global, out: &mut Vec<u8>, number: u64) -> Result<(), AllocError>
     ensures added { OnOk result (out.new.items ≡ out.old.items ++ accepted_text number) }
     ensures kept { OnErr result (StartsWith out.new.items out.old.items) }
@@ -99,7 +99,7 @@ fn refused_word() -> &'static str
     "batch refused: op "
 }
 
-// Appends that the operation of this number is refused.
+/// Appends that the operation of this number is refused.
 fn push_refused_op(alloc: Global, out: &mut Vec<u8>, op: u32) -> Result<(), AllocError>
     ensures added { OnOk result (out.new.items ≡ out.old.items ++ refused_op op) }
     ensures kept { OnErr result (StartsWith out.new.items out.old.items) }
@@ -109,7 +109,7 @@ fn push_refused_op(alloc: Global, out: &mut Vec<u8>, op: u32) -> Result<(), Allo
     out.extend_from_slice(b" ")
 }
 
-// Appends the reply to a batch an operation of which was refused.
+/// Appends the reply to a batch an operation of which was refused.
 fn push_refused(
     alloc: Global,
     out: &mut Vec<u8>,
@@ -124,7 +124,7 @@ fn push_refused(
     out.extend_from_slice(b"\n")
 }
 
-// Appends the reply to a batch for which the journal has no room.
+/// Appends the reply to a batch for which the journal has no room.
 fn push_full(out: &mut Vec<u8>) -> Result<(), AllocError>
     ensures added { OnOk result (out.new.items ≡ out.old.items ++ full_text) }
     ensures kept { OnErr result (StartsWith out.new.items out.old.items) }
@@ -152,7 +152,7 @@ pub fn push_edit_reply(
     }
 }
 
-// Appends the number of a stage and of the batches that it has.
+/// Appends the number of a stage and of the batches that it has.
 fn push_version(
     alloc: Global,
     out: &mut Vec<u8>,

@@ -1,4 +1,4 @@
-// The answers to questions on a prim or a property.
+//! The answers to questions on a prim or a property.
 ghost use Rattle.std.specs.Prelude.{◌≡◌, IfOk, string_bytes};
 ghost use Rattle.stage_questions.specs.Answers.{absent_text, property_name, value_told, default_told, samples_told, targets_told, children_told, faults_told, sites_told};
 
@@ -11,7 +11,7 @@ use stage_publish::View;
 use stage_query::{Answer, children_of, default_of, samples_of, targets_of, value_at, view_of};
 use std::alloc::{AllocError, Global};
 
-// The word for why there is nothing.
+/// The word for why there is nothing.
 fn absent_word<T>(answer: &Answer<T>) -> &'static str
     ensures { result.now ≡ absent_text answer.now }
 {
@@ -24,7 +24,7 @@ fn absent_word<T>(answer: &Answer<T>) -> &'static str
     }
 }
 
-// The name of the property of a path.
+/// The name of the property of a path.
 fn property_name(path: &Path) -> &str
     ensures { result.now ≡ property_name path.now }
 {

@@ -15,7 +15,7 @@ use stage_composer::UsdComposer;
 use stage_publish::Edition;
 use std::alloc::{AllocError, Global};
 
-// The stage of a world.
+/// The stage of a world.
 fn stage_of_world(alloc: Global, world: &World) -> Result<Items<(Path, PrimView)>, StageRefused>
     ensures stage { IfOk result (λ items. items ≡ stage_after world.now []) }
     ensures few { IfOk result (λ items. length items ≤ most_paths) }
@@ -25,7 +25,7 @@ fn stage_of_world(alloc: Global, world: &World) -> Result<Items<(Path, PrimView)
     Ok(items)
 }
 
-// The text of the flattened layer of an edition.
+/// The text of the flattened layer of an edition.
 fn edition_text(alloc: Global, edition: &Edition<Path, PrimView>) -> Result<Vec<u8>, AllocError>
     ensures { IfOk result (λ text. text.items ≡ flat_text edition.now.items) }
 {

@@ -50,7 +50,7 @@ impl Model for Session {
     ghost invariant = { λ s. s.root ≡ s.core.opened.root };
 }
 
-// Publishes the stage of a core's world.
+/// Publishes the stage of a core's world.
 fn publish_core(core: &mut Core<UsdComposer>) -> Result<Items<UsdComposer>, StageRefused>
     ensures published { IfOk result (λ e. Publishes core.old core.new e.version e.batches e.items) }
     ensures few { IfOk result (λ e. length e.items ≤ most_paths) }
@@ -61,7 +61,7 @@ fn publish_core(core: &mut Core<UsdComposer>) -> Result<Items<UsdComposer>, Stag
     Ok(edition)
 }
 
-// The batch of one operation.
+/// The batch of one operation.
 fn batch_of_one(alloc: Global, op: Op) -> Result<Batch, AllocError>
     ensures { IfOk result (λ batch. batch ≡ op ∷ []) }
 {
@@ -73,7 +73,7 @@ fn batch_of_one(alloc: Global, op: Op) -> Result<Batch, AllocError>
     }
 }
 
-// The edition of what a core published, and the reply to the publish.
+/// The edition of what a core published, and the reply to the publish.
 fn show(
     alloc: Global,
     published: Items<UsdComposer>,

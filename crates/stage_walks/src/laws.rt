@@ -1,4 +1,4 @@
-// The laws as the clauses of functions that do nothing.
+//! The laws as the clauses of functions that do nothing.
 ghost use Rattle.stage_walks.specs.Laws.{StageIsWhole, WalksTheStage};
 
 /// The stage of a world by which the program walks, publishes and is asked is that of composition: the same paths with the same views in

@@ -1,4 +1,4 @@
-// The edits of an opinion on the stage.
+//! The edits of an opinion on the stage.
 ghost use Rattle.std.specs.Prelude.{◌≡◌, ◌++◌, filter, filter_map, IfOk, OnOk};
 ghost use Rattle.composition.specs.Arcs.{is_empty};
 ghost use Rattle.composition.specs.Opinions.{has_edits, is_opinion};

@@ -1,4 +1,4 @@
-// Paths through the arcs between a site and the stage.
+//! Paths through the arcs between a site and the stage.
 ghost use Rattle.std.specs.Prelude.{◌≡◌, ◌++◌, IfOk, OnOk, filter_map, filter, option_to_list};
 ghost use Rattle.sdf_paths.specs.Paths.{IsPath};
 ghost use Rattle.path_maps.specs.Prims.{IsOfPrim};
@@ -16,6 +16,7 @@ fn author_of(map: &ArcMap) -> &Path
     ensures prim { IsOfPrim map.now.author }
 {
     let author = &map.author;
+    // By the contract of `elements` this is a path by the rules, as the clause `path` says.
     let _elements = author.elements();
     author
 }
@@ -24,6 +25,7 @@ fn author_of(map: &ArcMap) -> &Path
 fn through_arc(map: &ArcMap, path: &Path) -> Result<Option<Path>, AllocError>
     ensures { IfOk result (λ moved. moved ≡ through_arc map.now path.now) }
 {
+    // By the contracts of these two calls, the author is the path of a prim, and both are paths by the rules.
     let _author = author_of(map);
     let _elements = path.elements();
     match map.translate(path) {

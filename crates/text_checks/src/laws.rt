@@ -1,4 +1,4 @@
-// What holds of the bytes of canonical texts, each law as the clause of a function that does nothing.
+//! What holds of the bytes of canonical texts, each law as the clause of a function that does nothing.
 ghost use Rattle.text_checks.specs.Examples.{AreTold};
 ghost use Rattle.text_checks.specs.Laws.{AreTextsUtf8, DoUtf8TextsPass, DoTextsPass};
 

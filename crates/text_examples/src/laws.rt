@@ -1,5 +1,5 @@
-// What the definitions of texts, paths and lists give, on closed terms: each record of examples as the clause of a function that
-// does nothing.
+//! What the definitions of texts, paths and lists give, on closed terms: each record of examples as the clause of a function that
+//! does nothing.
 ghost use Rattle.text_examples.specs.ListEdits.{AreTold as EditsAreTold};
 ghost use Rattle.text_examples.specs.Lists.{AreTold as ListsAreTold};
 ghost use Rattle.text_examples.specs.Paths.{AreTold as PathsAreTold};

@@ -1,4 +1,4 @@
-// Why words are refused as `Syntax` though some text goes on with them.
+//! Why words are refused as `Syntax` though some text goes on with them.
 ghost use Rattle.text_syntax.specs.Open.{OpenValuesFollow};
 ghost use Rattle.text_syntax.specs.Elsewhere.{OtherWordsHaveRules};
 ghost use Rattle.text_syntax.specs.Reasons.{RefusalsHaveReasons};

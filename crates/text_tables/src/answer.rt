@@ -36,7 +36,7 @@ struct Call<'r> {
     text: &'r str,
 }
 
-// Values that are read with a shape.
+/// Values that are read with a shape.
 fn push_shapes(alloc: Global, out: &mut String, call: Call<'_>) -> Result<(), CallFault> {
     let Call { word, words, text } = call;
     match word {
@@ -47,7 +47,7 @@ fn push_shapes(alloc: Global, out: &mut String, call: Call<'_>) -> Result<(), Ca
     }
 }
 
-// Calls on types and values, and those above.
+/// Calls on types and values, and those of `push_shapes`.
 fn push_values(alloc: Global, out: &mut String, call: Call<'_>) -> Result<(), CallFault> {
     let Call { word, words, text } = call;
     match word {
@@ -60,7 +60,7 @@ fn push_values(alloc: Global, out: &mut String, call: Call<'_>) -> Result<(), Ca
     }
 }
 
-// Calls on numbers, times and offsets, and those above.
+/// Calls on numbers, times and offsets, and those of `push_values`.
 fn push_numbers(alloc: Global, out: &mut String, call: Call<'_>) -> Result<(), CallFault> {
     let Call { word, words, text } = call;
     match word {
@@ -72,7 +72,7 @@ fn push_numbers(alloc: Global, out: &mut String, call: Call<'_>) -> Result<(), C
     }
 }
 
-// Calls on names, and those above.
+/// Calls on names, and those of `push_numbers`.
 fn push_names(alloc: Global, out: &mut String, call: Call<'_>) -> Result<(), CallFault> {
     let Call { word, words, text } = call;
     match word {
@@ -84,7 +84,7 @@ fn push_names(alloc: Global, out: &mut String, call: Call<'_>) -> Result<(), Cal
     }
 }
 
-// Calls that make a path of another one, and those above.
+/// Calls that make a path of another one, and those of `push_names`.
 fn push_made_paths(alloc: Global, out: &mut String, call: Call<'_>) -> Result<(), CallFault> {
     let Call { word, words, text } = call;
     match word {
@@ -96,7 +96,7 @@ fn push_made_paths(alloc: Global, out: &mut String, call: Call<'_>) -> Result<()
     }
 }
 
-// Calls on paths, and those above.
+/// Calls on paths, and those of `push_made_paths`.
 fn push_paths(alloc: Global, out: &mut String, call: Call<'_>) -> Result<(), CallFault> {
     let Call { word, words, text } = call;
     match word {
@@ -109,7 +109,7 @@ fn push_paths(alloc: Global, out: &mut String, call: Call<'_>) -> Result<(), Cal
     }
 }
 
-// Calls on the edits that a layer says, and those above.
+/// Calls on the edits that a layer says, and those of `push_paths`.
 fn push_edits(alloc: Global, out: &mut String, call: Call<'_>) -> Result<(), CallFault> {
     let Call { word, words, text } = call;
     match word {
@@ -122,7 +122,7 @@ fn push_edits(alloc: Global, out: &mut String, call: Call<'_>) -> Result<(), Cal
     }
 }
 
-// Calls on what stands in lists, and those above.
+/// Calls on what stands in lists, and those of `push_edits`.
 fn push_lists(alloc: Global, out: &mut String, call: Call<'_>) -> Result<(), CallFault> {
     let Call { word, words, text } = call;
     match word {
@@ -135,7 +135,7 @@ fn push_lists(alloc: Global, out: &mut String, call: Call<'_>) -> Result<(), Cal
     }
 }
 
-// Calls on what a token means, and those above.
+/// Calls on what a token means, and those of `push_lists`.
 fn push_meanings(alloc: Global, out: &mut String, call: Call<'_>) -> Result<(), CallFault> {
     let Call { word, words, text } = call;
     match word {
@@ -145,7 +145,7 @@ fn push_meanings(alloc: Global, out: &mut String, call: Call<'_>) -> Result<(), 
     }
 }
 
-// Calls on the tokens of bytes, and those above, on text.
+/// Calls on the tokens of bytes, and those of `push_meanings`, on text.
 fn push_tokens(alloc: Global, out: &mut String, row: &Row) -> Result<(), CallFault> {
     let (word, words) = first_word(row.call.as_str());
     let bytes = row.given.as_slice();
@@ -160,7 +160,7 @@ fn push_tokens(alloc: Global, out: &mut String, row: &Row) -> Result<(), CallFau
     }
 }
 
-// Calls on the bytes of a layer, and those above.
+/// Calls on the bytes of a layer, and those of `push_tokens`.
 fn push_call(alloc: Global, out: &mut String, row: &Row) -> Result<(), CallFault> {
     let (word, _words) = first_word(row.call.as_str());
     let bytes = row.given.as_slice();

@@ -6,7 +6,7 @@ use list_ops::{ListOp, fold, fold_ordered, reorder, reorder_ordered};
 use plain_data::Items;
 use std::alloc::{AllocError, Global};
 
-// The items of a text: a number for each byte.
+/// The items of a text: a number for each byte.
 fn list_of(alloc: Global, text: &str) -> Result<Vec<u64>, AllocError> {
     let mut list = Vec::new(alloc);
     for byte in text.as_bytes() {
@@ -19,7 +19,7 @@ fn items_of(alloc: Global, text: &str) -> Result<Items<u64>, AllocError> {
     Ok(Items::from_vec(list_of(alloc, text)?))
 }
 
-// Appends the items of a list.
+/// Appends the items of a list.
 fn push_list(out: &mut String, list: &[u64]) -> Result<(), CallFault> {
     for item in list {
         match u8::try_from(*item) {
@@ -30,7 +30,7 @@ fn push_list(out: &mut String, list: &[u64]) -> Result<(), CallFault> {
     Ok(push_word(out, "")?)
 }
 
-// A line of a text, by its number from 0; empty where there is none.
+/// A line of a text, by its number from 0; empty where there is none.
 fn line_at(text: &str, number: usize) -> &str {
     let mut lines = text.lines();
     for _line in 0..number {
@@ -39,7 +39,7 @@ fn line_at(text: &str, number: usize) -> &str {
     lines.next().unwrap_or("")
 }
 
-// What an opinion deletes, adds, prepends, appends and orders, a line each.
+/// What an opinion deletes, adds, prepends, appends and orders, a line each.
 fn five_edits(alloc: Global, text: &str) -> Result<ListOp<u64>, AllocError> {
     Ok(ListOp {
         explicit: None,
@@ -51,21 +51,21 @@ fn five_edits(alloc: Global, text: &str) -> Result<ListOp<u64>, AllocError> {
     })
 }
 
-// What an opinion makes of a list, by scans.
+/// What an opinion makes of a list, by scans.
 fn scanned(alloc: Global, op: &ListOp<u64>, text: &str) -> Result<Vec<u64>, AllocError> {
     let mut list = list_of(alloc, text)?;
     op.apply(&mut list)?;
     Ok(list)
 }
 
-// The same by sets.
+/// The same by sets.
 fn sorted(alloc: Global, op: &ListOp<u64>, text: &str) -> Result<Vec<u64>, AllocError> {
     let mut list = list_of(alloc, text)?;
     op.apply_ordered(&mut list)?;
     Ok(list)
 }
 
-// Appends what an opinion makes of a list, by scans and by sets.
+/// Appends what an opinion makes of a list, by scans and by sets.
 fn push_applied(
     alloc: Global,
     out: &mut String,
@@ -86,7 +86,7 @@ pub(crate) fn push_opinion_call(
     push_applied(alloc, out, &op, line_at(text, 5))
 }
 
-// Sets what a line prepends, appends or orders.
+/// Sets what a line prepends, appends or orders.
 fn set_placed(alloc: Global, op: &mut ListOp<u64>, line: &str) -> Result<(), AllocError> {
     if let Some(text) = line.strip_prefix("<") {
         op.prepended = items_of(alloc, text)?;
@@ -98,7 +98,7 @@ fn set_placed(alloc: Global, op: &mut ListOp<u64>, line: &str) -> Result<(), All
     Ok(())
 }
 
-// Sets what a line says: its first character tells what the others are.
+/// Sets what a line says: its first character tells what the others are.
 fn set_edit(alloc: Global, op: &mut ListOp<u64>, line: &str) -> Result<(), AllocError> {
     if let Some(text) = line.strip_prefix("=") {
         op.explicit = Some(items_of(alloc, text)?);
@@ -112,14 +112,14 @@ fn set_edit(alloc: Global, op: &mut ListOp<u64>, line: &str) -> Result<(), Alloc
     Ok(())
 }
 
-// The opinion that a line stands for.
+/// The opinion that a line stands for.
 fn opinion_of(alloc: Global, line: &str) -> Result<ListOp<u64>, AllocError> {
     let mut op = ListOp::new(alloc);
     set_edit(alloc, &mut op, line)?;
     Ok(op)
 }
 
-// The opinions of a text, a line each.
+/// The opinions of a text, a line each.
 fn opinions_of(alloc: Global, text: &str) -> Result<Vec<ListOp<u64>>, AllocError> {
     let mut ops = Vec::new(alloc);
     for line in text.lines() {
@@ -128,7 +128,7 @@ fn opinions_of(alloc: Global, text: &str) -> Result<Vec<ListOp<u64>>, AllocError
     Ok(ops)
 }
 
-// Appends what opinions make of the empty list, by scans and by sets.
+/// Appends what opinions make of the empty list, by scans and by sets.
 fn push_folded(alloc: Global, out: &mut String, ops: &[ListOp<u64>]) -> Result<(), CallFault> {
     push_list(out, fold(alloc, ops)?.as_slice())?;
     push_list(out, fold_ordered(alloc, ops)?.as_slice())

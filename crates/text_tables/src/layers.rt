@@ -12,7 +12,7 @@ use usda_writer::write_layer;
 /// The first line of a layer's text.
 const FIRST_LINE: &str = "#usda 1.0\n";
 
-// Appends the kind, the line and the column of a refusal.
+/// Appends the kind, the line and the column of a refusal.
 fn push_fault(out: &mut String, fault: LayerFault) -> Result<(), CallFault> {
     match fault {
         LayerFault::Refused(refusal) => {
@@ -25,7 +25,7 @@ fn push_fault(out: &mut String, fault: LayerFault) -> Result<(), CallFault> {
     }
 }
 
-// Why a text is no layer, if it is none.
+/// Why a text is no layer, if it is none.
 fn fault_of(alloc: Global, bytes: &[u8]) -> Option<LayerFault> {
     match read_layer(alloc, bytes) {
         Ok(layer) => {
@@ -48,7 +48,7 @@ pub(crate) fn push_whole_call(
     }
 }
 
-// A text behind the first line.
+/// A text behind the first line.
 fn below(alloc: Global, text: &[u8]) -> Result<Vec<u8>, AllocError> {
     let mut whole = Vec::from_slice(alloc, FIRST_LINE.as_bytes())?;
     whole.extend_from_slice(text)?;
@@ -65,7 +65,7 @@ pub(crate) fn push_below_call(
     push_whole_call(alloc, out, whole.as_slice())
 }
 
-// The canonical text of a layer, below its first line.
+/// The canonical text of a layer, below its first line.
 fn written_below(alloc: Global, layer: &Layer) -> Result<String, CallFault> {
     let written = write_layer(alloc, layer)?;
     let written = String::from_utf8_lossy(alloc, written.as_slice())?;
@@ -74,14 +74,14 @@ fn written_below(alloc: Global, layer: &Layer) -> Result<String, CallFault> {
     Ok(String::from_str(alloc, below)?)
 }
 
-// A refusal, as it is told.
+/// A refusal, as it is told.
 fn refused(alloc: Global, fault: LayerFault) -> Result<String, CallFault> {
     let mut told = String::new(alloc);
     push_fault(&mut told, fault)?;
     Ok(told)
 }
 
-// The canonical text, below its first line, of a text behind the first line; or the refusal.
+/// The canonical text, below its first line, of a text behind the first line; or the refusal.
 fn rewritten(alloc: Global, text: &[u8]) -> Result<String, CallFault> {
     let whole = below(alloc, text)?;
     match read_layer(alloc, whole.as_slice()) {
@@ -118,7 +118,7 @@ pub(crate) fn push_again_call(
     Ok(out.push_str(twice.as_str())?)
 }
 
-// Whether bytes are the text of a layer, or why they are none.
+/// Whether bytes are the text of a layer, or why they are none.
 fn is_text_of(alloc: Global, layer: &Layer, bytes: &[u8]) -> Result<bool, LayerFault> {
     let back = read_layer(alloc, bytes)?;
     let is_same = same(layer, &back);
@@ -126,7 +126,7 @@ fn is_text_of(alloc: Global, layer: &Layer, bytes: &[u8]) -> Result<bool, LayerF
     Ok(is_same)
 }
 
-// Appends whether a layer is what its canonical text says.
+/// Appends whether a layer is what its canonical text says.
 fn push_back(alloc: Global, out: &mut String, layer: &Layer) -> Result<(), CallFault> {
     let written = write_layer(alloc, layer)?;
     match is_text_of(alloc, layer, written.as_slice()) {
@@ -152,7 +152,7 @@ pub(crate) fn push_round_call(
     }
 }
 
-// The line and the column of the byte behind the last one.
+/// The line and the column of the byte behind the last one.
 fn end_of(bytes: &[u8]) -> (u64, u64) {
     let mut line = 1u64;
     let mut column = 1u64;
@@ -167,7 +167,7 @@ fn end_of(bytes: &[u8]) -> (u64, u64) {
     (line, column)
 }
 
-// Whether bytes are read, or refused at one of them or behind the last one.
+/// Whether bytes are read, or refused at one of them or behind the last one.
 fn is_told_inside(alloc: Global, bytes: &[u8]) -> Result<bool, CallFault> {
     let (line, column) = end_of(bytes);
     match fault_of(alloc, bytes) {

@@ -51,7 +51,7 @@ pub(crate) fn push_token_call(
     }
 }
 
-// Appends why something is refused, if it is.
+/// Appends why something is refused, if it is.
 fn push_refused(out: &mut String, done: Result<(), PartFault>) -> Result<(), CallFault> {
     match done {
         Ok(()) => Ok(()),
@@ -81,7 +81,7 @@ pub(crate) fn push_edits_call(out: &mut String, words: &str) -> Result<(), CallF
     }
 }
 
-// An offset of 7 and a scale of 3, of which one is set.
+/// An offset of 7 and a scale of 3, of which one is set.
 fn set(key: &str, number: &str) -> Result<LayerOffset, PartFault> {
     let key = offset_key(key)?;
     let moved = set_offset(offset_key("offset")?, "7", LayerOffset::identity())?;
@@ -98,7 +98,7 @@ pub(crate) fn push_offset_call(out: &mut String, words: &str) -> Result<(), Call
     }
 }
 
-// Takes a line of a list of references: an item by its token, or what its word says of the last item.
+/// Takes a line of a list of references: an item by its token, or what its word says of the last item.
 fn take_item(
     alloc: Global,
     op: &mut ListOp<RefItem>,
@@ -117,7 +117,7 @@ fn take_item(
     }
 }
 
-// Appends an item: its asset, its path, and whether it has an offset.
+/// Appends an item: its asset, its path, and whether it has an offset.
 fn push_ref(out: &mut String, item: &RefItem) -> Result<(), AllocError> {
     match &item.asset {
         Some(asset) => out.push_str(asset.as_str())?,
@@ -132,7 +132,7 @@ fn push_ref(out: &mut String, item: &RefItem) -> Result<(), AllocError> {
     push_word(out, if is_mapped { " mapped" } else { "" })
 }
 
-// Takes the lines of a list of references, and appends its items, each once, behind why lines are refused.
+/// Takes the lines of a list of references, and appends its items, each once, behind why lines are refused.
 fn push_items(
     alloc: Global,
     out: &mut String,
@@ -164,7 +164,7 @@ pub(crate) fn push_references_call(
     push_items(alloc, out, &mut op, &base, text)
 }
 
-// Takes lines as an explicit list.
+/// Takes lines as an explicit list.
 fn take_texts(alloc: Global, op: &mut ListOp<Text>, text: &str) -> Result<(), CallFault> {
     for line in text.lines() {
         push_item(op, ListEdit::Explicit, Text::of(alloc, line)?)?;
@@ -172,7 +172,7 @@ fn take_texts(alloc: Global, op: &mut ListOp<Text>, text: &str) -> Result<(), Ca
     Ok(close_texts(alloc, op, ListEdit::Explicit)?)
 }
 
-// Appends the texts of an explicit list.
+/// Appends the texts of an explicit list.
 fn push_kept(out: &mut String, op: &ListOp<Text>) -> Result<(), CallFault> {
     let Some(kept) = &op.explicit else {
         return Ok(push_word(out, "no list")?);
@@ -194,7 +194,7 @@ pub(crate) fn push_texts_call(
     push_kept(out, &op)
 }
 
-// Takes lines as a list of paths.
+/// Takes lines as a list of paths.
 fn take_paths(alloc: Global, op: &mut ListOp<Path>, text: &str) -> Result<(), CallFault> {
     for line in text.lines() {
         push_item(op, ListEdit::Add, path_of(alloc, line)?)?;
@@ -202,7 +202,7 @@ fn take_paths(alloc: Global, op: &mut ListOp<Path>, text: &str) -> Result<(), Ca
     Ok(close_paths(alloc, op, ListEdit::Add)?)
 }
 
-// Appends paths, a line each.
+/// Appends paths, a line each.
 fn push_added(out: &mut String, paths: &[Path]) -> Result<(), CallFault> {
     for path in paths {
         push_word(out, path.print()?.as_str())?;
@@ -221,7 +221,7 @@ pub(crate) fn push_paths_call(
     push_added(out, op.added.as_slice())
 }
 
-// Takes a line of a list of sublayers: one by its token, or an offset or a scale of the last one.
+/// Takes a line of a list of sublayers: one by its token, or an offset or a scale of the last one.
 fn take_sublayer(
     alloc: Global,
     sublayers: &mut Items<SubLayer>,

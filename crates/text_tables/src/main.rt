@@ -35,7 +35,7 @@ static TABLES: [&str; 10] = [
     "names.rows",
 ];
 
-// The text of a file.
+/// The text of a file.
 fn text_of(rt: &HostRuntime, name: &str) -> Result<String, AllocError> {
     let alloc = rt.alloc();
     let mut bytes = Vec::new(alloc);
@@ -49,7 +49,7 @@ fn text_of(rt: &HostRuntime, name: &str) -> Result<String, AllocError> {
     }
 }
 
-// Makes the calls of a table, and prints what comes of them.
+/// Makes the calls of a table, and prints what comes of them.
 fn one(rt: &HostRuntime, name: &str) -> io::Result<Count> {
     let alloc = rt.alloc();
     let text = text_of(rt, name)?;

@@ -6,7 +6,7 @@ use asset_names::{AssetFault, AssetId};
 use std::alloc::Global;
 use std::fmt::Write;
 
-// Appends a name, or where it is refused.
+/// Appends a name, or where it is refused.
 fn push_named(out: &mut String, named: Result<AssetId, AssetFault>) -> Result<(), CallFault> {
     match named {
         Ok(name) => Ok(push_word(out, name.text())?),
@@ -15,7 +15,7 @@ fn push_named(out: &mut String, named: Result<AssetId, AssetFault>) -> Result<()
     }
 }
 
-// The name that a word is.
+/// The name that a word is.
 fn name_of(alloc: Global, word: &str) -> Result<AssetId, CallFault> {
     match AssetId::of_word(alloc, word) {
         Ok(name) => Ok(name),

@@ -7,7 +7,7 @@ use sdf_paths::{Path, PathFault};
 use std::alloc::{AllocError, Global};
 use std::fmt::Write;
 
-// Appends a path, or where it is refused.
+/// Appends a path, or where it is refused.
 fn push_made(out: &mut String, made: Result<Path, PathFault>) -> Result<(), CallFault> {
     match made {
         Ok(path) => Ok(push_word(out, path.print()?.as_str())?),
@@ -35,7 +35,7 @@ pub(crate) fn push_looks_call(
     Ok(writeln!(out, " {plain} {owner} {last}")?)
 }
 
-// Appends a word where something holds.
+/// Appends a word where something holds.
 fn push_if(out: &mut String, holds: bool, word: &str) -> Result<(), AllocError> {
     if holds {
         push_word(out, word)?;
@@ -82,7 +82,7 @@ pub(crate) fn push_append_call(
     push_made(out, path.append(name))
 }
 
-// A path with another front, where that is a prim's path other than `/`.
+/// A path with another front, where that is a prim's path other than `/`.
 fn moved(path: &Path, front: &Path, by: &Path) -> Result<Option<Path>, PathFault> {
     if by.is_property() {
         return Ok(None);

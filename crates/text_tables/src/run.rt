@@ -22,7 +22,7 @@ impl Count {
     }
 }
 
-// Appends lines, each behind a mark.
+/// Appends lines, each behind a mark.
 fn push_marked(out: &mut String, mark: &str, lines: &str) -> Result<(), AllocError> {
     for line in lines.lines() {
         out.push_str(mark)?;
@@ -32,7 +32,7 @@ fn push_marked(out: &mut String, mark: &str, lines: &str) -> Result<(), AllocErr
     Ok(())
 }
 
-// Appends a row that differs, with what was answered and what is wanted.
+/// Appends a row that differs, with what was answered and what is wanted.
 fn push_row(
     alloc: Global,
     name: &str,
@@ -58,7 +58,7 @@ struct Run<'n> {
 }
 
 impl<'n> Run<'n> {
-    // Makes the call of a row.
+    /// Makes the call of a row.
     fn make(&mut self, row: &Row, out: &mut String) -> Result<(), AllocError> {
         let got = answer(self.alloc, row)?;
         let differs = got.as_bytes() != row.wanted.as_slice();
@@ -72,7 +72,7 @@ impl<'n> Run<'n> {
         Ok(())
     }
 
-    // Makes the call of the last row, and gives that row.
+    /// Makes the call of the last row, and gives that row.
     fn end(&mut self, out: &mut String) -> Result<Option<Row>, AllocError> {
         let last = self.last.take();
         if let Some(row) = &last {
@@ -81,7 +81,7 @@ impl<'n> Run<'n> {
         Ok(last)
     }
 
-    // Begins a row with the text of the one above.
+    /// Begins a row with the text of the one above.
     fn again(
         &mut self,
         line: usize,
@@ -97,7 +97,7 @@ impl<'n> Run<'n> {
         Ok(Some(()))
     }
 
-    // Takes a line; nothing where it may not stand there.
+    /// Takes a line; nothing where it may not stand there.
     fn take(
         &mut self,
         number: usize,
@@ -119,7 +119,7 @@ impl<'n> Run<'n> {
         }
     }
 
-    // Takes the lines of a table.
+    /// Takes the lines of a table.
     fn take_all(&mut self, text: &str, out: &mut String) -> Result<(), AllocError> {
         let mut number: usize = 0;
         for line in text.split('\n') {

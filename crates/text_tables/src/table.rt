@@ -62,7 +62,7 @@ enum Reading {
     Bad,
 }
 
-// The digit that a byte is.
+/// The digit that a byte is.
 fn digit_of(byte: u8) -> Option<u8> {
     match byte {
         b'0'..=b'9' => Some(byte.saturating_sub(b'0')),
@@ -71,7 +71,7 @@ fn digit_of(byte: u8) -> Option<u8> {
     }
 }
 
-// The byte that a letter behind a backslash stands for.
+/// The byte that a letter behind a backslash stands for.
 fn escaped(byte: u8) -> Option<u8> {
     match byte {
         b'n' => Some(b'\n'),
@@ -82,7 +82,7 @@ fn escaped(byte: u8) -> Option<u8> {
     }
 }
 
-// Appends the byte that is there, if there is one.
+/// Appends the byte that is there, if there is one.
 fn push_some(out: &mut Vec<u8>, byte: Option<u8>) -> Result<Reading, AllocError> {
     match byte {
         Some(byte) => {
@@ -93,7 +93,7 @@ fn push_some(out: &mut Vec<u8>, byte: Option<u8>) -> Result<Reading, AllocError>
     }
 }
 
-// Takes a byte behind `\x`, or behind that and a first digit.
+/// Takes a byte behind `\x`, or behind that and a first digit.
 fn take_digit(out: &mut Vec<u8>, high: Option<u8>, byte: u8) -> Result<Reading, AllocError> {
     match (high, digit_of(byte)) {
         (Some(high), Some(low)) => push_some(
@@ -105,7 +105,7 @@ fn take_digit(out: &mut Vec<u8>, high: Option<u8>, byte: u8) -> Result<Reading, 
     }
 }
 
-// Takes a byte of a piece.
+/// Takes a byte of a piece.
 fn take_byte(out: &mut Vec<u8>, reading: Reading, byte: u8) -> Result<Reading, AllocError> {
     match reading {
         Reading::Plain if byte == b'\\' => Ok(Reading::Escape),
@@ -118,7 +118,7 @@ fn take_byte(out: &mut Vec<u8>, reading: Reading, byte: u8) -> Result<Reading, A
     }
 }
 
-// Appends what a piece stands for; nothing where it is none.
+/// Appends what a piece stands for; nothing where it is none.
 fn push_piece(out: &mut Vec<u8>, piece: &str) -> Result<Option<()>, AllocError> {
     let mut reading = Reading::Plain;
     for byte in piece.as_bytes() {
@@ -130,13 +130,13 @@ fn push_piece(out: &mut Vec<u8>, piece: &str) -> Result<Option<()>, AllocError> 
     }
 }
 
-// Doubles bytes.
+/// Doubles bytes.
 fn double(bytes: &mut Vec<u8>, alloc: Global) -> Result<(), AllocError> {
     let half = Vec::from_slice(alloc, bytes.as_slice())?;
     bytes.extend_from_slice(half.as_slice())
 }
 
-// Appends bytes so many times. Twice the bytes are as many again, so that many of them take few steps.
+/// Appends bytes so many times. Twice the bytes are as many again, so that many of them take few steps.
 fn push_copies(
     out: &mut Vec<u8>,
     once: Vec<u8>,
@@ -158,7 +158,7 @@ fn push_copies(
     Ok(())
 }
 
-// Appends a piece so many times; nothing where the words are not a number and a piece.
+/// Appends a piece so many times; nothing where the words are not a number and a piece.
 fn push_times(out: &mut Vec<u8>, words: &str, alloc: Global) -> Result<Option<()>, AllocError> {
     let Some((count, piece)) = words.split_once(' ') else {
         return Ok(None);
@@ -174,7 +174,7 @@ fn push_times(out: &mut Vec<u8>, words: &str, alloc: Global) -> Result<Option<()
     Ok(Some(()))
 }
 
-// Appends a line with its line feed.
+/// Appends a line with its line feed.
 fn push_line(out: &mut Vec<u8>, line: &str) -> Result<Option<()>, AllocError> {
     out.extend_from_slice(line.as_bytes())?;
     out.push(b'\n')?;
@@ -192,7 +192,7 @@ impl Row {
         })
     }
 
-    // Takes a line of the answer; nothing where it is none.
+    /// Takes a line of the answer; nothing where it is none.
     fn take_wanted(&mut self, alloc: Global, line: &str) -> Result<Option<()>, AllocError> {
         if let Some(text) = line.strip_prefix("=") {
             return push_line(&mut self.wanted, text);

@@ -9,7 +9,7 @@ use usda_lexer::{
     LexFault, Token, TokenKind, Tokens, asset_text, number_of, path_text, place_of, string_text,
 };
 
-// The letter of a kind.
+/// The letter of a kind.
 fn letter_of(kind: TokenKind) -> &'static str {
     match kind {
         TokenKind::Name => "N",
@@ -21,7 +21,7 @@ fn letter_of(kind: TokenKind) -> &'static str {
     }
 }
 
-// Appends why there is no further token.
+/// Appends why there is no further token.
 fn push_fault(out: &mut String, fault: LexFault) -> Result<(), AllocError> {
     let (name, at) = match fault {
         LexFault::NotUtf8 { at } => ("NotUtf8", at),
@@ -32,7 +32,7 @@ fn push_fault(out: &mut String, fault: LexFault) -> Result<(), AllocError> {
     write!(out, "{name} {at}")
 }
 
-// Appends the tokens of a source, up to the first fault.
+/// Appends the tokens of a source, up to the first fault.
 fn push_tokens(out: &mut String, source: &[u8]) -> Result<Result<(), LexFault>, AllocError> {
     let mut tokens = match Tokens::new(source) {
         Ok(tokens) => tokens,
@@ -60,7 +60,7 @@ pub(crate) fn push_tokens_call(out: &mut String, source: &[u8]) -> Result<(), Ca
     Ok(push_word(out, "")?)
 }
 
-// Appends the kind and the place of a token, or that there is none.
+/// Appends the kind and the place of a token, or that there is none.
 fn push_place(
     out: &mut String,
     answer: Result<Option<Token<'_>>, LexFault>,

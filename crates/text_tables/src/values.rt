@@ -27,7 +27,7 @@ pub(crate) fn push_number_call(
     }
 }
 
-// The time that a text is, if there is one.
+/// The time that a text is, if there is one.
 fn time_of(text: &str) -> Result<Option<TimeCode>, CallFault> {
     match Decimal::parse(text) {
         Ok(number) => Ok(TimeCode::of(number).ok()),
@@ -43,7 +43,7 @@ pub(crate) fn push_time_call(alloc: Global, out: &mut String, text: &str) -> Res
     }
 }
 
-// The offset that two words are: an offset and a scale.
+/// The offset that two words are: an offset and a scale.
 fn offset_of(offset: &str, scale: &str) -> Result<LayerOffset, CallFault> {
     let moved = set_offset(offset_key("offset")?, offset, LayerOffset::identity())?;
     Ok(set_offset(offset_key("scale")?, scale, moved)?)
@@ -82,7 +82,7 @@ pub(crate) fn push_mapped_call(
     }
 }
 
-// The tokens of a text.
+/// The tokens of a text.
 fn tokens_of(text: &str) -> Result<Tokens<'_>, CallFault> {
     match Tokens::new(text.as_bytes()) {
         Ok(tokens) => Ok(tokens),
@@ -90,7 +90,7 @@ fn tokens_of(text: &str) -> Result<Tokens<'_>, CallFault> {
     }
 }
 
-// The value that the whole of a text is, as one of which nothing is known.
+/// The value that the whole of a text is, as one of which nothing is known.
 fn read_whole(alloc: Global, text: &str) -> Result<Value, CallFault> {
     let mut tokens = tokens_of(text)?;
     let value = read_value(alloc, &mut tokens)?;
@@ -100,7 +100,7 @@ fn read_whole(alloc: Global, text: &str) -> Result<Value, CallFault> {
     }
 }
 
-// The whole number that a text is.
+/// The whole number that a text is.
 fn whole_value(text: &str) -> Result<Value, CallFault> {
     match text.parse::<i128>() {
         Ok(whole) => Ok(Value::Whole(whole)),
@@ -108,7 +108,7 @@ fn whole_value(text: &str) -> Result<Value, CallFault> {
     }
 }
 
-// The time that a text is.
+/// The time that a text is.
 fn time_value(text: &str) -> Result<Value, CallFault> {
     match time_of(text)? {
         Some(time) => Ok(Value::Time(time)),
@@ -116,7 +116,7 @@ fn time_value(text: &str) -> Result<Value, CallFault> {
     }
 }
 
-// A value of a kind that holds a text.
+/// A value of a kind that holds a text.
 fn text_value(kind: &str, text: Text) -> Value {
     match kind {
         "text" => Value::Text(text),
@@ -126,7 +126,7 @@ fn text_value(kind: &str, text: Text) -> Value {
     }
 }
 
-// The value that a text says by its first word, or else as one of which nothing is known.
+/// The value that a text says by its first word, or else as one of which nothing is known.
 fn one_value(alloc: Global, said: &str) -> Result<Value, CallFault> {
     let (kind, text) = first_word(said);
     match kind {
@@ -139,7 +139,7 @@ fn one_value(alloc: Global, said: &str) -> Result<Value, CallFault> {
     }
 }
 
-// The same, or an array of a value and `None`.
+/// The same, or an array of a value and `None`.
 fn value_of(alloc: Global, said: &str) -> Result<Value, CallFault> {
     let Some(first) = said.strip_prefix("array ") else {
         return one_value(alloc, said);
@@ -150,7 +150,7 @@ fn value_of(alloc: Global, said: &str) -> Result<Value, CallFault> {
     Ok(Value::Array(items))
 }
 
-// Appends the canonical text of a value.
+/// Appends the canonical text of a value.
 fn push_printed(
     alloc: Global,
     out: &mut String,
@@ -161,13 +161,13 @@ fn push_printed(
     Ok(push_word(out, text.as_str())?)
 }
 
-// Whether the copy of a value is the value.
+/// Whether the copy of a value is the value.
 fn is_copied(value: &Value) -> Result<bool, CallFault> {
     let copied = value.clone()?;
     Ok(copied == *value)
 }
 
-// Appends the canonical text of a value, whether its copy is another one, and whether it is `None`.
+/// Appends the canonical text of a value, whether its copy is another one, and whether it is `None`.
 fn push_looks(
     alloc: Global,
     out: &mut String,
@@ -224,7 +224,7 @@ pub(crate) fn push_type_call(out: &mut String, words: &str, text: &str) -> Resul
     }
 }
 
-// Appends a value that was read, or the kind and the place of its refusal.
+/// Appends a value that was read, or the kind and the place of its refusal.
 fn push_read(
     alloc: Global,
     out: &mut String,

@@ -1,7 +1,7 @@
 use std::test::Fail;
 use turn_writers::{Book, write_by_many, write_by_two};
 
-// Whether the entries of this seat count up from 0, and how many it has.
+/// Whether the entries of this seat count up from 0, and how many it has.
 fn counted(book: &Book, by: u64) -> Option<u64> {
     let mut next = 0;
     for entry in book.entries.as_slice() {

@@ -3,7 +3,7 @@ ghost use Rattle.std.specs.Prelude.{◌≡◌};
 use std::test::Fail;
 use turn_lock::{Desk, Journalled, SplitRefused};
 
-// A value with a list of who had it.
+/// A value with a list of who had it.
 #[derive(Drop)]
 struct Marks {
     list: Vec<u64>,

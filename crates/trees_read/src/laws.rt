@@ -1,4 +1,4 @@
-// What holds of the tree of prims and variants of each layer that a text says, and of its lists.
+//! What holds of the tree of prims and variants of each layer that a text says, and of its lists.
 ghost use Rattle.trees_read.specs.Laws.{TreesAreRead};
 ghost use Rattle.trees_read.specs.Lists.{ListsAreClosed};
 

@@ -1,4 +1,4 @@
-// The rule of a desk's table, and the names of its steps.
+//! The rule of a desk's table, and the names of its steps.
 ghost use Rattle.std.specs.Prelude.{ℕ, List};
 ghost use Rattle.turn_lock.specs.Turns.{Kept, first_view, draws, looks, advances, settles, unborne, kept, split_off, joined, spent};
 
@@ -15,13 +15,13 @@ pub trait Journalled {
     /// What stays the same of the value for good, as plain data.
     type Name;
 
-    // The list of entries for which the value stands.
+    /// The list of entries for which the value stands.
     ghost entries: { Self → List Self.Entry };
 
-    // The number of the seat that made an entry.
+    /// The number of the seat that made an entry.
     ghost bears: { Self.Entry → ℕ };
 
-    // The value's name.
+    /// The value's name.
     ghost named: { Self → Self.Name };
 }
 

@@ -12,7 +12,8 @@ use std::sync::Wait;
 use std::thread::{Threads, join};
 use turn_lock::{Desk, Seat};
 
-// The seat and one of each of its spare numbers write this many entries each, in threads of their own. The seat has then all the numbers.
+/// The seat and one of each of its spare numbers write this many entries each, in threads of their own. The seat has then all
+/// the numbers.
 fn write_all<R: Threads + Wait + Sync>(
     rt: &R,
     desk: &Desk<Book>,

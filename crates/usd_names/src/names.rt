@@ -1,4 +1,4 @@
-// The characters of names, and whether a text is an identifier.
+//! The characters of names, and whether a text is an identifier.
 ghost use Rattle.std.specs.Prelude.{◌≡◌, false};
 ghost use Rattle.std.specs.Str.{chars};
 ghost use Rattle.usd_names.specs.Names.{is_start, is_variant_character, spells_identifier, spells_joined, is_identifier, is_name, is_number_word, goes_on};
@@ -70,7 +70,7 @@ pub fn is_name(text: &str) -> bool
     is_chain(text) && !is_number_word(text)
 }
 
-// Identifiers joined by colons.
+/// Identifiers joined by colons.
 fn is_chain(text: &str) -> bool
     ensures { result ≡ spells_joined false (chars text.now) }
 {

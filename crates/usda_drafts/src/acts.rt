@@ -11,7 +11,7 @@ use usda_grammar::Symbol;
 use usda_words::Word;
 
 impl Draft {
-    // The statements of the layer, and offsets.
+    /// Takes a word of the statements of the layer, or of offsets.
     #[tactic(auto, unfolding(crate::specs::Acts::layers_act))]
     fn act_in_layer(&mut self, symbol: Symbol, word: &Word<'_>) -> Result<(), ActFault>
         ensures { Does result self.new (layers_act symbol (word_of word.now) self.old) }
@@ -37,7 +37,7 @@ impl Draft {
         }
     }
 
-    // The head of a prim, and lists.
+    /// Takes a word of the head of a prim, or of lists.
     #[tactic(auto, unfolding(crate::specs::Acts::prims_act))]
     fn act_in_prim(&mut self, symbol: Symbol, word: &Word<'_>) -> Result<(), ActFault>
         ensures { Does result self.new (prims_act symbol (word_of word.now) self.old) }
@@ -65,7 +65,7 @@ impl Draft {
         }
     }
 
-    // The statements of a prim or a variant.
+    /// Takes a word of the statements of a prim or a variant.
     #[tactic(auto, unfolding(crate::specs::Acts::bodies_act))]
     fn act_in_body(&mut self, symbol: Symbol, word: &Word<'_>) -> Result<(), ActFault>
         ensures { Does result self.new (bodies_act symbol (word_of word.now) self.old) }

@@ -15,7 +15,7 @@ use usda_statements::Heading;
 use usda_words::Word;
 
 impl Draft {
-    // The word of an attribute's type.
+    /// Takes the word of an attribute's type.
     #[tactic(auto, unfolding(crate::specs::Bodies::type_act))]
     fn take_type(&mut self, word: &Word<'_>) -> Result<(), ActFault>
         ensures { Does result self.new (type_act (word_of word.now) self.old) }
@@ -136,7 +136,7 @@ impl Draft {
         }
     }
 
-    // The `=` of a default.
+    /// Takes the `=` of a default.
     #[tactic(auto, unfolding(crate::specs::Bodies::default_begun))]
     fn start_default(&mut self) -> Result<(), ActFault>
         ensures { Does result self.new (default_begun self.old) }
@@ -150,7 +150,7 @@ impl Draft {
         }
     }
 
-    // The word `timeSamples`.
+    /// Takes the word `timeSamples`.
     #[tactic(auto, unfolding(crate::specs::Bodies::samples_begun))]
     fn start_samples(&mut self) -> Result<(), ActFault>
         ensures { Does result self.new (samples_begun self.old) }

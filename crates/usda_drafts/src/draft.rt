@@ -116,7 +116,7 @@ impl Draft {
         })
     }
 
-    // The layer that has been read, where the default prim stands at this key; the draft is left with a blank owner.
+    /// The layer that has been read, where the default prim stands at this key; the draft is left with a blank owner.
     #[tactic(auto, unfolding(crate::specs::Drafts::layer_by))]
     fn take_parts(&mut self, alloc: Global, key: &Text, blank: Owner) -> Layer
         ensures { result ≡ layer_by key.now self.old }

@@ -7,7 +7,7 @@ use plain_data::{Items, Text};
 use sdf_values::Value;
 use spec_parts::{BodyPart, Head, Spec, SubLayer};
 
-// The text of the value of a key, where it is one.
+/// The text of the value of a key, where it is one.
 #[tactic(auto, unfolding(crate::specs::Drafts::text_of))]
 fn text_of(value: Option<Value>) -> Option<Text>
     ensures { result ≡ text_of value }
@@ -21,7 +21,7 @@ fn text_of(value: Option<Value>) -> Option<Text>
     }
 }
 
-// What a spec says apart from its arcs.
+/// What a spec says apart from its arcs.
 fn body_of(spec: Spec) -> BodyPart
     ensures { result ≡ spec.body }
 {
@@ -30,7 +30,7 @@ fn body_of(spec: Spec) -> BodyPart
     body
 }
 
-// The head of a layer of whose root this is said; the default prim stands at this key.
+/// The head of a layer of whose root this is said; the default prim stands at this key.
 #[tactic(auto, unfolding(crate::specs::Drafts::head_with))]
 fn head_with(key: &Text, body: BodyPart, sublayers: Items<SubLayer>) -> Head
     ensures { result ≡ head_with key.now body sublayers }

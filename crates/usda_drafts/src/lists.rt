@@ -12,7 +12,7 @@ use usda_lists::{offset_key, push_sublayer, set_sublayer_offset};
 use usda_words::Word;
 
 impl Draft {
-    // A string of a field.
+    /// A string of a field.
     #[tactic(auto, unfolding(crate::specs::Lists::string_act))]
     fn take_string(&mut self, word: &Word<'_>) -> Result<(), ActFault>
         ensures { Does result self.new (string_act self.old.list (word_of word.now) self.old) }
@@ -31,7 +31,7 @@ impl Draft {
         }
     }
 
-    // A path of a field, or of connections or targets.
+    /// A path of a field, or of connections or targets.
     #[tactic(auto, unfolding(crate::specs::Lists::list_path_act))]
     fn take_list_path(&mut self, word: &Word<'_>) -> Result<(), ActFault>
         ensures { Does result self.new (list_path_act self.old.list (word_of word.now) self.old) }
@@ -54,7 +54,7 @@ impl Draft {
         }
     }
 
-    // An asset of references or payloads.
+    /// An asset of references or payloads.
     #[tactic(auto, unfolding(crate::specs::Lists::asset_act))]
     fn take_asset(&mut self, word: &Word<'_>) -> Result<(), ActFault>
         ensures { Does result self.new (asset_act self.old.list (word_of word.now) self.old) }
@@ -69,7 +69,7 @@ impl Draft {
         Ok(())
     }
 
-    // A path of references or payloads that stands alone.
+    /// A path of references or payloads that stands alone.
     #[tactic(auto, unfolding(crate::specs::Lists::lone_path_act))]
     fn take_lone_path(&mut self, word: &Word<'_>) -> Result<(), ActFault>
         ensures { Does result self.new (lone_path_act self.old.list (word_of word.now) self.old) }
@@ -107,7 +107,7 @@ impl Draft {
         }
     }
 
-    // The `]` of a list.
+    /// The `]` of a list.
     #[tactic(auto, unfolding(crate::specs::Lists::end_act))]
     fn take_end(&mut self) -> Result<(), ActFault>
         ensures { Does result self.new (end_act self.old.list self.old) }

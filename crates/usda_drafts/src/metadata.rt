@@ -17,7 +17,7 @@ use usda_statements::PropertyDraft;
 use usda_values::{PartFault, Shape};
 use usda_words::Word;
 
-// What a key of the property's metadata expects.
+/// What a key of the property's metadata expects.
 #[tactic(auto, unfolding(crate::specs::Metadata::property_rule))]
 fn property_rule(property: &PropertyDraft, key: &Text) -> Result<KeyRule, PartFault>
     ensures { GivesPart result (property_rule key.now property.now) }
@@ -26,7 +26,7 @@ fn property_rule(property: &PropertyDraft, key: &Text) -> Result<KeyRule, PartFa
 }
 
 impl Draft {
-    // A string alone.
+    /// A string alone.
     #[tactic(auto, unfolding(crate::specs::Metadata::comment_act))]
     fn take_comment(&mut self, word: &Word<'_>) -> Result<(), ActFault>
         ensures { Does result self.new (comment_act (word_of word.now) self.old) }
@@ -41,7 +41,7 @@ impl Draft {
         }
     }
 
-    // A key of metadata, which begins here.
+    /// A key of metadata, which begins here.
     #[tactic(auto, unfolding(crate::specs::Metadata::key_act))]
     fn take_key(&mut self, key: Text, at: usize) -> Result<(), ActFault>
         ensures { Does result self.new (key_act key at self.old) }
@@ -62,7 +62,7 @@ impl Draft {
         self.take_key(key, word.start)
     }
 
-    // The word `variants`.
+    /// The word `variants`.
     #[tactic(auto, unfolding(crate::specs::Metadata::variants_act))]
     fn take_variants(&mut self, word: &Word<'_>) -> Result<(), ActFault>
         ensures { Does result self.new (variants_act (word_of word.now) self.old) }
@@ -77,7 +77,7 @@ impl Draft {
         }
     }
 
-    // A field whose list is edited.
+    /// A field whose list is edited.
     #[tactic(auto, unfolding(crate::specs::Metadata::field_act))]
     fn take_field(&mut self, field: ListField, edit: ListEdit, at: usize) -> Result<(), ActFault>
         ensures { Does result self.new (field_act field edit at self.old) }
@@ -129,7 +129,7 @@ impl Draft {
         )
     }
 
-    // An edit word, which may be a key.
+    /// An edit word, which may be a key.
     #[tactic(auto, unfolding(crate::specs::Metadata::edit_act))]
     fn take_edit(&mut self, word: &Word<'_>) -> Result<(), ActFault>
         ensures { Does result self.new (edit_act (word_of word.now) self.old) }
@@ -140,7 +140,7 @@ impl Draft {
         Ok(())
     }
 
-    // The edit word is a key.
+    /// The edit word is a key.
     fn take_edit_key(&mut self) -> Result<(), ActFault>
         ensures { Does result self.new (key_act self.old.word self.old.word_at self.old) }
     {
@@ -184,7 +184,7 @@ impl Draft {
         }
     }
 
-    // The word `subLayers`.
+    /// The word `subLayers`.
     #[tactic(auto, unfolding(crate::specs::Metadata::sublayers_act))]
     fn take_sublayers(&mut self, at: usize) -> Result<(), ActFault>
         ensures { Does result self.new (sublayers_act at self.old) }
@@ -220,7 +220,7 @@ impl Draft {
         }
     }
 
-    // The word of an order of names.
+    /// The word of an order of names.
     #[tactic(auto, unfolding(crate::specs::Metadata::ordered_by))]
     fn order_by(&mut self, order: OrderWord, at: usize) -> Result<(), ActFault>
         ensures { Does result self.new (ordered_by order at self.old) }

@@ -18,7 +18,8 @@ use usda_values::PartFault;
 
 /// A prim, a variant, or the layer itself, to which statements add.
 ///
-/// The layer's path is `/`, its children are the root prims, and its metadata is that of the head.
+/// The layer's path is `/`, its children are the root prims, and its metadata is that of the head. After a
+/// fault it is of no use.
 #[derive(Debug, Drop)]
 pub struct Owner {
     /// Its path, and what its metadata and its orders of names say.
@@ -27,7 +28,7 @@ pub struct Owner {
     pub type_name: Option<Text>,
     /// The names of the prims below, in their order.
     pub children: Items<Text>,
-    /// Its properties, but for the one in hand.
+    /// Its properties; in the place of the one in hand stands a blank relationship of its name.
     pub properties: Properties,
     /// What may be said of each property once, and was.
     pub marks: OrderedTable<Text, PropertyMarks>,
@@ -136,7 +137,7 @@ impl Owner {
         self.sets.push(VariantSet { set, variants })
     }
 
-    // What was said once of the property of a name.
+    /// What was said once of the property of a name.
     #[tactic(auto, unfolding(crate::specs::Owners::marks_at))]
     fn marks_at(&self, name: &Text) -> PropertyMarks
         ensures { result ≡ marks_at name.now self.now }
@@ -178,7 +179,7 @@ impl Owner {
         }
     }
 
-    // Notes what was said once of the property that was in hand.
+    /// Notes what was said once of the property that was in hand.
     fn put_marks(&mut self, property: &PropertyDraft) -> Result<(), AllocError>
         ensures { OnOk result (self.new ≡ record self.old { marks = with_key text_cmp property.now.name property.now.marks self.old.marks }) }
     {

@@ -30,7 +30,7 @@ fn specifier_of(word: &str) -> Specifier
     }
 }
 
-// The prim that begins, at a path.
+/// The prim that begins, at a path.
 #[tactic(auto, unfolding(crate::specs::Prims::prim_at))]
 fn prim_at(alloc: Global, path: Path, opening: &Opening) -> Result<Owner, AllocError>
     ensures { IfOk result (λ prim. prim ≡ prim_at path opening.now) }
@@ -62,7 +62,7 @@ impl Draft {
         Ok(())
     }
 
-    // Another owner, inside the innermost.
+    /// Another owner, inside the innermost.
     #[tactic(auto, unfolding(crate::specs::Prims::entered))]
     fn enter(&mut self, owner: Owner) -> Result<(), AllocError>
         ensures { OnOk result (self.new ≡ entered owner self.old) }
@@ -82,7 +82,7 @@ impl Draft {
         Ok(())
     }
 
-    // The prim that begins, below the innermost owner.
+    /// The prim that begins, below the innermost owner.
     #[tactic(auto, unfolding(crate::specs::Prims::with_prim))]
     fn add_prim(&mut self, name: Text, path: Path) -> Result<(), AllocError>
         ensures { OnOk result (self.new ≡ with_prim name path self.old) }
@@ -92,7 +92,7 @@ impl Draft {
         self.enter(prim)
     }
 
-    // A prim at a path below the innermost owner.
+    /// A prim at a path below the innermost owner.
     #[tactic(auto, unfolding(crate::specs::Prims::entered_prim))]
     fn enter_prim(&mut self, name: Text, path: Option<Path>) -> Result<(), PartFault>
         ensures { DoesPart result self.new (entered_prim name path self.old) }
@@ -108,7 +108,7 @@ impl Draft {
         Ok(())
     }
 
-    // A prim of this name.
+    /// A prim of this name.
     #[tactic(auto, unfolding(crate::specs::Prims::named_prim))]
     fn name_prim(&mut self, name: Text) -> Result<(), PartFault>
         ensures { DoesPart result self.new (named_prim name self.old) }
@@ -153,7 +153,7 @@ impl Draft {
         }
     }
 
-    // A variant of the innermost owner.
+    /// A variant of the innermost owner.
     #[tactic(auto, unfolding(crate::specs::Prims::with_variant_at))]
     fn add_variant(&mut self, name: Text, path: Path) -> Result<(), AllocError>
         ensures { OnOk result (self.new ≡ with_variant_at name path self.old) }
@@ -163,7 +163,7 @@ impl Draft {
         self.enter(variant)
     }
 
-    // A variant at a path.
+    /// A variant at a path.
     #[tactic(auto, unfolding(crate::specs::Prims::entered_variant))]
     fn enter_variant(&mut self, name: Text, path: Path) -> Result<(), PartFault>
         ensures { DoesPart result self.new (entered_variant name path self.old) }
@@ -175,7 +175,7 @@ impl Draft {
         Ok(())
     }
 
-    // A variant of this name, of the set that is read.
+    /// A variant of this name, of the set that is read.
     #[tactic(auto, unfolding(crate::specs::Prims::named_variant))]
     fn name_variant(&mut self, name: Text) -> Result<(), PartFault>
         ensures { DoesPart result self.new (named_variant name self.old) }
@@ -208,7 +208,7 @@ impl Draft {
         self.owner.settle(property)
     }
 
-    // The innermost owner is over.
+    /// The innermost owner is over.
     #[tactic(auto, unfolding(crate::specs::Prims::left))]
     fn leave(&mut self) -> Result<(), AllocError>
         ensures { OnOk result (self.new ≡ left self.old) }

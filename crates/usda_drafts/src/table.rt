@@ -16,7 +16,7 @@ pub fn has_spec(specs: &SharedTable<Path, Spec>, path: &Path) -> bool
     specs.has(path)
 }
 
-// Sets the spec at a path.
+/// Sets the spec at a path.
 fn put_spec(specs: &mut SharedTable<Path, Spec>, path: Path, spec: Spec) -> Result<(), AllocError>
     ensures { OnOk result (specs.new ≡ with_spec_at path spec specs.old) }
 {

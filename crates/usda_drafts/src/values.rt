@@ -38,7 +38,7 @@ fn is_selections(goal: Goal) -> bool
     }
 }
 
-// The time that a number token is.
+/// The time that a number token is.
 #[tactic(auto, unfolding(crate::specs::Values::time_of_number))]
 fn time_of_text(text: &str) -> Result<TimeCode, PartFault>
     ensures { GivesPart result (time_of_number (number_of text.now)) }
@@ -88,7 +88,7 @@ impl Draft {
         }
     }
 
-    // The value of a key of the owner's metadata.
+    /// The value of a key of the owner's metadata.
     #[tactic(auto, unfolding(crate::specs::Values::completed))]
     fn complete_owner_key(&mut self, value: Value, at: usize) -> Result<(), ActFault>
         ensures { Does result self.new (completed Goal.OwnerKey value at self.old) }
@@ -106,7 +106,7 @@ impl Draft {
         }
     }
 
-    // The value of a key of the metadata of the property in hand.
+    /// The value of a key of the metadata of the property in hand.
     #[tactic(auto, unfolding(crate::specs::Values::completed))]
     fn complete_property_key(&mut self, value: Value, at: usize) -> Result<(), ActFault>
         ensures { Does result self.new (completed Goal.PropertyKey value at self.old) }
@@ -124,7 +124,7 @@ impl Draft {
         }
     }
 
-    // A complete value goes to what it is for.
+    /// A complete value goes to what it is for.
     #[tactic(auto, unfolding(crate::specs::Values::completed))]
     fn complete(&mut self, value: Value, at: usize) -> Result<(), ActFault>
         ensures { Does result self.new (completed self.old.aim.goal value at self.old) }

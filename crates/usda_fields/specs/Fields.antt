@@ -28,7 +28,7 @@ use Rattle.usda_fields.specs.declared.field.ListField.TheVariants as list
 use Rattle.usda_fields.specs.declared.owner.OwnerMarks.{OwnerMarks}
 use Rattle.usda_fields.specs.declared.owner.OwnerDraft.{OwnerDraft}
 
--- the field of a word
+-- `inherits`, or else `specializes`
 abbrev pub path_field : List ℕ → PathField
 path_field word = if pointwise ◌==◌ word (codes "inherits") then Inherits else Specializes
 

@@ -43,7 +43,7 @@ pub enum ListField {
 }
 
 impl PathField {
-    /// The field of the word `inherits` or `specializes`.
+    /// The field of the word `inherits`, and for any other word `specializes`.
     pub fn of_word(word: &str) -> PathField
         ensures { result ≡ path_field word.now }
     {
@@ -56,7 +56,7 @@ impl PathField {
 }
 
 impl ReferenceField {
-    /// The field of the word `references` or `payload`.
+    /// The field of the word `references`, and for any other word `payload`.
     pub fn of_word(word: &str) -> ReferenceField
         ensures { result ≡ reference_field word.now }
     {
@@ -69,7 +69,7 @@ impl ReferenceField {
 }
 
 impl TextField {
-    /// The field of the word `variantSets`, `apiSchemas` or `clipSets`.
+    /// The field of the word `variantSets` or `apiSchemas`, and for any other word `clipSets`.
     pub fn of_word(word: &str) -> TextField
         ensures { result ≡ text_field word.now }
     {

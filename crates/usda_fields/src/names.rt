@@ -51,7 +51,7 @@ pub fn variant_of(alloc: Global, token: &str) -> Result<Text, PartFault>
     }
 }
 
-// Whether the path ends with a selection.
+/// Whether the path ends with a selection.
 fn ends_selected(path: &Path) -> bool
     ensures ends { result ≡ ends_selected false path.now }
     ensures path { IsPath path.now }
@@ -64,7 +64,7 @@ fn ends_selected(path: &Path) -> bool
     after
 }
 
-// The text of a path, to which more is added.
+/// The text of a path, to which more is added.
 #[tactic(auto, using(crate::proofs::Below::printed_some))]
 fn owner_text(alloc: Global, owner: &Path) -> Result<Text, AllocError>
     ensures { IfOk result (λ text. text ≡ written_all false owner.now) }
@@ -95,7 +95,7 @@ fn push_selection(text: &mut Text, set: &str, variant: &str) -> Result<(), Alloc
     text.push('}')
 }
 
-// The text of the path of a prim below its owner.
+/// The text of the path of a prim below its owner.
 #[tactic(auto, using(crate::proofs::Below::printed_more))]
 fn prim_text(alloc: Global, owner: &Path, name: &str) -> Result<Text, AllocError>
     ensures text { IfOk result (λ text. text ≡ printed (owner.now ++ Element.Prim name.now ∷ [])) }
@@ -135,7 +135,7 @@ pub fn prim_below(alloc: Global, owner: &Path, name: &str) -> Result<Option<Path
     prim_path(alloc, owner, name)
 }
 
-// The text of the path of a variant.
+/// The text of the path of a variant.
 #[tactic(auto, using(crate::proofs::Below::printed_more))]
 fn variant_text(alloc: Global, owner: &Path, set: &str, variant: &str) -> Result<Text, AllocError>
     ensures text { IfOk result (λ text. text ≡ printed (owner.now ++ Element.Selection set.now variant.now ∷ [])) }

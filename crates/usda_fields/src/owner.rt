@@ -84,7 +84,7 @@ impl OwnerMarks {
 }
 
 impl OrderWord {
-    /// The word `nameChildren` or `properties`.
+    /// The word `nameChildren`, and for any other word `properties`.
     pub fn of_word(word: &str) -> OrderWord
         ensures { result ≡ order_word word.now }
     {

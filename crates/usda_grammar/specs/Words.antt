@@ -49,6 +49,7 @@ layer_word t =
     else if is t (codes "dictionary") then Some word.Dictionary
     else None
 
+-- the word found first, and else the other
 abbrev pub or_else : Option Keyword → Keyword → Keyword
 or_else (Some w) rest = w
 or_else None rest = rest

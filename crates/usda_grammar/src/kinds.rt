@@ -1,4 +1,4 @@
-// What a word is to the grammar.
+//! What a word is to the grammar.
 ghost use Rattle.std.specs.Prelude.{◌≡◌};
 ghost use Rattle.usda_grammar.specs.Words.{keyword_of, kind_of_word, layer_word, prim_word, field_word, property_word};
 

@@ -1,4 +1,4 @@
-// What the machine has to do with the grammar.
+//! What the machine has to do with the grammar.
 ghost use Rattle.usda_grammar.specs.Laws.{RefusedHasNoText, TakenHasText, AcceptedIsText, TextHasOneDerivation};
 ghost use Rattle.usda_grammar.specs.Examples.{AreTold};
 

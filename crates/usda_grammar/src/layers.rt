@@ -1,4 +1,4 @@
-// Single tokens, and the statements of a layer: its head, its sublayers and its root prims. Written by tools/grammar.py.
+//! Single tokens, and the statements of a layer: its head, its sublayers and its root prims. Written by tools/grammar.py.
 ghost use Rattle.std.specs.Option.{option_map};
 ghost use Rattle.std.specs.Prelude.{◌≡◌, List};
 ghost use Rattle.usda_grammar.specs.Layers.{equals, colon, dot, close_paren, open_brace, close_brace, close_bracket, root_prims, offset_number, body_end, prim_name, set_name, maybe_semicolon, maybe_head, head_items, sub_layer_list, sub_layers_or_end, more_sub_layers, maybe_offsets, offset_items, root_statements, layers_starts};

@@ -1,4 +1,4 @@
-// The head of a prim, its metadata, and the lists that edit its fields. Written by tools/grammar.py.
+//! The head of a prim, its metadata, and the lists that edit its fields. Written by tools/grammar.py.
 ghost use Rattle.std.specs.Option.{option_map};
 ghost use Rattle.std.specs.Prelude.{◌≡◌, List};
 ghost use Rattle.usda_grammar.specs.Prims.{maybe_type_name, maybe_prim_metadata, prim_metadata, edited_field, string_list, strings_or_end, more_strings, path_list, paths_or_end, more_paths, reference_list, references_or_end, more_references, maybe_path, variant_list, prims_starts};

@@ -1,4 +1,4 @@
-// The body of a prim: properties, variant sets, orders and children. Written by tools/grammar.py.
+//! The body of a prim: properties, variant sets, orders and children. Written by tools/grammar.py.
 ghost use Rattle.std.specs.Option.{option_map};
 ghost use Rattle.std.specs.Prelude.{◌≡◌, List};
 ghost use Rattle.usda_grammar.specs.Properties.{prim_body, after_custom, after_variability, after_edit, after_reorder, after_edited_custom, after_edited_variability, maybe_brackets, property_name, maybe_attribute_tail, after_dot, connect_word, samples_or_end, more_samples, maybe_targets, maybe_property_metadata, property_metadata, properties_starts};

@@ -1,4 +1,4 @@
-// What a layer's text goes on with. Written by tools/grammar.py.
+//! What a layer's text goes on with. Written by tools/grammar.py.
 
 /// What a text goes on with: a token, a part of a statement, or any number of them.
 #[derive(Clone, Copy, Debug, PartialEq, Eq)]

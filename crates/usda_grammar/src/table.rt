@@ -1,4 +1,4 @@
-// The table: what each symbol may begin with, and which symbols may be absent. Written by tools/grammar.py.
+//! The table: what each symbol may begin with, and which symbols may be absent. Written by tools/grammar.py.
 ghost use Rattle.std.specs.Option.{option_map};
 ghost use Rattle.std.specs.Prelude.{◌≡◌, List};
 ghost use Rattle.usda_grammar.specs.Table.{starts, may_be_absent, layer};

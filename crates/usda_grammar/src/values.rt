@@ -1,4 +1,4 @@
-// Values, dictionaries and lists of names. Written by tools/grammar.py.
+//! Values, dictionaries and lists of names. Written by tools/grammar.py.
 ghost use Rattle.std.specs.Option.{option_map};
 ghost use Rattle.std.specs.Prelude.{◌≡◌, List};
 ghost use Rattle.usda_grammar.specs.Values.{value, members_or_end, more_members, elements_or_end, more_elements, dictionary, dictionary_entries, entry_key, maybe_separator, name_list, names_or_end, more_names, values_starts};

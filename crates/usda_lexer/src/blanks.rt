@@ -38,7 +38,7 @@ pub fn begins(c: u8, bytes: &[u8]) -> bool
     }
 }
 
-// Where a byte leads that stands in no comment; `None` where a token begins with it.
+/// Where a byte leads that stands in no comment; `None` where a token begins with it.
 fn between_from(c: u8, rest: &[u8]) -> Option<Between>
     ensures { result ≡ between_from c rest.now }
 {
@@ -76,7 +76,7 @@ fn between_after(state: Between, c: u8, rest: &[u8]) -> Option<Between>
     }
 }
 
-// Where the comment begins that is open.
+/// Where the comment begins that is open.
 fn opened_at(state: Between, opened: usize, len: usize) -> usize
     ensures { result ≡ opened_at state opened len }
 {

@@ -21,7 +21,7 @@ pub struct Escape {
     pub len: usize,
 }
 
-// The value of a hexadecimal digit.
+/// The value of a hexadecimal digit.
 fn hexadecimal(c: u8) -> Option<u8>
     ensures value { result ≡ hexadecimal c }
     ensures small { IfSome result (λ d. d < 16) }
@@ -40,7 +40,7 @@ fn is_octal(c: u8) -> bool
     b'0' <= c && c <= b'7'
 }
 
-// The value of the hexadecimal digit in front.
+/// The value of the hexadecimal digit in front.
 fn digit_at(bytes: &[u8]) -> Option<u8>
     ensures value { result ≡ digit_at bytes.now }
     ensures small { IfSome result (λ d. d < 16) }
@@ -51,7 +51,7 @@ fn digit_at(bytes: &[u8]) -> Option<u8>
     }
 }
 
-// Behind `\x`.
+/// Behind `\x`.
 fn two_digits(bytes: &[u8]) -> Escape
     ensures value { result ≡ two_digits (digit_at bytes.now) (digit_at (drop 1 bytes.now)) }
     ensures some { 0 < result.len }
@@ -69,7 +69,7 @@ fn two_digits(bytes: &[u8]) -> Escape
     }
 }
 
-// One octal digit, and up to two more.
+/// One octal digit, and up to two more.
 fn octal(first: u8, bytes: &[u8]) -> Escape
     requires { first < 8 }
     ensures value { result ≡ octal 1 first bytes.now }
@@ -90,7 +90,7 @@ fn octal(first: u8, bytes: &[u8]) -> Escape
     }
 }
 
-// The letters that stand for control characters.
+/// The letters that stand for control characters.
 fn letter(c: u8) -> u8
     ensures { result ≡ letter c }
 {
@@ -106,7 +106,7 @@ fn letter(c: u8) -> u8
     }
 }
 
-// The escape whose backslash stands before a byte.
+/// The escape whose backslash stands before a byte.
 fn escape_at(c: u8, rest: &[u8]) -> Escape
     ensures value { result ≡ escape c rest.now }
     ensures some { 0 < result.len }
@@ -134,7 +134,7 @@ pub struct Decoded {
     pub after: bool,
 }
 
-// What a byte adds before these bytes, where `taken` more belong to an escape, or a backslash stands before.
+/// What a byte adds before these bytes, where `taken` more belong to an escape, or a backslash stands before.
 #[tactic(auto, using(crate::proofs::Backslashes::unescaped_taken))]
 fn decode(taken: usize, after: bool, c: u8, rest: &[u8]) -> Decoded
     ensures { unescaped taken after (c ∷ rest.now) ≡ option_to_list result.byte ++ unescaped result.taken result.after rest.now }
@@ -176,7 +176,7 @@ fn push_some(out: &mut Vec<u8>, byte: Option<u8>) -> Result<(), AllocError>
     Ok(())
 }
 
-// The bytes that a text with escapes stands for.
+/// The bytes that a text with escapes stands for.
 fn unescaped(alloc: Global, bytes: &[u8]) -> Result<Vec<u8>, AllocError>
     ensures { IfOk result (λ v. v.items ≡ unescaped 0 false bytes.now) }
 {
@@ -192,7 +192,7 @@ fn unescaped(alloc: Global, bytes: &[u8]) -> Result<Vec<u8>, AllocError>
     Ok(out)
 }
 
-// How many quotes open the string.
+/// How many quotes open the string.
 fn quotes_len(bytes: &[u8]) -> usize
     ensures value { result ≡ quotes_len bytes.now }
     ensures within { result ≤ length bytes.now }
@@ -203,7 +203,7 @@ fn quotes_len(bytes: &[u8]) -> usize
     }
 }
 
-// What stands between the first so many bytes and the last so many.
+/// What stands between the first so many bytes and the last so many.
 fn inside(n: usize, bytes: &[u8]) -> &[u8]
     requires { n ≤ length bytes.now }
     ensures { result.now ≡ inside n bytes.now }
@@ -212,7 +212,7 @@ fn inside(n: usize, bytes: &[u8]) -> &[u8]
     &behind[..behind.len().saturating_sub(n)]
 }
 
-// The text of some bytes, where they are UTF-8.
+/// The text of some bytes, where they are UTF-8.
 fn text_of(bytes: Vec<u8>) -> Option<Text>
     ensures { result ≡ if_utf8 bytes.items }
 {
@@ -233,7 +233,7 @@ pub fn string_text(alloc: Global, text: &str) -> Result<Option<Text>, AllocError
     Ok(text_of(meant))
 }
 
-// The text without so many delimiters on both sides.
+/// The text without so many delimiters on both sides.
 fn trimmed(close: u8, n: usize, text: &str) -> &str
     requires some { 0 < n }
     requires ascii { close < 128 }

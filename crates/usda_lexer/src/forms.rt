@@ -5,7 +5,7 @@ ghost use Rattle.usda_lexer.specs.Forms.{digits_len, sign_len, with_digits, expo
 use crate::blanks::begins;
 use sdf_values::{is_digit, is_mark, is_sign};
 
-// How many digits stand in front.
+/// How many digits stand in front.
 fn digits_len(bytes: &[u8]) -> usize
     ensures value { result ≡ digits_len bytes.now }
     ensures within { result ≤ length bytes.now }
@@ -19,7 +19,7 @@ fn digits_len(bytes: &[u8]) -> usize
     bytes.len()
 }
 
-// 1 where a sign stands in front.
+/// 1 where a sign stands in front.
 fn sign_len(bytes: &[u8]) -> usize
     ensures value { result ≡ sign_len bytes.now }
     ensures within { result ≤ length bytes.now }
@@ -32,7 +32,7 @@ fn sign_len(bytes: &[u8]) -> usize
     }
 }
 
-// Digits behind a part of so many bytes; where there are none, 0 for the whole.
+/// Digits behind a part of so many bytes; where there are none, 0 for the whole.
 fn with_digits(before: usize, bytes: &[u8]) -> usize
     requires { before ≤ 2 }
     ensures value { result ≡ with_digits before bytes.now }
@@ -43,7 +43,7 @@ fn with_digits(before: usize, bytes: &[u8]) -> usize
     if len == 0 { 0 } else { before + len }
 }
 
-// The exponent in front, where there is one.
+/// The exponent in front, where there is one.
 fn exponent_len(bytes: &[u8]) -> usize
     ensures value { result ≡ exponent_len bytes.now }
     ensures within { result ≤ length bytes.now }
@@ -62,7 +62,7 @@ fn exponent_len(bytes: &[u8]) -> usize
     }
 }
 
-// So many digits, and then a point and digits.
+/// So many digits, and then a point and digits.
 fn pointed_len(whole: usize, bytes: &[u8]) -> usize
     requires { whole + length bytes.now < 2 ^ 64 }
     ensures value { result ≡ pointed_len whole bytes.now }
@@ -83,7 +83,7 @@ fn pointed_len(whole: usize, bytes: &[u8]) -> usize
     }
 }
 
-// Digits with a point or none.
+/// Digits with a point or none.
 fn mantissa_len(bytes: &[u8]) -> usize
     ensures value { result ≡ mantissa_len bytes.now }
     ensures within { result ≤ length bytes.now }
@@ -126,7 +126,7 @@ pub fn closed_line(close: u8, bytes: &[u8]) -> Option<usize>
     None
 }
 
-// The rest of a string on one line.
+/// The rest of a string on one line.
 fn closed_string(quote: u8, bytes: &[u8]) -> Option<usize>
     requires { quote < 128 }
     ensures value { result ≡ closed_string quote false 1 bytes.now }
@@ -148,7 +148,7 @@ fn closed_string(quote: u8, bytes: &[u8]) -> Option<usize>
     None
 }
 
-// Whether the byte behind this one is escaped, and how many quotes stand in a row up to this one.
+/// Whether the byte behind this one is escaped, and how many quotes stand in a row up to this one.
 fn after_tripled(quote: u8, escaped: bool, run: usize, c: u8) -> (bool, usize)
     requires { run < 3 }
     ensures goes { result.1 < 3 → (n : ℕ) (rest : List ℕ) → closed_tripled quote escaped run n (c ∷ rest) ≡ closed_tripled quote result.0 result.1 (n + 1) rest }
@@ -165,7 +165,7 @@ fn after_tripled(quote: u8, escaped: bool, run: usize, c: u8) -> (bool, usize)
     }
 }
 
-// The rest of a string over lines, behind its three quotes.
+/// The rest of a string over lines, behind its three quotes.
 fn closed_tripled(quote: u8, bytes: &[u8]) -> Option<usize>
     requires { quote < 128 }
     ensures value { result ≡ closed_tripled quote false 0 3 bytes.now }
@@ -184,7 +184,7 @@ fn closed_tripled(quote: u8, bytes: &[u8]) -> Option<usize>
     None
 }
 
-// How many `@` stand in front, two at most.
+/// How many `@` stand in front, two at most.
 fn more_ats(bytes: &[u8]) -> usize
     ensures value { result ≡ more_ats bytes.now }
     ensures ends { 0 < result → EndsIn 0 bytes.now result }
@@ -201,7 +201,7 @@ fn more_ats(bytes: &[u8]) -> usize
     }
 }
 
-// The rest of an asset of the second form, behind its three `@`.
+/// The rest of an asset of the second form, behind its three `@`.
 fn closed_asset(bytes: &[u8]) -> Option<usize>
     ensures value { result ≡ closed_asset 0 3 bytes.now }
     ensures ends { IfSome result (λ n. EndsIn 3 bytes.now n) }

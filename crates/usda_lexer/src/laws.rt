@@ -1,4 +1,4 @@
-// What holds of blanks and comments, each law as the clause of a function that does nothing.
+//! What holds of blanks and comments, each law as the clause of a function that does nothing.
 ghost use Rattle.usda_lexer.specs.Laws.{AreGapsGoneOver, IsTokenInNoComment};
 
 /// Blanks and whole comments behind which neither a blank nor a comment begins are exactly what is gone over.

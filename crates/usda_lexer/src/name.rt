@@ -5,7 +5,7 @@ ghost use Rattle.usda_lexer.specs.Names.{name_len};
 
 use usd_names::goes_on;
 
-// Whether the character is a colon behind an identifier.
+/// Whether the character is a colon behind an identifier.
 fn is_colon(begun: bool, c: char) -> bool
     ensures { result ≡ (begun && c == 58) }
 {

@@ -62,14 +62,26 @@ pub struct Token<'s> {
 /// Why a source has no further token.
 #[derive(Clone, Copy, Debug, PartialEq, Eq)]
 pub enum LexFault {
-    /// The source is not UTF-8: `at` is the first byte of the first sequence that is not.
-    NotUtf8 { at: usize },
-    /// A string, an asset, a path or a comment between `/*` and `*/` has no end; it begins at `at`.
-    Unclosed { at: usize },
-    /// No token begins with the byte at `at`.
-    BadByte { at: usize },
-    /// The number at `at` has more than 34 digits or an exponent beyond 400.
-    NumberTooLong { at: usize },
+    /// The source is not UTF-8.
+    NotUtf8 {
+        /// The first byte of the first sequence that is not.
+        at: usize,
+    },
+    /// A string, an asset, a path or a comment between `/*` and `*/` has no end.
+    Unclosed {
+        /// The byte at which it begins.
+        at: usize,
+    },
+    /// There is a byte with which no token begins.
+    BadByte {
+        /// The number of the byte, from 0.
+        at: usize,
+    },
+    /// A number has more than 34 digits or an exponent beyond 400.
+    NumberTooLong {
+        /// The byte at which it begins.
+        at: usize,
+    },
 }
 
 /// The mark that a byte is.

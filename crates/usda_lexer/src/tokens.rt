@@ -11,7 +11,7 @@ use crate::name::name_len;
 use crate::token::{LexFault, Token, TokenKind, mark_of};
 use std::marker::Model;
 
-// A token that is no name and no number: `at` is its place, `first` its first byte and `rest` what stands behind that.
+/// A token that is no name and no number: `at` is its place, `first` its first byte and `rest` what stands behind that.
 fn quoted_or_mark(at: usize, first: u8, rest: &[u8]) -> Result<(TokenKind, usize), LexFault>
     ensures value { result ≡ quoted_or_mark at first rest.now }
     ensures ends { IfOk result (λ f. EndsIn 0 (first ∷ rest.now) f.1) }
@@ -44,7 +44,7 @@ fn name_kind(text: &str) -> TokenKind
     }
 }
 
-// Whether the name in front is `inf` or `nan`.
+/// Whether the name in front is `inf` or `nan`.
 fn begins_number_word(text: &str) -> bool
     ensures value { result ≡ begins_number_word text.now }
     ensures three { IsTrue result → IsCharBoundary text.now 3 }
@@ -53,7 +53,7 @@ fn begins_number_word(text: &str) -> bool
     name == "inf" || name == "nan"
 }
 
-// A token that is no name and no number written with digits.
+/// A token that is no name and no number written with digits.
 fn minus_or_mark(at: usize, text: &str) -> Result<(TokenKind, usize), LexFault>
     ensures value { result ≡ minus_or_mark at text.now }
     ensures boundary { IfOk result (λ f. (0 < f.1) × IsCharBoundary text.now f.1) }
@@ -71,7 +71,7 @@ fn minus_or_mark(at: usize, text: &str) -> Result<(TokenKind, usize), LexFault>
     quoted_or_mark(at, *first, rest)
 }
 
-// A number, or another token that is no name.
+/// A number, or another token that is no name.
 fn number_or_mark(at: usize, text: &str) -> Result<(TokenKind, usize), LexFault>
     ensures value { result ≡ number_or_mark at (number_len text.now) text.now }
     ensures boundary { IfOk result (λ f. (0 < f.1) × IsCharBoundary text.now f.1) }
@@ -88,7 +88,7 @@ fn number_or_mark(at: usize, text: &str) -> Result<(TokenKind, usize), LexFault>
     }
 }
 
-// The kind and the length of the token with which the text begins.
+/// The kind and the length of the token with which the text begins.
 #[tactic(auto, unfolding(crate::specs::Words::found))]
 fn found(at: usize, text: &str) -> Result<(TokenKind, usize), LexFault>
     ensures value { result ≡ found at text.now }
@@ -103,7 +103,7 @@ fn found(at: usize, text: &str) -> Result<(TokenKind, usize), LexFault>
     Ok((name_kind(name), len))
 }
 
-// The token that stands at a place of the source, before which only blanks and comments stand.
+/// The token that stands at a place of the source, before which only blanks and comments stand.
 fn token_at<'s>(source: &'s str, start: usize) -> Result<Option<Token<'s>>, LexFault>
     requires { IsCharBoundary source.now start }
     ensures value { Finds result (word_in_front start (drop start source.now)) }
@@ -187,7 +187,7 @@ impl<'s> Tokens<'s> {
         self.source.len()
     }
 
-    // The next token.
+    /// The next token.
     #[tactic(auto, unfolding(crate::specs::Words::next_word))]
     fn look(&self) -> Result<Option<Token<'s>>, LexFault>
         ensures value { Finds result (next_word self.now.at (drop self.now.at self.now.source)) }

@@ -7,14 +7,14 @@ use sdf_paths::{Path, path_of, push_path_text};
 use std::alloc::{AllocError, Global};
 use usda_values::begins_up;
 
-// Whether no `/` stands between the path of a prim and this text.
+/// Whether no `/` stands between the path of a prim and this text.
 fn joins_directly(prim: &Path, text: &str) -> bool
     ensures { result ≡ joins_directly prim.now text.now }
 {
     prim.is_root() || (!text.is_empty() && text.as_bytes()[0] == b'.')
 }
 
-// The text of a path that goes on from a prim.
+/// The text of a path that goes on from a prim.
 fn text_below(prim: &Path, text: &str) -> Result<Text, AllocError>
     ensures { IfOk result (λ whole. whole ≡ text_below prim.now text.now) }
 {
@@ -68,7 +68,7 @@ pub fn target_from(alloc: Global, base: &Path, text: &str) -> Result<Option<Path
     }
 }
 
-// The token of a path from the root down.
+/// The token of a path from the root down.
 fn token_of(alloc: Global, path: &Path) -> Result<Text, AllocError>
     ensures { IfOk result (λ token. token ≡ absolute_token path.now) }
 {

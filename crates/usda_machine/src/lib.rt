@@ -41,7 +41,7 @@ pub fn step(stack: &mut Items<Symbol>, kind: WordKind) -> Result<Option<Symbol>,
     Ok(None)
 }
 
-/// Whether the text may end here. The stack is used up. Takes no memory.
+/// Whether the text may end here. The stack is of no use then. Takes no memory.
 pub fn is_done(stack: &mut Items<Symbol>) -> bool
     ensures { result ≡ is_done (stack_of stack.old) }
 {

@@ -11,7 +11,7 @@ pub const MAX_BYTES: usize = 67_108_864;
 
 const HEADER: &[u8; 9] = b"#usda 1.0";
 
-// Whether only blanks stand up to the end of the line, or of the text.
+/// Whether only blanks stand up to the end of the line, or of the text.
 fn is_blank_line(bytes: &[u8]) -> bool
     ensures { result ≡ is_blank_line bytes.now }
 {
@@ -32,7 +32,7 @@ fn begins_with(word: &[u8], bytes: &[u8]) -> bool
     word.len() <= bytes.len() && &bytes[..word.len()] == word
 }
 
-// Whether the first line is that of a text layer.
+/// Whether the first line is that of a text layer.
 fn has_header(bytes: &[u8]) -> bool
     ensures { result ≡ has_header bytes.now }
 {
@@ -45,7 +45,7 @@ fn refused_at(kind: RefusalKind, at: usize) -> Option<Refused>
     Some(Refused { kind, at })
 }
 
-// What is no text of the format by its size or its first bytes.
+/// What is no text of the format by its size or its first bytes.
 #[tactic(auto, unfolding(crate::specs::Checks::foreign_check))]
 fn foreign_check(bytes: &[u8]) -> Option<Refused>
     ensures { result ≡ foreign_check bytes.now }

@@ -23,7 +23,7 @@ use usda_grammar::layer;
 use usda_machine::push_front;
 use usda_words::Words;
 
-// Takes all words of a text into a draft.
+/// Takes all words of a text into a draft.
 fn read_words(alloc: Global, bytes: &[u8], draft: &mut Draft) -> Result<(), ActFault>
     requires { first_check bytes.now ≡ None }
     ensures { Does result draft.new (run_from (length bytes.now) layer draft.old (words_of bytes.now)) }
@@ -36,7 +36,7 @@ fn read_words(alloc: Global, bytes: &[u8], draft: &mut Draft) -> Result<(), ActF
     take_words(&mut words, &mut stack, draft, bytes.len())
 }
 
-// Takes the layer of a text that passes the first checks out of a blank draft.
+/// Takes the layer of a text that passes the first checks out of a blank draft.
 fn read_into(alloc: Global, bytes: &[u8], draft: &mut Draft) -> Result<Layer, LayerFault>
     requires passed { first_check bytes.now ≡ None }
     requires begun { draft.old ≡ blank }
@@ -48,7 +48,7 @@ fn read_into(alloc: Global, bytes: &[u8], draft: &mut Draft) -> Result<Layer, La
     }
 }
 
-// The layer of a text that passes the first checks.
+/// The layer of a text that passes the first checks.
 fn read_passed(alloc: Global, bytes: &[u8]) -> Result<Layer, LayerFault>
     requires { first_check bytes.now ≡ None }
     ensures { Gives result (layer_in bytes.now (draft_of bytes.now)) }
@@ -59,7 +59,7 @@ fn read_passed(alloc: Global, bytes: &[u8]) -> Result<Layer, LayerFault>
     found
 }
 
-// The layer or the first refusal, as the function of the bytes that they are.
+/// The layer or the first refusal, as the function of the bytes that they are.
 fn read(alloc: Global, bytes: &[u8]) -> Result<Layer, LayerFault>
     ensures answer { Gives result (read bytes.now) }
     ensures checked { (r : Refused) → first_check bytes.now ≡ Some r → result ≡ Err (LayerFault.Refused (refusal_at bytes.now r)) }

@@ -13,7 +13,7 @@ use usda_grammar::Symbol;
 use usda_machine::{is_done, step};
 use usda_words::{Word, Words};
 
-// No text goes on at this byte.
+/// No text goes on at this byte.
 fn syntax(at: usize) -> ActFault
     ensures { result ≡ ActFault.Refused (refused RefusalKind.Syntax at) }
 {
@@ -23,7 +23,7 @@ fn syntax(at: usize) -> ActFault
     })
 }
 
-// Takes a word: what is left behind it is read from the symbols and the draft that are there then.
+/// Takes a word: what is left behind it is read from the symbols and the draft that are there then.
 fn take_word(stack: &mut Items<Symbol>, draft: &mut Draft, word: &Word<'_>) -> Result<(), ActFault>
     ensures { (end : ℕ) (ws : List SaidWord) → GoesOn result (run_from end (stack_of stack.old) draft.old (word_of word.now ∷ ws)) (run_from end (stack_of stack.new) draft.new ws) }
 {

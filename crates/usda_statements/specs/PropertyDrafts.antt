@@ -124,6 +124,7 @@ with_list_closed p = record p { paths = close_list same_path p.edit p.paths }
 
 -- ---- metadata
 
+-- the property with this metadata
 abbrev pub with_meta : MetaEntries → PropertyDraft → PropertyDraft
 with_meta meta p = record p { meta = meta }
 

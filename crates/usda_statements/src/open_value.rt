@@ -13,7 +13,7 @@ use usda_lexer::{TokenKind, path_text};
 use usda_lists::absolute_from;
 use usda_values::{Bracket, Level, PartFault, Place, Shape, ValueDraft};
 
-/// The value that is being read, token by token; a draft that is complete where none is.
+/// The value that is being read, token by token; a draft that is complete where none is. After a fault it is of no use.
 #[derive(Debug, Drop)]
 pub struct OpenValue {
     /// What is read of it so far.
@@ -22,7 +22,7 @@ pub struct OpenValue {
     pub only_strings: bool,
 }
 
-// The draft where no value is open.
+/// The draft where no value is open.
 fn no_draft(alloc: Global) -> ValueDraft
     ensures { result ≡ no_draft }
 {
@@ -33,7 +33,7 @@ fn no_draft(alloc: Global) -> ValueDraft
     }
 }
 
-// What a token adds to a draft; the entries of a dictionary of selections are strings.
+/// What a token adds to a draft; the entries of a dictionary of selections are strings.
 fn give_token(
     draft: &mut ValueDraft,
     only_strings: bool,
@@ -62,7 +62,7 @@ fn give_path(
     }
 }
 
-// What a token adds to a draft; a path is put behind that of the owner first.
+/// What a token adds to a draft; a path is put behind that of the owner first.
 fn give_in(
     draft: &mut ValueDraft,
     alloc: Global,

@@ -25,7 +25,7 @@ pub struct PropertyMarks {
     pub lists: GivenLists,
 }
 
-/// The property of the statement in hand: what is said of it so far.
+/// The property of the statement in hand: what is said of it so far. After a fault it is of no use.
 #[derive(Debug, Drop)]
 pub struct PropertyDraft {
     /// Its name; empty where no property is in hand.
@@ -62,7 +62,7 @@ impl PropertyMarks {
     }
 }
 
-// Whether two types are one: each has one name.
+/// Whether two types are one: each has one name.
 fn same_type(a: TypeName, b: TypeName) -> bool
     ensures { result ≡ same_type a b }
 {
@@ -104,7 +104,7 @@ impl PropertyDraft {
         !self.name.is_empty()
     }
 
-    // The first statement on a property.
+    /// The first statement on a property.
     fn first(alloc: Global, heading: Heading, name: Text) -> PropertyDraft
         ensures { result ≡ new_property heading name }
     {
@@ -118,7 +118,7 @@ impl PropertyDraft {
         }
     }
 
-    // A further statement on a property.
+    /// A further statement on a property.
     fn further(
         alloc: Global,
         heading: Heading,

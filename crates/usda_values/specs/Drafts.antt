@@ -164,6 +164,7 @@ key_act (Some key) d = if has_key key d.level.entries then Err DuplicateSpec els
 abbrev pub equals_act : ValueDraft → ValueDraft
 equals_act d = record d { place = place.Value; level = record d.level { item = entry_shape d.level.ty } }
 
+-- the draft at another place
 abbrev pub at_place : Place → ValueDraft → ValueDraft
 at_place p d = record d { place = p }
 
@@ -261,7 +262,7 @@ is_complete_at p = false
 abbrev pub is_complete : ValueDraft → Bool
 is_complete d = is_complete_at d.place
 
--- the value of a draft that is complete; the block for one that is not
+-- the last value of the innermost level; the block where it has none
 abbrev pub value_of_last : Option Value → Value
 value_of_last (Some v) = v
 value_of_last None = value.Block

@@ -40,6 +40,7 @@ place_of_fault (lexing.NotUtf8 at) = at
 place_of_fault (lexing.Unclosed at) = at
 place_of_fault (lexing.BadByte at) = at
 
+-- tokens, and the fault behind them, if there is one
 abbrev pub lexing_of : List Word → Option LexFault → Lexing
 lexing_of ws f = record { words = ws; fault = f }
 

@@ -73,6 +73,7 @@ take_step (Value-F.Array cs) t = if t.array then as_array (take_all cs (one t.el
 take_step (Value-F.Dict items) t = Err ValueShape
 take_step Value-F.Block t = Err ValueShape
 
+-- an entry, as its value is taken
 abbrev pub take_item : DictItem-F Taking Taking → Taking
 take_item item = item.value
 

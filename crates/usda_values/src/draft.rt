@@ -102,7 +102,7 @@ impl ValueDraft {
         }
     }
 
-    // A value that stands in the innermost level.
+    /// A value that stands in the innermost level.
     fn give_value(&mut self, value: Value) -> Result<(), AllocError>
         ensures { OnOk result (self.new ≡ give_act value self.old) }
     {
@@ -110,7 +110,7 @@ impl ValueDraft {
         self.level.give(value)
     }
 
-    // A value of one token.
+    /// A value of one token.
     fn put(&mut self, kind: TokenKind, text: &str) -> Result<(), PartFault>
         ensures { Does result self.new (put_act (token_value kind text.now) self.old) }
     {
@@ -120,7 +120,7 @@ impl ValueDraft {
         }
     }
 
-    // The value of a token.
+    /// The value of a token.
     fn put_value(&mut self, value: Value) -> Result<(), PartFault>
         ensures { Does result self.new (put_act (Ok value) self.old) }
     {
@@ -137,7 +137,7 @@ impl ValueDraft {
         }
     }
 
-    // A level more.
+    /// A level more.
     fn deeper(
         &mut self,
         place: Place,
@@ -183,7 +183,7 @@ impl ValueDraft {
         self.deeper(Place::EntryType, Bracket::Dict, Shape::Untyped, None)
     }
 
-    // The innermost level ends, and is a value of the one round it.
+    /// The innermost level ends, and is a value of the one round it.
     fn close(&mut self) -> Result<(), PartFault>
         ensures { Does result self.new (close_act self.old) }
     {
@@ -260,7 +260,7 @@ impl ValueDraft {
         }
     }
 
-    // The type of an entry.
+    /// The type of an entry.
     fn act_type(&mut self, name: &str) -> Result<(), PartFault>
         ensures { Does result self.new (type_act name.now self.old) }
     {

@@ -44,7 +44,7 @@ impl Entries {
         self.map.contains_key(key)
     }
 
-    /// Sets the entry of a key.
+    /// Sets the entry of a key. After want of memory the table is of no use.
     pub fn put(&mut self, key: Text, item: DictItem) -> Result<(), AllocError>
         ensures { OnOk result (self.new ≡ with_entry key item self.old) }
     {

@@ -23,8 +23,13 @@ pub fn shape_fault() -> PartFault
 /// Why there is no value.
 #[derive(Clone, Copy, Debug, PartialEq, Eq)]
 pub enum ValueFault {
-    /// The token that begins at byte `at` is refused, or the end of the text there.
-    Refused { kind: RefusalKind, at: usize },
+    /// A token is refused, or the end of the text.
+    Refused {
+        /// The kind of the refusal.
+        kind: RefusalKind,
+        /// The byte at which the token begins, or the length of the text at its end; 0 where no token is seen, as by `take_shape`.
+        at: usize,
+    },
     /// Memory ran out.
     NoMemory,
 }

@@ -169,7 +169,7 @@ impl Level {
         }
     }
 
-    /// Adds a member, or the value of the open entry.
+    /// Adds a member, or the value of the open entry. After want of memory the level is of no use.
     pub fn give(&mut self, value: Value) -> Result<(), AllocError>
         ensures { OnOk result (self.new ≡ give value self.old) }
     {

@@ -26,7 +26,7 @@ pub fn begins_up(bytes: &[u8]) -> bool
     }
 }
 
-// What follows each `../` in front.
+/// What follows each `../` in front.
 fn behind_ups(text: &str) -> &str
     ensures { result.now ≡ behind_ups 0 text.now }
 {
@@ -38,7 +38,7 @@ fn behind_ups(text: &str) -> &str
     rest
 }
 
-// Whether the text is a path from a prim down.
+/// Whether the text is a path from a prim down.
 fn is_path_below(alloc: Global, text: &str) -> Result<bool, AllocError>
     ensures { IfOk result (λ is. is ≡ is_path_below text.now) }
 {

@@ -11,7 +11,8 @@ use sdf_values::{RefusalKind, Value};
 use std::alloc::Global;
 use usda_lexer::{LexFault, Tokens};
 
-/// Reads one value, of which nothing is known. After a refusal the tokens stand at the one that was refused.
+/// Reads one value, of which nothing is known. After a refusal the tokens stand at the one that was refused, and after want of
+/// memory they are of no use.
 ///
 /// A number that is too long is `NumberTooLong` where a value may stand, and `Syntax` elsewhere, as behind a member.
 pub fn read_value(alloc: Global, tokens: &mut Tokens<'_>) -> Result<Value, ValueFault>
@@ -21,7 +22,8 @@ pub fn read_value(alloc: Global, tokens: &mut Tokens<'_>) -> Result<Value, Value
     read(ValueDraft::new(alloc, Shape::Untyped), tokens)
 }
 
-/// Reads one value of which this is expected. After a refusal the tokens stand at the one that was refused.
+/// Reads one value of which this is expected. After a refusal the tokens stand at the one that was refused, and after want of
+/// memory they are of no use.
 pub fn read_shaped(
     alloc: Global,
     shape: Shape,
@@ -33,7 +35,7 @@ pub fn read_shaped(
     read(ValueDraft::new(alloc, shape), tokens)
 }
 
-/// Reads a dictionary. After a refusal the tokens stand at the one that was refused.
+/// Reads a dictionary. After a refusal the tokens stand at the one that was refused, and after want of memory they are of no use.
 pub fn read_dict(alloc: Global, tokens: &mut Tokens<'_>) -> Result<Value, ValueFault>
     ensures answer { AnswersRead result (draft_of Place.Dictionary Shape.Dictionary) tokens.old tokens.new }
     ensures source { tokens.new.source ≡ tokens.old.source }
@@ -41,7 +43,7 @@ pub fn read_dict(alloc: Global, tokens: &mut Tokens<'_>) -> Result<Value, ValueF
     read(ValueDraft::dictionary(alloc), tokens)
 }
 
-// The value that the tokens complete.
+/// The value that the tokens complete.
 fn read(draft: ValueDraft, tokens: &mut Tokens<'_>) -> Result<Value, ValueFault>
     ensures answer { AnswersRead result draft tokens.old tokens.new }
     ensures source { tokens.new.source ≡ tokens.old.source }
@@ -59,7 +61,7 @@ fn read(draft: ValueDraft, tokens: &mut Tokens<'_>) -> Result<Value, ValueFault>
     }
 }
 
-// One token more; whether the value is complete.
+/// One token more; whether the value is complete.
 fn step(draft: &mut ValueDraft, tokens: &mut Tokens<'_>) -> Result<bool, ValueFault>
     ensures answer { AnswersStep result draft.old draft.new tokens.old tokens.new }
     ensures source { tokens.new.source ≡ tokens.old.source }
@@ -84,8 +86,8 @@ fn step(draft: &mut ValueDraft, tokens: &mut Tokens<'_>) -> Result<bool, ValueFa
     }
 }
 
-// Why there is no further token, where a draft has reached this place. A number that is too long is `Syntax` where no number
-// may stand.
+/// Why there is no further token, where a draft has reached this place. A number that is too long is `Syntax` where no number
+/// may stand.
 fn fault_of(fault: LexFault, place: Place) -> ValueFault
     ensures { result ≡ ValueFault.Refused (kind_of_fault fault place) (place_of_fault fault) }
 {

@@ -16,7 +16,7 @@ use sdf_values::{Decimal, ElementType, Num, RefusalKind, TimeCode, TypeName, Val
 use std::alloc::Global;
 use usda_lexer::{TokenKind, asset_text, number_of, path_text, string_text};
 
-// A power of ten, where it is within 128 signed bits.
+/// A power of ten, where it is within 128 signed bits.
 fn power_of(exp: i16) -> Option<i128>
     ensures { result ≡ power_of exp }
 {
@@ -155,7 +155,7 @@ pub fn finite_time(x: Num) -> Option<TimeCode>
     }
 }
 
-// A number without the tens that divide it, and how many these are.
+/// A number without the tens that divide it, and how many these are.
 #[tactic(auto, unfolding(crate::specs::Scalars::tens_out))]
 fn without_tens(n: u128) -> Option<(u128, u32)>
     ensures value { result ≡ tens_out n }
@@ -172,7 +172,7 @@ fn without_tens(n: u128) -> Option<(u128, u32)>
     None
 }
 
-// A decimal of these digits and so many tens.
+/// A decimal of these digits and so many tens.
 fn decimal(negative: bool, digits: u128, tens: u32) -> Decimal
     requires few { digits < 10 ^ 34 }
     requires last { digits % 10 ≢ 0 }

@@ -8,9 +8,9 @@ use sdf_values::{DictType, TypeName, members_of};
 /// What a value is to be.
 #[derive(Clone, Copy, Debug, PartialEq, Eq)]
 pub enum Shape {
-    /// Any value; a number is whole where it is written without a point and an exponent.
+    /// Any value; a number is whole where it is written without a point and an exponent and is within 128 signed bits.
     Untyped,
-    /// Any value; a number is whole where its value is.
+    /// Any value; a number is whole where its value is and is within 128 signed bits.
     Metadata,
     /// A value of this type.
     Typed(TypeName),

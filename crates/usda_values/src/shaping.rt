@@ -66,7 +66,7 @@ fn take_tuple(alloc: Global, element: ElementType, values: &[Value]) -> Result<V
     }
 }
 
-// The members of an array.
+/// The members of an array.
 #[cycle(taken)]
 fn take_all(alloc: Global, ty: TypeName, values: &[Value]) -> Result<Items<Value>, PartFault>
     ensures { GivesAll result (take_all (map taken values.now) ty) }
@@ -81,7 +81,7 @@ fn take_all(alloc: Global, ty: TypeName, values: &[Value]) -> Result<Items<Value
     Ok(all)
 }
 
-// The members of a tuple, of which there have to be so many.
+/// The members of a tuple, of which there have to be so many.
 #[cycle(taken)]
 fn take_counted(
     alloc: Global,

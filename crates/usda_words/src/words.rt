@@ -9,7 +9,7 @@ use std::marker::Model;
 use usda_grammar::WordKind;
 use usda_lexer::{LexFault, Token, TokenKind, Tokens};
 
-// A word of this kind at its place: no blank and no comment stands round a `.`.
+/// A word of this kind at its place: no blank and no comment stands round a `.`.
 fn kind_behind(before: Before, start: usize, kind: WordKind) -> WordKind
     ensures { result ≡ kind_behind before start kind }
 {

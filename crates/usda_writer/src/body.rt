@@ -1,4 +1,4 @@
-// Prims, variants and what stands in them.
+//! Prims, variants and what stands in them.
 ghost use Rattle.std.specs.Prelude.{◌≡◌, ◌++◌, OnOk, false, string_bytes};
 ghost use Rattle.std.specs.List.{flat_map};
 ghost use Rattle.usda_writer.specs.Properties.{property_lines};
@@ -36,7 +36,7 @@ pub fn push_order(
     out.push_str("\n")
 }
 
-// Appends the type of a prim, where it has one.
+/// Appends the type of a prim, where it has one.
 fn push_type_part(out: &mut String, type_name: &Option<Text>) -> Result<(), AllocError>
     ensures { OnOk result (string_bytes out.new ≡ string_bytes out.old ++ type_part type_name.now) }
 {
@@ -49,7 +49,7 @@ fn push_type_part(out: &mut String, type_name: &Option<Text>) -> Result<(), Allo
     }
 }
 
-// Appends the metadata of a prim or a variant behind its name.
+/// Appends the metadata of a prim or a variant behind its name.
 #[tactic(auto, unfolding(crate::specs::Canonical::spec_block))]
 fn push_spec_block(out: &mut String, level: usize, spec: &Spec) -> Result<(), AllocError>
     ensures { OnOk result (string_bytes out.new ≡ string_bytes out.old ++ spec_block level spec.now) }
@@ -72,7 +72,7 @@ fn push_properties(
     Ok(())
 }
 
-// What a prim is, and its name.
+/// What a prim is, and its name.
 fn push_prim_title(
     out: &mut String,
     level: usize,
@@ -88,7 +88,7 @@ fn push_prim_title(
     push_name(out, name)
 }
 
-// The lines before the body of a prim.
+/// The lines before the body of a prim.
 fn push_prim_head(
     out: &mut String,
     level: usize,
@@ -104,7 +104,7 @@ fn push_prim_head(
     push_line(out, level, "{")
 }
 
-// The line before the body of a variant.
+/// The line before the body of a variant.
 fn push_variant_head(
     out: &mut String,
     level: usize,
@@ -126,7 +126,7 @@ fn set_word() -> &'static str
     "variantSet "
 }
 
-// The line before the variants of a set.
+/// The line before the variants of a set.
 fn push_set_head(out: &mut String, level: usize, set: &Text) -> Result<(), AllocError>
     ensures { OnOk result (string_bytes out.new ≡ string_bytes out.old ++ set_head level set.now) }
 {

@@ -1,4 +1,4 @@
-// Lines of metadata.
+//! Lines of metadata.
 ghost use Rattle.std.specs.Prelude.{◌≡◌, ◌++◌, OnOk, IfOk, IsTrue, codes, map, string_bytes};
 ghost use Rattle.std.specs.List.{flat_map};
 ghost use Rattle.sdf_values.specs.Print.{print};
@@ -17,7 +17,7 @@ fn is_comment(key: &Text) -> bool
     key.as_str() == "comment"
 }
 
-// Appends the comment of an owner.
+/// Appends the comment of an owner.
 fn push_comments(out: &mut String, level: usize, meta: &Meta) -> Result<(), AllocError>
     ensures { OnOk result (string_bytes out.new ≡ string_bytes out.old ++ flat_map (comment_line level) meta.now) }
 {
@@ -31,7 +31,7 @@ fn push_comments(out: &mut String, level: usize, meta: &Meta) -> Result<(), Allo
     Ok(())
 }
 
-// Appends the other keys of an owner.
+/// Appends the other keys of an owner.
 fn push_keys(out: &mut String, level: usize, meta: &Meta) -> Result<(), AllocError>
     ensures { OnOk result (string_bytes out.new ≡ string_bytes out.old ++ flat_map (key_line level) meta.now) }
 {
@@ -55,7 +55,7 @@ pub fn push_meta(out: &mut String, level: usize, meta: &Meta) -> Result<(), Allo
     push_keys(out, level, meta)
 }
 
-// A variant that is selected, as an entry of a dictionary.
+/// A variant that is selected, as an entry of a dictionary.
 fn selection_item(set: &Text, variant: &Text) -> Result<DictItem, AllocError>
     ensures { IfOk result (λ item. item ≡ selection_item (set.now, variant.now)) }
 {
@@ -66,7 +66,7 @@ fn selection_item(set: &Text, variant: &Text) -> Result<DictItem, AllocError>
     })
 }
 
-// The variants that are selected, as entries of a dictionary.
+/// The variants that are selected, as entries of a dictionary.
 fn selection_items(alloc: Global, selections: &Selections) -> Result<Items<DictItem>, AllocError>
     ensures { IfOk result (λ items. items ≡ map selection_item selections.now) }
 {
@@ -77,7 +77,7 @@ fn selection_items(alloc: Global, selections: &Selections) -> Result<Items<DictI
     Ok(items)
 }
 
-// Appends the word `variants` and a value.
+/// Appends the word `variants` and a value.
 fn push_variants(out: &mut String, level: usize, value: &Value) -> Result<(), AllocError>
     ensures { OnOk result (string_bytes out.new ≡ string_bytes out.old ++ line level (codes "variants = " ++ print value.now level)) }
 {
@@ -87,7 +87,7 @@ fn push_variants(out: &mut String, level: usize, value: &Value) -> Result<(), Al
     out.push_str("\n")
 }
 
-// Appends the variants that are selected.
+/// Appends the variants that are selected.
 fn push_selections(
     out: &mut String,
     level: usize,

@@ -1,4 +1,4 @@
-// Examples of canonical texts.
+//! Examples of canonical texts.
 ghost use Rattle.usda_writer.specs.Examples.{AreWritten};
 
 /// Layers and their texts: forms of lists, sublayers, relationships and variant sets, and two of connections.

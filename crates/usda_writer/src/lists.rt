@@ -1,4 +1,4 @@
-// Lists by their edits.
+//! Lists by their edits.
 ghost use Rattle.std.specs.Prelude.{◌≡◌, ◌++◌, List, ℕ, OnOk, string_bytes};
 ghost use Rattle.usda_writer.specs.Texts.{listed, bracketed, explicit_list};
 ghost use Rattle.usda_writer.specs.Fields.{edit_line, explicit_line, edit_lines, list_lines};
@@ -61,7 +61,7 @@ impl Item for SubLayer {
     }
 }
 
-// Appends items with a comma and a blank between them.
+/// Appends items with a comma and a blank between them.
 fn push_items<T: Item>(out: &mut String, items: &[T]) -> Result<(), AllocError>
     ensures { OnOk result (string_bytes out.new ≡ string_bytes out.old ++ listed T.text items.now) }
 {
@@ -116,7 +116,7 @@ pub fn push_edit<T: Item>(
     out.push_str("\n")
 }
 
-// Appends the line of an explicit list.
+/// Appends the line of an explicit list.
 fn push_explicit_line<T: Item>(
     out: &mut String,
     level: usize,

@@ -1,4 +1,4 @@
-// Lines of properties.
+//! Lines of properties.
 ghost use Rattle.std.specs.Prelude.{◌≡◌, ◌++◌, OnOk, IfOk, string_bytes, codes};
 ghost use Rattle.std.specs.List.{flat_map};
 ghost use Rattle.sdf_values.specs.TypeNames.{type_text};
@@ -18,7 +18,7 @@ use sdf_values::{TimeCode, TypeName, Value, push_blanks, push_time, push_type, p
 use spec_properties::{Meta, Property, Samples};
 use std::alloc::{AllocError, Global};
 
-// Appends the metadata of a property behind its line.
+/// Appends the metadata of a property behind its line.
 fn push_property_block(out: &mut String, level: usize, meta: &Meta) -> Result<(), AllocError>
     ensures { OnOk result (string_bytes out.new ≡ string_bytes out.old ++ metadata_block level (meta_lines (deeper level) meta.now)) }
 {
@@ -55,7 +55,7 @@ fn push_sample(
     out.push_str("\n")
 }
 
-// Appends a line for each time.
+/// Appends a line for each time.
 fn push_sample_lines(out: &mut String, level: usize, samples: &Samples) -> Result<(), AllocError>
     ensures { OnOk result (string_bytes out.new ≡ string_bytes out.old ++ flat_map (sample_line level) samples.now) }
 {
@@ -65,7 +65,7 @@ fn push_sample_lines(out: &mut String, level: usize, samples: &Samples) -> Resul
     Ok(())
 }
 
-// Appends the samples of an attribute of this type and name.
+/// Appends the samples of an attribute of this type and name.
 fn push_samples(
     out: &mut String,
     level: usize,
@@ -84,7 +84,7 @@ fn push_samples(
     push_line(out, level, "}")
 }
 
-// The type and the name of an attribute.
+/// The type and the name of an attribute.
 fn typed_name(alloc: Global, ty: TypeName, name: &Text) -> Result<String, AllocError>
     ensures { IfOk result (λ text. string_bytes text ≡ type_text ty ++ codes " " ++ name.now) }
 {
@@ -95,7 +95,7 @@ fn typed_name(alloc: Global, ty: TypeName, name: &Text) -> Result<String, AllocE
     Ok(text)
 }
 
-// Appends the targets behind a relationship's name.
+/// Appends the targets behind a relationship's name.
 fn push_targets(out: &mut String, targets: &Option<Items<Path>>) -> Result<(), AllocError>
     ensures { OnOk result (string_bytes out.new ≡ string_bytes out.old ++ targets_text targets.now) }
 {
@@ -108,7 +108,7 @@ fn push_targets(out: &mut String, targets: &Option<Items<Path>>) -> Result<(), A
     }
 }
 
-// Appends the lines of a relationship of this name.
+/// Appends the lines of a relationship of this name.
 fn push_relationship(
     out: &mut String,
     level: usize,
@@ -128,7 +128,7 @@ fn push_relationship(
     push_edits(out, level, named, targets)
 }
 
-// What stands before the default of an attribute.
+/// What stands before the default of an attribute.
 fn push_attribute_head(
     out: &mut String,
     level: usize,
@@ -144,7 +144,7 @@ fn push_attribute_head(
     out.push_str(typed)
 }
 
-// Appends the line of an attribute of this type and name.
+/// Appends the line of an attribute of this type and name.
 fn push_attribute_line(
     out: &mut String,
     level: usize,
@@ -162,7 +162,7 @@ fn push_attribute_line(
     out.push_str("\n")
 }
 
-// Appends the connections of an attribute of this type and name.
+/// Appends the connections of an attribute of this type and name.
 fn push_connections(
     out: &mut String,
     level: usize,
@@ -210,7 +210,7 @@ pub fn push_property(out: &mut String, level: usize, property: &Property) -> Res
     }
 }
 
-// The word `rel` and the name of a relationship.
+/// The word `rel` and the name of a relationship.
 fn rel_name(alloc: Global, name: &Text) -> Result<String, AllocError>
     ensures { IfOk result (λ text. string_bytes text ≡ codes "rel " ++ name.now) }
 {

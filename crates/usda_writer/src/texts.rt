@@ -1,4 +1,4 @@
-// The texts of which a layer's text is put together.
+//! The texts of which a layer's text is put together.
 ghost use Rattle.std.specs.Prelude.{◌≡◌, ◌++◌, OnOk, string_bytes};
 ghost use Rattle.usda_writer.specs.Texts.{quoted_name, target_text, reference_text, sublayer_text, specifier_text, metadata_block};
 ghost use Rattle.usda_writer.specs.Fields.{line};
@@ -49,7 +49,7 @@ pub fn push_specifier(out: &mut String, specifier: Specifier) -> Result<(), Allo
     }
 }
 
-// Appends what an item names, as far as it does, or `<>`.
+/// Appends what an item names, as far as it does, or `<>`.
 fn push_target(
     out: &mut String,
     asset: &Option<Text>,

@@ -10,7 +10,7 @@ use sdf_specs::{Head, Layer, Meta, stand_at_paths};
 use sdf_values::Value;
 use std::alloc::{AllocError, Global};
 
-// The metadata of a layer, with its default prim among the keys.
+/// The metadata of a layer, with its default prim among the keys.
 fn with_default_prim(alloc: Global, head: &Head) -> Result<Meta, AllocError>
     ensures { IfOk result (λ meta. meta ≡ with_default_prim head.now.default_prim head.now.meta) }
 {
@@ -20,7 +20,7 @@ fn with_default_prim(alloc: Global, head: &Head) -> Result<Meta, AllocError>
     }
 }
 
-// Metadata with a default prim.
+/// Metadata with a default prim.
 fn with_key(alloc: Global, meta: &Meta, name: &Text) -> Result<Meta, AllocError>
     ensures { IfOk result (λ new. new ≡ with_default_prim (Some name.now) meta.now) }
 {
@@ -31,7 +31,7 @@ fn with_key(alloc: Global, meta: &Meta, name: &Text) -> Result<Meta, AllocError>
     Ok(new)
 }
 
-// Appends the lines of the metadata of a layer.
+/// Appends the lines of the metadata of a layer.
 fn push_head_lines(alloc: Global, out: &mut String, head: &Head) -> Result<(), AllocError>
     ensures { OnOk result (string_bytes out.new ≡ string_bytes out.old ++ head_lines head.now) }
 {
@@ -40,7 +40,7 @@ fn push_head_lines(alloc: Global, out: &mut String, head: &Head) -> Result<(), A
     push_sublayers(out, 1, head.sublayers.as_slice())
 }
 
-// Appends lines between brackets, where there are any.
+/// Appends lines between brackets, where there are any.
 fn push_head_block(out: &mut String, lines: &str) -> Result<(), AllocError>
     ensures { OnOk result (string_bytes out.new ≡ string_bytes out.old ++ head_block lines.now) }
 {
@@ -62,7 +62,7 @@ fn push_root_order(out: &mut String, names: &[Text]) -> Result<(), AllocError>
     push_order(out, 0, "rootPrims", names)
 }
 
-// Appends what stands before the root prims.
+/// Appends what stands before the root prims.
 fn push_front(alloc: Global, out: &mut String, head: &Head) -> Result<(), AllocError>
     ensures { OnOk result (string_bytes out.new ≡ string_bytes out.old ++ layer_front head.now) }
 {
@@ -80,7 +80,7 @@ fn first_line() -> &'static str
     "#usda 1.0\n"
 }
 
-// Appends the text of a layer.
+/// Appends the text of a layer.
 #[tactic(auto, unfolding(crate::specs::Canonical::canonical))]
 fn push_layer(alloc: Global, out: &mut String, layer: &Layer) -> Result<(), AllocError>
     ensures { OnOk result (string_bytes out.new ≡ string_bytes out.old ++ canonical layer.now) }
@@ -99,7 +99,8 @@ fn push_layer(alloc: Global, out: &mut String, layer: &Layer) -> Result<(), Allo
     )
 }
 
-/// The canonical text of a layer. A name of a child without a spec is passed over.
+/// The canonical text of a layer. A name of a child or a variant without a spec is passed over, and a spec that its owner does not
+/// name is not written.
 ///
 /// # Errors
 ///

@@ -44,7 +44,7 @@ AreCounted Failed files files_now script script_now =
     (Failed → ((files_now ≡ one_more files) × (script_now ≡ script)) ⊎ ((files_now ≡ files) × (script_now ≡ one_more script)))
     × ((Failed → ⊥) → (files_now ≡ files) × (script_now ≡ script))
 
--- a run that more lines go on: its lines are at their end, in a batch or outside
+-- the run ended for no other reason than that its lines did: outside of a batch, or in one that further lines could have completed
 abbrev pub GoesOn : Status → Type 0
 GoesOn Done = Unit {0}
 GoesOn (ScriptRefused line kind) = kind ≡ Unfinished

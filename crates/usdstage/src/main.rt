@@ -14,7 +14,7 @@ use std::process::ExitCode;
 use std::{env, io};
 use tool::run_tool;
 
-// The words behind the program's name; nothing where one of them is no text.
+/// The words behind the program's name; nothing where one of them is no text.
 fn words_of(rt: &HostRuntime) -> Result<Option<Vec<String>>, AllocError> {
     let args = match env::args(rt) {
         Ok(args) => args,
@@ -33,7 +33,7 @@ fn words_of(rt: &HostRuntime) -> Result<Option<Vec<String>>, AllocError> {
     Ok(Some(words))
 }
 
-// The run over the real files and streams.
+/// The run over the real files and streams.
 fn run(rt: &HostRuntime) -> Result<Status, AllocError> {
     let Some(words) = words_of(rt)? else {
         return Ok(Status::Usage);

@@ -17,7 +17,7 @@ pub enum Written {
     NoMemory,
 }
 
-// The bytes from a place on.
+/// The bytes from a place on.
 fn rest_of(text: &[u8], at: usize) -> &[u8]
     requires { at ≤ length text.now }
     ensures { result.now ≡ drop at text.now }

@@ -44,7 +44,7 @@ pub enum Status {
     NoMemory,
 }
 
-// The line about a file of this name, as far as the name.
+/// The line about a file of this name, as far as the name.
 fn line_about(alloc: Global, name: &AssetId) -> Result<String, AllocError>
     ensures { IfOk result (λ line. string_bytes line ≡ codes "usdstage: " ++ name.now) }
 {
@@ -53,7 +53,7 @@ fn line_about(alloc: Global, name: &AssetId) -> Result<String, AllocError>
     Ok(line)
 }
 
-// Adds a colon and a number.
+/// Adds a colon and a number.
 fn push_place(alloc: Global, line: &mut String, number: u64) -> Result<(), AllocError>
     ensures { OnOk result (string_bytes line.new ≡ string_bytes line.old ++ codes ":" ++ decimal number) }
 {
@@ -62,7 +62,7 @@ fn push_place(alloc: Global, line: &mut String, number: u64) -> Result<(), Alloc
     line.push_str(number.as_str())
 }
 
-// Adds why a root is refused.
+/// Adds why a root is refused.
 fn push_refusal(
     alloc: Global,
     line: &mut String,
@@ -79,7 +79,7 @@ fn push_refusal(
     line.push_str(refusal_name(refusal.kind))
 }
 
-// The line about a root that is refused.
+/// The line about a root that is refused.
 fn line_about_root(
     alloc: Global,
     name: &AssetId,
@@ -92,7 +92,7 @@ fn line_about_root(
     Ok(line)
 }
 
-// What is wrong with a line of a script, in a word.
+/// What is wrong with a line of a script, in a word.
 fn kind_text(kind: ScriptKind) -> &'static str
     ensures { result.now ≡ kind_text kind }
 {
@@ -103,7 +103,7 @@ fn kind_text(kind: ScriptKind) -> &'static str
     }
 }
 
-// The line about a line of the script.
+/// The line about a line of the script.
 fn line_about_script(alloc: Global, number: u64, kind: ScriptKind) -> Result<String, AllocError>
     ensures { IfOk result (λ line. string_bytes line ≡ codes "usdstage: script line " ++ decimal number ++ codes ": " ++ kind_text kind) }
 {
@@ -115,7 +115,7 @@ fn line_about_script(alloc: Global, number: u64, kind: ScriptKind) -> Result<Str
     Ok(line)
 }
 
-// A line of these words.
+/// A line of these words.
 fn plain_line(alloc: Global, words: &str) -> Result<String, AllocError>
     ensures { IfOk result (λ line. string_bytes line ≡ words.now) }
 {

@@ -30,7 +30,7 @@ use stage_session::{Session, flatten_world};
 use std::alloc::Global;
 use usda_reader::texts_have_one_answer;
 
-// How a run ends whose world was not opened.
+/// How a run ends whose world was not opened.
 fn unopened(fault: LoadFault) -> Status
     ensures value { result ≡ unopened fault }
     ensures calm { (result ≢ Status.WriteFault) × (result ≢ Status.Done) × (result ≢ Status.Usage) }
@@ -43,7 +43,7 @@ fn unopened(fault: LoadFault) -> Status
     }
 }
 
-// Writes the text of the flattened layer.
+/// Writes the text of the flattened layer.
 fn write_flat<K: Sink>(alloc: Global, world: &World, out: &mut K) -> Status
     ensures outcome { EndsWith (flat_course world.now) result (K.taken out.old) (K.taken out.new) }
     ensures writes { IsCounted (result ≡ Status.WriteFault) (K.faults out.old) (K.faults out.new) }
@@ -62,7 +62,7 @@ fn write_flat<K: Sink>(alloc: Global, world: &World, out: &mut K) -> Status
     }
 }
 
-// Puts the layer of a name as its file gives it: the reply, and the bytes fetched by then.
+/// Puts the layer of a name as its file gives it: the reply, and the bytes fetched by then.
 fn open_layer<F: LayerFiles>(
     alloc: Global,
     session: &mut Session,
@@ -88,7 +88,7 @@ fn open_layer<F: LayerFiles>(
     }
 }
 
-// The reply to a batch.
+/// The reply to a batch.
 #[tactic(auto, unfolding(crate::specs::Course::turn))]
 fn edit(session: &mut Session, bytes: u64, batch: Batch) -> Result<(Vec<u8>, u64), Status>
     ensures turn { (held : _) (size : _) → Takes (λ v. v.items) result session.new (turn held size session.old bytes (Step.Batch batch)) }
@@ -100,7 +100,7 @@ fn edit(session: &mut Session, bytes: u64, batch: Batch) -> Result<(Vec<u8>, u64
     }
 }
 
-// The reply to a publish.
+/// The reply to a publish.
 fn publish(session: &mut Session, bytes: u64) -> Result<(Vec<u8>, u64), Status>
     ensures turn { (held : _) (size : _) → Takes (λ v. v.items) result session.new (turn held size session.old bytes Step.Publish) }
     ensures calm { (result ≢ Err Status.ReadFault) × (result ≢ Err Status.WriteFault) × (result ≢ Err Status.Done) × (result ≢ Err Status.Usage) }
@@ -112,7 +112,7 @@ fn publish(session: &mut Session, bytes: u64) -> Result<(Vec<u8>, u64), Status>
     }
 }
 
-// The reply to a question.
+/// The reply to a question.
 #[tactic(auto, unfolding(crate::specs::Course::turn))]
 fn answer(session: &Session, bytes: u64, question: &Question) -> Result<(Vec<u8>, u64), Status>
     ensures turn { (held : _) (size : _) → Takes (λ v. v.items) result session.now (turn held size session.now bytes (Step.Ask question.now)) }
@@ -124,7 +124,7 @@ fn answer(session: &Session, bytes: u64, question: &Question) -> Result<(Vec<u8>
     }
 }
 
-// The reply to a step, and the bytes fetched by then, or how the run ends without one.
+/// The reply to a step, and the bytes fetched by then, or how the run ends without one.
 fn reply_to<F: LayerFiles>(
     alloc: Global,
     session: &mut Session,
@@ -149,7 +149,7 @@ fn reply_to<F: LayerFiles>(
     }
 }
 
-// Carries out a step of a session, and writes its reply; the bytes fetched by then, or how the run ends.
+/// Carries out a step of a session, and writes its reply; the bytes fetched by then, or how the run ends.
 fn carry_out<F: LayerFiles, K: Sink>(
     alloc: Global,
     session: &mut Session,
@@ -175,7 +175,7 @@ fn carry_out<F: LayerFiles, K: Sink>(
     }
 }
 
-// Carries out the steps of a script of which nothing was read, each with its reply before the next is read.
+/// Carries out the steps of a script of which nothing was read, each with its reply before the next is read.
 fn run_steps<F: LayerFiles, S: Source, K: Sink>(
     alloc: Global,
     session: &mut Session,
@@ -211,7 +211,7 @@ fn run_steps<F: LayerFiles, S: Source, K: Sink>(
     }
 }
 
-// Carries out the steps of a script on a session, which ends with them.
+/// Carries out the steps of a script on a session, which ends with them.
 fn run_script<F: LayerFiles, S: Source, K: Sink>(
     alloc: Global,
     session: Session,
@@ -235,7 +235,7 @@ fn run_script<F: LayerFiles, S: Source, K: Sink>(
     status
 }
 
-// Opens a session on a world, and writes the reply to the opening.
+/// Opens a session on a world, and writes the reply to the opening.
 fn open_session<K: Sink>(alloc: Global, world: World, out: &mut K) -> Result<Session, Status>
     ensures opened { IfOk result (λ session. (session ≡ opening world) × Appends (K.taken out.old) (K.taken out.new) (opening_text world)) }
     ensures few { IfOk result (λ _. length (stage_after world []) ≤ most_paths) }
@@ -261,7 +261,7 @@ fn open_session<K: Sink>(alloc: Global, world: World, out: &mut K) -> Result<Ses
     }
 }
 
-// A session on a world for which so many bytes were fetched.
+/// A session on a world for which so many bytes were fetched.
 fn run_session<F: LayerFiles, S: Source, K: Sink>(
     alloc: Global,
     loaded: Loaded,
@@ -284,7 +284,7 @@ fn run_session<F: LayerFiles, S: Source, K: Sink>(
     }
 }
 
-// Carries out a command.
+/// Carries out a command.
 fn run_command<F: LayerFiles, S: Source, K: Sink>(
     alloc: Global,
     command: Command,

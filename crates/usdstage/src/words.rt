@@ -40,7 +40,7 @@ pub struct Draft {
     pub wants_layer: bool,
 }
 
-// What the first word asks for.
+/// What the first word asks for.
 fn verb_of(word: &str) -> Option<Verb>
     ensures { result ≡ verb_of word.now }
 {
@@ -62,7 +62,7 @@ fn begins_with_dash(word: &[u8]) -> bool
     }
 }
 
-// The name of a layer that a word gives by itself.
+/// The name of a layer that a word gives by itself.
 fn name_of(alloc: Global, word: &str) -> Result<Option<AssetId>, AllocError>
     ensures { IfOk result (λ name. name ≡ layer_named word.now) }
 {
@@ -73,7 +73,7 @@ fn name_of(alloc: Global, word: &str) -> Result<Option<AssetId>, AllocError>
     }
 }
 
-// The root is named.
+/// The root is named.
 fn with_root(alloc: Global, draft: Draft, word: &str) -> Result<Option<Draft>, AllocError>
     ensures { IfOk result (λ next. next ≡ with_root draft word.now) }
 {
@@ -102,7 +102,7 @@ fn with_root(alloc: Global, draft: Draft, word: &str) -> Result<Option<Draft>, A
     }
 }
 
-// The session layer is named.
+/// The session layer is named.
 fn with_session(alloc: Global, draft: Draft, word: &str) -> Result<Option<Draft>, AllocError>
     ensures { IfOk result (λ next. next ≡ with_session draft word.now) }
 {
@@ -131,7 +131,7 @@ fn with_session(alloc: Global, draft: Draft, word: &str) -> Result<Option<Draft>
     }
 }
 
-// The next word names the session layer.
+/// The next word names the session layer.
 fn wanting(draft: Draft) -> Option<Draft>
     ensures { result ≡ wanting draft }
 {
@@ -148,7 +148,7 @@ fn wanting(draft: Draft) -> Option<Draft>
     })
 }
 
-// An option, or the root.
+/// An option, or the root.
 fn with_word(alloc: Global, draft: Draft, word: &str) -> Result<Option<Draft>, AllocError>
     ensures { IfOk result (λ next. next ≡ with_word draft word.now) }
 {
@@ -165,7 +165,7 @@ fn with_word(alloc: Global, draft: Draft, word: &str) -> Result<Option<Draft>, A
     with_root(alloc, draft, word)
 }
 
-// One word more.
+/// One word more.
 #[tactic(auto, unfolding(crate::specs::Command::take_word))]
 fn take_word(alloc: Global, draft: Draft, word: &str) -> Result<Option<Draft>, AllocError>
     ensures { IfOk result (λ next. next ≡ take_word draft word.now) }
@@ -180,7 +180,7 @@ fn take_word(alloc: Global, draft: Draft, word: &str) -> Result<Option<Draft>, A
     with_session(alloc, draft, word)
 }
 
-// Word after word, from this one on.
+/// Word after word, from this one on.
 #[tactic(auto, unfolding(crate::specs::Command::take_words))]
 fn take_words(alloc: Global, words: &[String]) -> Result<Option<Draft>, AllocError>
     ensures { IfOk result (λ draft. draft ≡ take_words blank (map string_bytes words.now)) }
@@ -199,7 +199,7 @@ fn take_words(alloc: Global, words: &[String]) -> Result<Option<Draft>, AllocErr
     Ok(Some(draft))
 }
 
-// The command of which all was read.
+/// The command of which all was read.
 fn finished(verb: Verb, draft: Draft) -> Option<Command>
     ensures { result ≡ finished verb draft }
 {

@@ -8,7 +8,7 @@ use usda_lexer::Tokens;
 use usda_values::{ValueFault, read_dict, read_value};
 use value_shapes::{numbers_are_held, read_of_type, value_of_type};
 
-// A value of which nothing is known.
+/// A value of which nothing is known.
 fn untyped(alloc: Global, text: &str) -> Result<Value, Fail> {
     let Ok(mut tokens) = Tokens::new(text.as_bytes()) else {
         return Err(Fail::from("no UTF-8"));
@@ -19,7 +19,7 @@ fn untyped(alloc: Global, text: &str) -> Result<Value, Fail> {
     }
 }
 
-// A value of a type of one element.
+/// A value of a type of one element.
 fn typed(alloc: Global, element: ElementType, text: &str) -> Result<Value, Fail> {
     let Ok(mut tokens) = Tokens::new(text.as_bytes()) else {
         return Err(Fail::from("no UTF-8"));
@@ -46,7 +46,7 @@ enum Told {
     Time(i128),
 }
 
-// The value is told by this.
+/// The value is told by this.
 fn is_told(value: &Value, told: &Told) -> bool {
     match (value, told) {
         (Value::Whole(n), Told::Whole(number)) => n == number,
@@ -70,7 +70,7 @@ fn is_number(value: &Value, digits: i128, exp: i16) -> bool {
     is_told(value, &Told::Number { digits, exp })
 }
 
-// Values of which nothing is known. Two to 127 is about 1.7 times ten to 38.
+/// Values of which nothing is known. Two to 127 is about 1.7 times ten to 38.
 static UNTYPED: [(&str, Told); 10] = [
     ("1", Told::Whole(1)),
     ("-0", Told::Whole(0)),
@@ -134,7 +134,7 @@ fn is_text(value: &Value, words: &str) -> bool {
     }
 }
 
-// The only entry of a dictionary.
+/// The only entry of a dictionary.
 fn only_entry(value: &Value) -> Option<&DictItem> {
     match value {
         Value::Dict(items) => { if items.len() == 1 { items.get(0) } else { None } }
@@ -154,7 +154,7 @@ fn a_dictionary_has_its_entry(rt: HostRuntime) -> Result<(), Fail> {
     Ok(())
 }
 
-// So many tuples inside each other, with a 1 in the innermost.
+/// So many tuples inside each other, with a 1 in the innermost.
 fn nested(alloc: Global, levels: usize) -> Result<String, Fail> {
     let mut text = String::new(alloc);
     for _level in 0..levels {
@@ -167,7 +167,7 @@ fn nested(alloc: Global, levels: usize) -> Result<String, Fail> {
     Ok(text)
 }
 
-// The only member of a tuple.
+/// The only member of a tuple.
 fn only_member(value: &Value) -> Option<&Value> {
     match value {
         Value::Tuple(items) => { if items.len() == 1 { items.get(0) } else { None } }
@@ -175,7 +175,7 @@ fn only_member(value: &Value) -> Option<&Value> {
     }
 }
 
-// What stands so many tuples deep.
+/// What stands so many tuples deep.
 fn inside(value: &Value, levels: usize) -> Option<&Value> {
     let mut inner = value;
     for _level in 0..levels {
@@ -195,7 +195,7 @@ fn tuples_nest_64_deep(rt: HostRuntime) -> Result<(), Fail> {
     Ok(())
 }
 
-// The kind and the place of a refusal.
+/// The kind and the place of a refusal.
 fn refusal(alloc: Global, text: &str) -> Result<(RefusalKind, usize), Fail> {
     let Ok(mut tokens) = Tokens::new(text.as_bytes()) else {
         return Err(Fail::from("no UTF-8"));
@@ -214,7 +214,7 @@ fn the_65th_tuple_is_too_deep(rt: HostRuntime) -> Result<(), Fail> {
     Ok(())
 }
 
-// What is read without a type, as one of this type.
+/// What is read without a type, as one of this type.
 fn shaped(alloc: Global, element: ElementType, text: &str) -> Result<Value, Fail> {
     let ty = TypeName {
         element,
@@ -227,7 +227,7 @@ fn shaped(alloc: Global, element: ElementType, text: &str) -> Result<Value, Fail
     }
 }
 
-// Values of no type, each taken as one of a type.
+/// Values of no type, each taken as one of a type.
 static TAKEN: [(ElementType, &str, Told); 3] = [
     (ElementType::Bool, "true", Told::Truth),
     (

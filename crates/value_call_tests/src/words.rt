@@ -20,7 +20,7 @@ fn letter(kind: WordKind) -> char {
     }
 }
 
-// A word in print: its first byte, the letter of its kind, a second one where it is too long, and its text.
+/// A word in print: its first byte, the letter of its kind, a second one where it is too long, and its text.
 fn push_word(out: &mut String, word: &Word<'_>) -> Result<(), Fail> {
     write!(out, "{}", word.start)?;
     out.push(letter(word.kind))?;

@@ -1,4 +1,4 @@
-// What the opinions on an attribute decide, the strongest first.
+//! What the opinions on an attribute decide, the strongest first.
 ghost use Rattle.std.specs.Prelude.{◌≡◌};
 ghost use Rattle.composition.specs.Arcs.{is_empty};
 ghost use Rattle.composition.specs.Fields.{or_else};

@@ -1,4 +1,4 @@
-// The times inside a value, through an offset.
+//! The times inside a value, through an offset.
 ghost use Rattle.std.specs.Prelude.{◌≡◌, map, IfOk};
 ghost use Rattle.sdf_values.specs.Scales.{mapped};
 ghost use Rattle.sdf_values.specs.declared.value.DictItem.{out-DictItem};

@@ -1,4 +1,4 @@
-// What one opinion on an attribute gives on the stage.
+//! What one opinion on an attribute gives on the stage.
 ghost use Rattle.std.specs.Prelude.{◌≡◌, IfOk};
 ghost use Rattle.composition.specs.Values.{is_timecode, given_default, given_by, given};
 ghost use Rattle.value_resolve.specs.Deciding.{gives};

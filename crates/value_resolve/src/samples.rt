@@ -1,4 +1,4 @@
-// Samples on the stage.
+//! Samples on the stage.
 ghost use Rattle.std.specs.Prelude.{◌≡◌, ◌||◌, Some, filter_map, IfOk, OnOk};
 ghost use Rattle.std.specs.List.{list_any};
 ghost use Rattle.composition.specs.Values.{mapped_sample, is_lost};

@@ -1,4 +1,4 @@
-// What comes back of values, metadata and properties, each law as the clause of a function that does nothing.
+//! What comes back of values, metadata and properties, each law as the clause of a function that does nothing.
 ghost use Rattle.value_returns.specs.Examples.{ExamplesAreProper};
 ghost use Rattle.value_returns.specs.Laws.{ReadValuesHaveMembers, TypedValuesAreShallow, TypedValuesHaveFullPaths, FullPathsAreFixed, ProperValuesAreKept, ProperMetaIsKept, ProperPropertiesAreKept, PrintsAreFull, ProperFieldsAreKept, ProperHeadKeysAreKept};
 

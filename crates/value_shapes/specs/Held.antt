@@ -33,6 +33,7 @@ held_step (Value-F.Array bs) = all_true bs
 held_step (Value-F.Dict bs) = all_true bs
 held_step v = true
 
+-- an entry holds its numbers as its value does
 abbrev pub held_item : DictItem-F Bool Bool → Bool
 held_item item = item.value
 

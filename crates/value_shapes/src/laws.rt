@@ -1,4 +1,4 @@
-// What holds of a value that is taken as one of a type, each law as the clause of a function that does nothing.
+//! What holds of a value that is taken as one of a type, each law as the clause of a function that does nothing.
 ghost use Rattle.value_shapes.specs.Apart.{AreApart};
 ghost use Rattle.value_shapes.specs.Laws.{AreOfTheType, AreKept, AreOfTheMeaning, AreTakenOnce, AreTheOnly, AreReadOfTheType};
 

@@ -34,7 +34,7 @@ pub fn value_of_type(alloc: Global, ty: TypeName, v: Value) -> Result<Value, Val
 }
 
 /// Reads one value of the type, directly behind the `=` of a statement. After a refusal the tokens stand at the one that
-/// was refused.
+/// was refused, and after want of memory they are of no use.
 pub fn read_of_type(
     alloc: Global,
     ty: TypeName,

@@ -1,4 +1,4 @@
-// What holds of the canonical texts of values, each law as the clause of a function that does nothing.
+//! What holds of the canonical texts of values, each law as the clause of a function that does nothing.
 ghost use Rattle.value_texts.specs.Laws.{AreTokens, AreWords, AreGiven, AreRead, AreDictionariesRead, AreSourcesRead, AreTypesRead, AreTypedRead};
 ghost use Rattle.value_texts.specs.Pieces.{ArePieces, AreMeant, AreQuotedPlainly};
 ghost use Rattle.value_texts.specs.Examples.{AreTold};

@@ -1,5 +1,5 @@
-// What holds of the tokens of a text and of each value that is read from them, each law as the clause of a function that does
-// nothing.
+//! What holds of the tokens of a text and of each value that is read from them, each law as the clause of a function that does
+//! nothing.
 ghost use Rattle.values_read.specs.Laws.{TokensAreLexed, WordsAreLexed, ReadPathsAreSound, ReadValuesAreSound, OpenValuesAreSound};
 ghost use Rattle.values_read.specs.Owners.{OwnersHavePaths};
 ghost use Rattle.values_read.specs.Proper.{SoundValuesAreProper};

@@ -1,4 +1,4 @@
-// One round of choices.
+//! One round of choices.
 ghost use Rattle.std.specs.Prelude.{◌≡◌, ◌||◌, ℕ, List, ◌++◌, IfOk};
 ghost use Rattle.std.specs.Option.{option_or, option_map};
 ghost use Rattle.std.specs.Ordering.{nat_cmp};
@@ -13,7 +13,7 @@ use plain_data::{Text, copy};
 use std::alloc::{AllocError, Global};
 use std::collections::{BTreeMap, BTreeSet};
 
-// Notes what a site selects, where no site before it selected a variant of that set.
+/// Notes what a site selects, where no site before it selected a variant of that set.
 fn note_opinion(firsts: &mut BTreeMap<Text, Text>, met: &Met) -> Result<(), AllocError>
     ensures { IfOk result (λ _. (s : List ℕ) → get (slice_cmp nat_cmp) firsts.new s ≡ option_or (get (slice_cmp nat_cmp) firsts.old s) (opinion_on s met.now)) }
 {
@@ -25,7 +25,7 @@ fn note_opinion(firsts: &mut BTreeMap<Text, Text>, met: &Met) -> Result<(), Allo
     Ok(())
 }
 
-// The first opinion on each set.
+/// The first opinion on each set.
 fn first_opinions(alloc: Global, found: &[Met]) -> Result<BTreeMap<Text, Text>, AllocError>
     ensures { IfOk result (λ firsts. (s : List ℕ) → get (slice_cmp nat_cmp) firsts s ≡ first_opinion found.now s) }
 {
@@ -36,7 +36,7 @@ fn first_opinions(alloc: Global, found: &[Met]) -> Result<BTreeMap<Text, Text>, 
     Ok(firsts)
 }
 
-// The sets that have a choice.
+/// The sets that have a choice.
 fn decided_sets(alloc: Global, chosen: &[(Text, Text)]) -> Result<BTreeSet<Text>, AllocError>
     ensures { IfOk result (λ sets. (s : List ℕ) → contains (slice_cmp nat_cmp) sets s ≡ is_decided chosen.now s) }
 {
@@ -47,7 +47,7 @@ fn decided_sets(alloc: Global, chosen: &[(Text, Text)]) -> Result<BTreeSet<Text>
     Ok(sets)
 }
 
-// Chooses for one set, where it is not known, and knows it from then on.
+/// Chooses for one set, where it is not known, and knows it from then on.
 fn choose(
     chosen: &mut Choices,
     known: &mut BTreeSet<Text>,

@@ -6,7 +6,7 @@ use crate::opinions::Opinions;
 use crate::round::choose_all;
 use std::alloc::{AllocError, Global};
 
-/// How many rounds are made.
+/// How many rounds are made at most.
 pub const MAX_ROUNDS: usize = 16;
 
 /// The variants that are chosen by sixteen rounds from no choice.
