@@ -1,5 +1,5 @@
 -- What is authored, from opinions on.
-use Rattle.std.proofs.Common.{◌≡◌, ◌∙◌, sym, ap, refl, subst, Bool, true, false, not, IsTrue, ◌↔◌, List, [], ◌∷◌, map, reverse, Option}
+use Rattle.std.proofs.Common.{◌≡◌, ◌∙◌, sym, ap, refl, Bool, true, false, not, IsTrue, ◌↔◌, List, [], ◌∷◌, map, reverse, Option}
 use Rattle.std.specs.List.{filter_map, list_any, All}
 use Rattle.std.specs.Option.{is_some, unwrap_or}
 use Rattle.std.proofs.lemmas.List.Elements.{All-weaker}

@@ -1,5 +1,5 @@
 -- What a layer's default prim names is read as it is defined.
-use Rattle.std.proofs.Common.{◌≡◌, refl}
+use Rattle.std.proofs.Common.{refl}
 use Rattle.composition.specs.Texts.{Text}
 use Rattle.composition.specs.World.{World, Heading, headed, no_layer, refused}
 use Rattle.arc_expand.specs.Outcomes.{path_of, target_of, IsDefaultPrim, HasTarget, HasTargets}

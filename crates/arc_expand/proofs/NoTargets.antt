@@ -1,8 +1,6 @@
 -- Paths to which no arc leads.
-use Rattle.std.proofs.Common.{◌≡◌, ◌∙◌, sym, ap, refl, Bool, true, false, not, ◌&&◌, ◌||◌, IsTrue, ◌↔◌, List, [], ◌∷◌}
-use Rattle.std.specs.List.{list_any, list_all}
+use Rattle.std.proofs.Common.{◌≡◌, ◌∙◌, sym, ap, refl, Bool, true, false, not, ◌&&◌, ◌||◌, IsTrue, ◌↔◌, [], ◌∷◌}
 use Rattle.sdf_paths.specs.Paths.{is_selection, is_plain, is_property}
-use Rattle.sdf_paths.specs.declared.element.Element.{Element}
 use Rattle.composition.specs.Paths.{Path, has_selections}
 use Rattle.composition.specs.Arcs.{is_no_target}
 

@@ -1,7 +1,5 @@
 -- What a layer stack answers is the stack of its name.
-use Rattle.std.proofs.Common.{◌≡◌, ◌∙◌, sym, ap, List}
-use Rattle.sdf_values.specs.Scales.{Offset}
-use Rattle.composition.specs.Texts.{Text}
+use Rattle.std.proofs.Common.{◌≡◌, ◌∙◌, sym, ap}
 use Rattle.composition.specs.World.{World, StackName}
 use Rattle.composition.specs.Stacks as defined
 use Rattle.layer_stack.specs.Meant.{meant, defined_stack}

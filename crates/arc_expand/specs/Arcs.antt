@@ -1,6 +1,5 @@
 -- The arcs of a kind, the faults of items that are none, and the keys that were read.
 use Rattle.std.specs.Prelude.{List, [], ◌∷◌, ◌++◌, map, flat_map, Option, Some, None}
-use Rattle.std.specs.List.{filter_map}
 use Rattle.sdf_values.specs.Scales.{Offset}
 use Rattle.path_maps.specs.declared.kind.ArcKind.{ArcKind}
 use Rattle.path_maps.specs.declared.kind.ArcKind.TheVariants.{Inherits, Variant, Reference, Payload, Specializes}

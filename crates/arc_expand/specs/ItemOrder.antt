@@ -1,5 +1,5 @@
 -- An order of items: by their layer, their path and their offset.
-use Rattle.std.specs.Prelude.{◌≡◌, ℕ, List, [], Bool, false}
+use Rattle.std.specs.Prelude.{◌≡◌, ℕ, List, []}
 use Rattle.std.proofs.Common.{refl, sym, ap, ◌∙◌, subst, arith}
 use Rattle.std.specs.Cmp.{IsTotalOrder, IsEquivalence, then_total, on_total, nat_cmp_total, int_cmp_total, tied_itself, Equal-is}
 use Rattle.std.specs.Cmp.Lexicographic.{slice_cmp, nat_list_cmp_total, lists_total, options_total}
@@ -10,7 +10,7 @@ use Rattle.std.specs.declared.cmp.Ordering.TheVariants.{Less, Equal, Greater}
 use Rattle.std.proofs.lemmas.Map.Lookups.{exact_bytes, exact_unsigned, exact_signed}
 use Rattle.plain_data.specs.Exact.{then_both, option_tie}
 use Rattle.sdf_paths.specs.PathOrder.{path_tie, order_is}
-use Rattle.sdf_paths.specs.Order.{element_cmp, path_cmp}
+use Rattle.sdf_paths.specs.Order.{element_cmp}
 use Rattle.sdf_paths.specs.declared.element.Element.{Element}
 use Rattle.sdf_paths.specs.declared.element.Element.TheVariants.{Prim, Property, Selection}
 use Rattle.sdf_paths.specs.contracts.path.PathOrd.TheImpl.{ghosts as path_order}

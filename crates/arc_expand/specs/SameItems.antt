@@ -1,11 +1,11 @@
 -- The test of items tells every two apart.
-use Rattle.std.proofs.Common.{◌≡◌, ◌∙◌, sym, ap, refl, arith, ℕ, Bool, true, false, IsTrue, ◌↔◌, List, [], ◌∷◌, Option, Some, None, ◌≤◌}
-use Rattle.std.specs.Prelude.{ℤ, pos, negsuc, nat_le, int_le}
+use Rattle.std.proofs.Common.{◌≡◌, ◌∙◌, sym, ap, refl, arith, ℕ, Bool, true, false, IsTrue, ◌↔◌, List, [], ◌∷◌, Option, Some, None}
+use Rattle.std.specs.Prelude.{ℤ, pos, negsuc, nat_le}
 use Rattle.std.proofs.lemmas.Bool.Decides.{nat_tests}
 use Rattle.sdf_paths.specs.Paths.{same_element}
 use Rattle.sdf_values.specs.Scales.{Offset}
 use Rattle.composition.specs.Texts.{same_list, same_option, both}
-use Rattle.composition.specs.Paths.{same_path, Path}
+use Rattle.composition.specs.Paths.{same_path}
 use Rattle.composition.specs.World.{same_number, same_offset}
 use Rattle.composition.specs.Arcs.{Source, Item, own, named, unanchored, same_source, same_item}
 use Rattle.composition.proofs.Same.{same_text_same, same_itself, element_same, element_itself}

@@ -1,5 +1,5 @@
 //! The strongest layer that gives each item.
-ghost use Rattle.std.specs.Prelude.{◌≡◌, Option, Some, None, IfOk, OnOk, cond};
+ghost use Rattle.std.specs.Prelude.{◌≡◌, Some, None, IfOk, OnOk, cond};
 ghost use Rattle.std.specs.Option.{is_some};
 ghost use Rattle.std.specs.BTreeMap.{get};
 ghost use Rattle.list_ops.specs.ListEdits.{contains};

@@ -1,7 +1,7 @@
 -- A walk along the segments of a text, one byte at a time.
-use Rattle.std.proofs.Common.{ℕ, zero, suc, add-one, ◌≡◌, ◌∙◌, ◌+◌, ◌-◌, ◌<◌, ◌≤◌, sym, ap, refl, arith, Bool, true, false, List, [], ◌∷◌, ◌++◌, length, take, drop, drop-cons, get_or, ◌||◌}
+use Rattle.std.proofs.Common.{ℕ, ◌≡◌, ◌∙◌, ◌+◌, ◌-◌, ◌<◌, ◌≤◌, sym, ap, refl, arith, Bool, true, false, List, [], ◌∷◌, ◌++◌, length, take, drop, get_or, ◌||◌}
 use Rattle.std.specs.Prelude.{◌==◌}
-use Rattle.std.proofs.lemmas.List.{take_more, length-drop, get_or-drop, take_all, drop_all}
+use Rattle.std.proofs.lemmas.List.{length-drop, take_all, drop_all}
 use Rattle.std.proofs.lemmas.Bool.Decides.{nat_tests}
 use Rattle.plain_data.proofs.Pieces.{rest_of, no_bytes, one_more}
 use Rattle.asset_names.specs.Anchoring.{segments_from, walk, step, has_inside, begins_with, IsBad, IsClean, control, empty, long}

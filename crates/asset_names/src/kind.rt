@@ -1,5 +1,5 @@
 //! The kind of a layer by its name.
-ghost use Rattle.std.specs.Prelude.{◌≡◌, ◌≤◌, length, drop, take};
+ghost use Rattle.std.specs.Prelude.{◌≡◌};
 ghost use Rattle.asset_names.specs.Anchoring.{kind_of, ends_with, begins_with, has_inside};
 
 use crate::name::NameKind;

@@ -1,4 +1,4 @@
-ghost use Rattle.std.specs.Prelude.{List, ℕ, length, slice_get, unwrap_or, []};
+ghost use Rattle.std.specs.Prelude.{length, slice_get, unwrap_or, []};
 
 use plain_data::{Items, Text};
 use std::alloc::{AllocError, Global};

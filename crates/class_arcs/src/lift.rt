@@ -1,5 +1,5 @@
 //! Classes taken through an arc, from the node that it leads to up to the one that has it.
-ghost use Rattle.std.specs.Prelude.{◌≡◌, ◌-◌, ◌++◌, IfOk, OnOk, length, take, filter_map};
+ghost use Rattle.std.specs.Prelude.{◌≡◌, ◌-◌, ◌++◌, IfOk, OnOk, filter_map};
 ghost use Rattle.composition.specs.Paths.{limits, up};
 ghost use Rattle.composition.specs.Nodes.{author};
 ghost use Rattle.composition.specs.Trees.{lifted_class, lifted_through, lifted_target};

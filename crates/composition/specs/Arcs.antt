@@ -20,7 +20,6 @@ use Rattle.path_maps.specs.declared.kind.ArcKind.{ArcKind}
 use Rattle.path_maps.specs.declared.kind.ArcKind.TheVariants.{Inherits, Variant, Reference, Payload, Specializes}
 use Rattle.sdf_paths.specs.Paths.{is_property}
 use Rattle.spec_parts.specs.declared.items.RefItem.{RefItem}
-use Rattle.spec_parts.specs.declared.items.Refusal.{Refusal}
 use Rattle.spec_parts.specs.declared.spec.Spec.{Spec}
 use Rattle.sdf_values.specs.Scales.{Offset, composed}
 use Rattle.composition.specs.World.{World, Heading, headed, no_layer, refused, LayerHead, identity, in_range, same_offset, StackName, first_layer, stack_of, default_target}

@@ -4,11 +4,11 @@ pub use Rattle.prim_view.specs.declared.fault.ArcFault.{ArcFault}
 pub use Rattle.prim_view.specs.declared.fault.PrimFault.{PrimFault as Fault}
 pub use Rattle.prim_view.specs.declared.fault.PrimFault.TheVariants.{Sublayer as sublayer, Arc as arc, TimeOutside as time_outside, TargetOutside as target_outside, ChildTooLong as child_too_long, Overgrown as overgrown}
 use Rattle.prim_view.specs.Printing.{fault_text}
-use Rattle.std.specs.Prelude.{ℕ, ◌==◌, Bool, true, false, not, ◌||◌, List, [], ◌∷◌, ◌++◌, map, flat_map, filter, zip, codes, Option, Some, None}
+use Rattle.std.specs.Prelude.{◌==◌, Bool, true, false, not, ◌||◌, List, [], ◌∷◌, ◌++◌, map, flat_map, filter, zip, Option, Some, None}
 use Rattle.list_ops.specs.ListEdits.{firsts}
 use Rattle.path_maps.specs.declared.kind.ArcKind.{ArcKind}
 use Rattle.path_maps.specs.declared.kind.ArcKind.TheVariants.{Inherits, Reference, Payload, Specializes}
-use Rattle.composition.specs.Texts.{Text, same_text, both}
+use Rattle.composition.specs.Texts.{same_text, both}
 use Rattle.composition.specs.Paths.{Path, Limits}
 use Rattle.composition.specs.World.{World, is_loaded}
 use Rattle.composition.specs.Arcs.{same_kind, Outcome, leads, gives_no_arc, is_empty, Reason, path_too_long, unresolved_prim}

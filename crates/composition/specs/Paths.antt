@@ -1,6 +1,6 @@
 -- Paths, their levels and their limits.
 -- docs/COMPOSITION.md, 'Nodes, and which arcs are followed'.
-use Rattle.std.specs.Prelude.{ℕ, zero, suc, ◌-◌, nat_le, Bool, true, false, List, [], ◌∷◌, ◌++◌, length, take, drop, Option, Some, None}
+use Rattle.std.specs.Prelude.{ℕ, zero, suc, ◌-◌, nat_le, Bool, true, false, List, [], ◌∷◌, ◌++◌, length, take, drop, Option}
 use Rattle.std.specs.List.{list_any}
 use Rattle.std.specs.Str.{chars}
 use Rattle.sdf_paths.specs.Paths.{same_element, is_selection, depth, printed}

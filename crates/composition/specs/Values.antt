@@ -1,7 +1,7 @@
 -- The values of an attribute: the opinions that count, their times on the stage, and the first that decides.
 -- docs/COMPOSITION.md, 'Values'.
 pub use Rattle.prim_view.specs.declared.fault.TimeFault.{TimeFault}
-use Rattle.std.specs.Prelude.{◌^◌, nat_le, Bool, true, false, cond, ℤ, int_le, unsigned_abs, List, [], ◌∷◌, ◌++◌, flat_map, filter, filter_map, slice_get, Option, Some, None}
+use Rattle.std.specs.Prelude.{◌^◌, nat_le, Bool, true, false, cond, ℤ, int_le, unsigned_abs, List, [], ◌∷◌, flat_map, filter, filter_map, slice_get, Option, Some, None}
 use Rattle.std.specs.List.{list_any}
 use Rattle.std.specs.Option.{option_map}
 use Rattle.plain_data.specs.Ends.{last}
@@ -18,7 +18,6 @@ use Rattle.sdf_values.specs.declared.value.Value.{Value, fold-Value}
 use Rattle.sdf_values.specs.declared.value.Value.TheVariants as value
 use Rattle.sdf_values.specs.declared.value.Value.TheOpen.{Value-F, DictItem-F}
 use Rattle.composition.specs.Texts.{Text, same_text, first_of}
-use Rattle.composition.specs.Paths.{Path}
 use Rattle.composition.specs.Arcs.{is_empty}
 use Rattle.composition.specs.Opinions.{Said}
 

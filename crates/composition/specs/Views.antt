@@ -3,29 +3,22 @@
 pub use Rattle.prim_view.specs.declared.view.PropertyView.{PropertyView}
 pub use Rattle.prim_view.specs.declared.view.PropertyView.TheVariants.{Attr as attribute, Rel as relationship}
 pub use Rattle.prim_view.specs.declared.view.PrimView.{PrimView}
-use Rattle.std.specs.Prelude.{ℕ, zero, suc, Bool, true, false, not, ◌||◌, List, [], ◌∷◌, ◌++◌, map, flat_map, filter_map, Option, Some, None}
+use Rattle.std.specs.Prelude.{ℕ, zero, suc, Bool, true, false, List, [], ◌∷◌, ◌++◌, map, flat_map, filter_map, Option, Some, None}
 use Rattle.std.specs.Prelude.{codes}
 use Rattle.std.specs.List.{list_any, list_all}
 use Rattle.list_ops.specs.ListEdits.{firsts}
 use Rattle.sdf_paths.specs.Order.{text_cmp}
 use Rattle.sdf_paths.specs.Paths.{is_prim_name}
-use Rattle.sdf_paths.specs.declared.element.Element.TheVariants.{Prim}
-use Rattle.spec_properties.specs.Entries.{MetaEntries, SampleEntries}
+use Rattle.spec_properties.specs.Entries.{MetaEntries}
 use Rattle.spec_tables.specs.Tables.{with_key}
-use Rattle.spec_parts.specs.declared.items.Specifier.{Specifier}
 use Rattle.spec_parts.specs.declared.items.Specifier.TheVariants.{Over}
 use Rattle.spec_properties.specs.declared.property.Property.{Property}
 use Rattle.spec_properties.specs.declared.property.Property.TheVariants.{Attr, Rel}
-use Rattle.sdf_values.specs.Scales.{Offset}
-use Rattle.sdf_values.specs.declared.type_name.TypeName.{TypeName}
-use Rattle.sdf_values.specs.declared.value.Value.{Value}
 use Rattle.sdf_values.specs.declared.value.Value.TheVariants as value
 use Rattle.composition.specs.Texts.{Text}
 use Rattle.composition.specs.Paths.{Path, Limits}
-use Rattle.composition.specs.World.{World, Heading, headed, no_layer, refused, LayerHead, StackName, Root, identity}
+use Rattle.composition.specs.World.{World, Heading, headed, no_layer, refused, LayerHead, Root, identity}
 use Rattle.composition.specs.Stacks.{stack}
-use Rattle.composition.specs.Arcs.{opinions_at, is_empty}
-use Rattle.composition.specs.Nodes.{Node, ArcMap, Choices}
 use Rattle.composition.specs.Opinions.{Site, Said, said_at_all}
 use Rattle.composition.specs.Merging.{merged_all}
 use Rattle.composition.specs.Fields.{Naming, names_of, children_naming, all_children, all_properties, listed_children, unlisted_children, child_path, specifier_of, type_of, strings_of, meta_of, is_inactive}

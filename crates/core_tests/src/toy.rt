@@ -1,6 +1,5 @@
 //! A world is a number: the root's entry is that number, and where it is not 0 the root has one child, whose entry is 0.
 
-ghost use Rattle.std.specs.Prelude.{◌≡◌, IfOk, IfErr};
 ghost use Rattle.core_tests.specs.Toys.{entry, children, after, parent, depth};
 
 use compose_api::{ApplyRefused, Composer};

@@ -1,5 +1,5 @@
 -- Some list of edits has an item exactly where their lists together have one.
-use Rattle.std.proofs.Common.{◌≡◌, ◌∙◌, ap, refl, Bool, true, false, ◌||◌, List, [], ◌∷◌, ◌++◌}
+use Rattle.std.proofs.Common.{◌≡◌, ◌∙◌, ap, refl, Bool, ◌||◌, List, [], ◌∷◌, ◌++◌}
 use Rattle.std.specs.Prelude.{not}
 use Rattle.list_ops.specs.declared.op.ListOp.{ListOp}
 use Rattle.composition.specs.Arcs.{is_empty}

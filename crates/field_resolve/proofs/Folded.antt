@@ -1,9 +1,9 @@
 -- Lists as they are folded are those of the definitions.
-use Rattle.std.proofs.Common.{◌≡◌, ◌∙◌, ap, sym, refl, List, [], ◌∷◌, map, filter, Option, Some, None}
+use Rattle.std.proofs.Common.{◌≡◌, ap, sym, refl, List, [], ◌∷◌, map, filter, Some, None}
 use Rattle.list_ops.specs.ListEdits.{firsts}
 use Rattle.list_ops.specs.declared.op.ListOp.{ListOp}
 use Rattle.composition.specs.Arcs.{strongest_folded}
-use Rattle.composition.specs.Fields.{Naming, naming_edit, children_naming, strings_of}
+use Rattle.composition.specs.Fields.{Naming, naming_edit, children_naming}
 use Rattle.composition.specs.Opinions.{Said, is_opinion}
 use Rattle.composition.specs.Texts.{Text, same_text}
 use Rattle.spec_properties.specs.Properties.{property_names}

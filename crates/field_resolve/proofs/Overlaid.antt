@@ -1,5 +1,5 @@
 -- What a value makes of a weaker one, by whether the two are dictionaries.
-use Rattle.std.proofs.Common.{◌≡◌, ap, sym, refl, ◌∙◌, ℕ, zero, suc, ◌-◌, List, Option, Some, None, arith}
+use Rattle.std.proofs.Common.{◌≡◌, ap, refl, ◌∙◌, ℕ, zero, suc, ◌-◌, List, Option, Some, None, arith}
 use Rattle.sdf_values.specs.declared.value.DictItem.{DictItem}
 use Rattle.sdf_values.specs.declared.value.Value.{Value}
 use Rattle.sdf_values.specs.declared.value.Value.TheVariants as value

@@ -1,7 +1,7 @@
 //! Specifier, type and metadata of a prim.
-ghost use Rattle.std.specs.Prelude.{◌≡◌, [], not, map, filter, fold, IfOk, OnOk};
+ghost use Rattle.std.specs.Prelude.{◌≡◌, not, filter, IfOk};
 ghost use Rattle.std.specs.Option.{option_copied};
-ghost use Rattle.composition.specs.Fields.{if_defining, defining, or_else, or_over};
+ghost use Rattle.composition.specs.Fields.{if_defining, defining};
 ghost use Rattle.layer_set.specs.LookUps.{look_ups};
 ghost use Rattle.prim_opinions.specs.Gathering.{said_on};
 ghost use Rattle.field_resolve.specs.Folding.{specifier_on, type_on, schemas_on, clips_on, meta_on};

@@ -1,5 +1,5 @@
 //! The names of children and properties, from the weakest to the strongest opinion.
-ghost use Rattle.std.specs.Prelude.{◌≡◌, ◌++◌, [], ◌∷◌, map, filter, IfOk, OnOk};
+ghost use Rattle.std.specs.Prelude.{◌≡◌, map, filter, IfOk};
 ghost use Rattle.std.specs.List.{list_all};
 ghost use Rattle.composition.specs.Fields.{naming_edit, children_naming};
 ghost use Rattle.composition.specs.Names.{is_letter, is_letter_or_digit, is_ascii_identifier, is_name};

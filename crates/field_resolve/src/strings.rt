@@ -1,5 +1,5 @@
 //! Lists of strings as their opinions make them.
-ghost use Rattle.std.specs.Prelude.{◌≡◌, ◌++◌, [], ◌∷◌, map, filter, reverse, IfOk, OnOk};
+ghost use Rattle.std.specs.Prelude.{◌≡◌, map, filter, reverse, IfOk};
 ghost use Rattle.std.specs.Str.{bytes_eq};
 ghost use Rattle.list_ops.specs.ListEdits.{folded, firsts};
 ghost use Rattle.composition.specs.Opinions.{has_edits, is_opinion};

@@ -11,7 +11,7 @@ use Rattle.sdf_values.specs.declared.value.Value.TheVariants as value
 use Rattle.spec_properties.specs.Entries.{MetaEntries}
 use Rattle.spec_tables.specs.Tables.{with_key}
 use Rattle.usda_fields.specs.Keys as keys
-use Rattle.usda_fields.specs.Keys.{comment_key, key_rule, judged, judged_prim, has_key, unless_taken}
+use Rattle.usda_fields.specs.Keys.{comment_key, key_rule, judged, has_key, unless_taken}
 use Rattle.usda_fields.specs.Names.{text_of}
 use Rattle.usda_fields.specs.Owners.{with_meta}
 use Rattle.usda_fields.specs.declared.keys.KeyRule.{KeyRule}

@@ -1,5 +1,5 @@
 //! A composed prim as a spec.
-ghost use Rattle.std.specs.Prelude.{◌≡◌, IfOk, OnOk, []};
+ghost use Rattle.std.specs.Prelude.{◌≡◌, IfOk, []};
 ghost use Rattle.flatten.specs.Flattened.{explicit_list, flat_property, with_properties, flat_body, flat_spec};
 
 use list_ops::ListOp;

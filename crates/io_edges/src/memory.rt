@@ -1,8 +1,8 @@
 //! Files, sources and sinks in memory: the ones that never fail, and the same with faults at calls of given numbers.
 
-ghost use Rattle.std.specs.Prelude.{◌≡◌, ◌+◌, ◌++◌, ◌∷◌, ◌<◌, ◌≤◌, ◌↔◌, [], None, Some, length, take, drop, min, map, OnOk, OnErr, IfSome, Contains, string_bytes};
+ghost use Rattle.std.specs.Prelude.{◌≡◌, ◌+◌, ◌++◌, ◌∷◌, ◌<◌, ◌≤◌, [], None, Some, length, take, drop, min, map, OnOk, OnErr, IfSome, string_bytes};
 ghost use Rattle.std.specs.Option.{option_copied};
-ghost use Rattle.io_edges.specs.Causes.{one_more, IsCounted};
+ghost use Rattle.io_edges.specs.Causes.{IsCounted};
 ghost use Rattle.io_edges.specs.Edges.{most, FetchAsks, FetchTells, FetchLeaves, ReadTakes, ReadsStep, WriteTakes, WritesStep};
 ghost use Rattle.io_edges.specs.Plans.{IsCalled};
 ghost use Rattle.io_edges.specs.Stores.{entry_of, file_named};

@@ -1,6 +1,5 @@
 //! Operations on whole layers and on load rules.
 ghost use Rattle.std.specs.Prelude.{◌≡◌, Some, true, OnOk};
-ghost use Rattle.std.specs.Option.{option_copied};
 ghost use Rattle.layer_set.specs.Worlds.{with_held};
 ghost use Rattle.layer_set.specs.declared.held.Held.TheVariants.{Present};
 ghost use Rattle.layer_edit.specs.Outcomes.{Gives};

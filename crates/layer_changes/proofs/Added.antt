@@ -1,5 +1,5 @@
 -- Items of a set to which another is added.
-use Rattle.std.proofs.Common.{◌≡◌, inl, inr, sym, refl, subst, ℕ, List, [], ◌∷◌}
+use Rattle.std.proofs.Common.{◌≡◌, inl, inr, sym, refl, subst, List, [], ◌∷◌}
 use Rattle.std.specs.BTreeSet.{insert_key}
 use Rattle.std.specs.List.{Contains}
 use Rattle.std.specs.Ordering.{match_ordering}

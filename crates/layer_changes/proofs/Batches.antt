@@ -1,14 +1,13 @@
 -- Every key that a batch changes is of a part of one of its operations.
-use Rattle.std.proofs.Common.{◌≡◌, ◌≢◌, ◌∙◌, sym, ap, refl, ℕ, suc, Bool, true, false, ◌||◌, List, [], ◌∷◌, Result, Ok, Err}
+use Rattle.std.proofs.Common.{◌≡◌, ◌∙◌, sym, ap, refl, ℕ, suc, Bool, true, false, ◌||◌, List, [], ◌∷◌, Ok, Err}
 use Rattle.std.specs.List.{list_any, All, Contains}
-use Rattle.std.specs.List.Sorted.{IsStrictlySortedBy}
 use Rattle.std.proofs.lemmas.List.Elements.{All-head, All-tail}
 use Rattle.layer_set.specs.LookUps.{stands_at}
 use Rattle.layer_set.specs.Worlds.{WorldData}
 use Rattle.layer_set.specs.declared.key.Key.{Key}
 use Rattle.layer_edit.specs.Outcomes.{Made}
 use Rattle.edit_batches.specs.declared.op.Op.{Op}
-use Rattle.layer_apply.specs.Edits.{edited, Edited, proceed, edit_from, edit}
+use Rattle.layer_apply.specs.Edits.{edited, proceed, edit_from, edit}
 use Rattle.layer_changes.specs.Changed.{IsChangedKey}
 use Rattle.layer_changes.specs.Covering.{Names, NamesBatch}
 use Rattle.layer_changes.specs.Parts.{is_in, is_among, parts_of}

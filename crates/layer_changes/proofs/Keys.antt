@@ -1,5 +1,5 @@
 -- Keys that are named, and those that are kept of them.
-use Rattle.std.proofs.Common.{◌≡◌, ◌∙◌, ◌⊎◌, inl, inr, sym, ap, refl, subst, ℕ, Bool, true, false, cond, ◌&&◌, List, [], ◌∷◌, ◌++◌, Option, Some, None}
+use Rattle.std.proofs.Common.{◌≡◌, ◌∙◌, inl, inr, sym, ap, refl, subst, ℕ, Bool, true, false, cond, List, [], ◌∷◌, ◌++◌, Option, Some, None}
 use Rattle.std.specs.BTreeMap.{is_at}
 use Rattle.std.specs.List.{All, AllByRecursion, Contains}
 use Rattle.std.specs.List.Sorted.{IsStrictlySortedBy}
@@ -7,7 +7,7 @@ use Rattle.std.specs.Map.{keys_of}
 use Rattle.std.specs.Option.{is_some, option_map}
 use Rattle.std.specs.Ordering.{ordering_then}
 use Rattle.std.specs.declared.cmp.Ordering.{Ordering}
-use Rattle.std.specs.declared.cmp.Ordering.TheVariants.{Less, Equal, Greater}
+use Rattle.std.specs.declared.cmp.Ordering.TheVariants.{Less, Equal}
 use Rattle.std.proofs.lemmas.List.Elements.{All-nil, All-cons}
 use Rattle.std.proofs.lemmas.Map.Lookups.{exact_bytes}
 use Rattle.plain_data.specs.Exact.{then_both, both_true}
@@ -19,7 +19,6 @@ use Rattle.sdf_paths.specs.declared.element.Element.{Element}
 use Rattle.sdf_specs.specs.Layers.{PathEntries, spec_at, tree}
 use Rattle.spec_parts.specs.declared.spec.Spec.{Spec}
 use Rattle.composition.specs.Keys.{arcs_value, body_value}
-use Rattle.layer_set.specs.LookUps.{stands_at}
 use Rattle.layer_set.specs.Worlds.{WorldData, held_at, spec_of}
 use Rattle.layer_set.specs.contracts.key.KeyOrd.TheImpl.{ghosts as key_order}
 use Rattle.layer_set.specs.declared.held.Held.{Held}
@@ -28,7 +27,6 @@ use Rattle.layer_set.specs.declared.key.Key.TheVariants.{Head, Arcs, Body, Load}
 use Rattle.layer_edit.proofs.Found.{is_key}
 use Rattle.layer_changes.specs.Changed.{key_cmp, IsChangedKey}
 use Rattle.layer_changes.specs.Covering.{HasSpec, HasTree, Names, Keeps}
-use Rattle.layer_changes.specs.Parts.{is_in}
 use Rattle.layer_changes.specs.declared.part.Part.{Part}
 use Rattle.layer_changes.specs.declared.part.Part.TheVariants.{At, Below}
 use Rattle.composition.proofs.Tests.{by_test}

@@ -1,8 +1,7 @@
 -- Each operation on a layer leaves what is not of its parts.
-use Rattle.std.proofs.Common.{◌≡◌, ◌∙◌, sym, ap, refl, subst, ℕ, ℤ, Bool, true, false, not, ◌||◌, ◌&&◌, List, [], ◌∷◌, Option, Some, None, Result, Ok, Err}
+use Rattle.std.proofs.Common.{◌≡◌, refl, subst, ℕ, Bool, true, false, ◌||◌, List, [], ◌∷◌, Option, Some, None, Ok}
 use Rattle.std.specs.Prelude.{codes, if◌then◌else◌}
 use Rattle.std.proofs.lemmas.Bool.{or_right}
-use Rattle.sdf_paths.specs.Paths.{has_prefix}
 use Rattle.sdf_paths.specs.declared.element.Element.{Element}
 use Rattle.sdf_paths.specs.declared.element.Element.TheVariants.{Prim, Property as Named, Selection}
 use Rattle.sdf_specs.specs.Layers.{LayerTable, with_spec, without_tree}
@@ -15,7 +14,6 @@ use Rattle.spec_parts.specs.declared.items.Specifier.{Specifier}
 use Rattle.spec_parts.specs.declared.items.Specifier.TheVariants.{Over}
 use Rattle.spec_parts.specs.declared.items.SubLayer.{SubLayer}
 use Rattle.spec_parts.specs.declared.items.RefItem.{RefItem}
-use Rattle.spec_parts.specs.declared.spec.Head.{Head as HeadData}
 use Rattle.spec_parts.specs.declared.spec.Spec.{Spec}
 use Rattle.spec_properties.specs.Properties.{same_name, with_property, without_property}
 use Rattle.spec_properties.specs.declared.property.Property.{Property}
@@ -28,19 +26,18 @@ use Rattle.usda_fields.specs.declared.field.TextField.TheVariants.{VariantSets, 
 use Rattle.usda_fields.specs.declared.owner.OrderWord.{OrderWord}
 use Rattle.usda_fields.specs.declared.owner.OrderWord.TheVariants.{NameChildren, PropertyNames}
 use Rattle.usda_lists.specs.declared.edit.ListEdit.{ListEdit}
-use Rattle.layer_set.specs.LookUps.{layer_head, root_names}
-use Rattle.layer_set.specs.declared.key.Key.{Key}
-use Rattle.layer_set.specs.declared.key.Key.TheVariants.{Head, Arcs, Body, Load}
+use Rattle.layer_set.specs.LookUps.{root_names}
+use Rattle.layer_set.specs.declared.key.Key.TheVariants.{Head, Arcs, Body}
 use Rattle.layer_edit.specs.Outcomes.{Made, Test, first_fault, unless, passing, given}
 use Rattle.layer_edit.specs.Places.{last_element, above, property_in, changed_spec, with_properties, with_changed_property, changed_property}
-use Rattle.layer_edit.specs.Prims.{with_name, without_name, with_variant, without_variant, with_children, with_sets, renamed, with_variants, listed, unlisted, with_new_spec, prim_spec, prim_added, variant_added, without_part, removed}
+use Rattle.layer_edit.specs.Prims.{with_name, without_name, with_variant, without_variant, with_children, with_sets, renamed, listed, unlisted, with_new_spec, prim_spec, prim_added, variant_added, without_part, removed}
 use Rattle.layer_edit.specs.Properties.{blank_attribute, blank_relationship, named_property, with_new_property, attribute_added, relationship_added, with_default, with_sample, without_sample, type_of, default_given, default_set, default_dropped, default_cleared, sample_given, sample_set, sample_dropped, sample_cleared}
 use Rattle.layer_edit.specs.Typing.{typed, time_at, meta_value}
 use Rattle.layer_edit.specs.Metadata.{with_entry, text_of, with_head_entry, with_spec_entry, with_property_entry, with_entry_by, with_meta, meta_set, meta_cleared}
 use Rattle.layer_edit.specs.Fields.{with_paths, with_references, with_texts, with_targets, paths_set, references_set, texts_set, targets_set, connections_set, list_set, with_selection, selection_set, with_order, reordered, order_set, sublayers_set}
 use Rattle.layer_edit.specs.Offsets.{items_of, sublayers_of}
 use Rattle.edit_batches.specs.declared.fault.EditFault.{EditFault}
-use Rattle.edit_batches.specs.declared.fault.EditFault.TheVariants.{WrongPath, NoParent, NoSpec, SpecThere, NoSuchType, ValueShape, TimeRange, OffsetRange, BadArc}
+use Rattle.edit_batches.specs.declared.fault.EditFault.TheVariants.{NoSpec, NoSuchType, ValueShape, TimeRange, OffsetRange}
 use Rattle.edit_batches.specs.declared.op.FieldList.{FieldList}
 use Rattle.edit_batches.specs.declared.op.FieldList.TheVariants as list
 use Rattle.edit_batches.specs.declared.written.WrittenReference.{WrittenReference}

@@ -1,5 +1,5 @@
 -- What a change of a layer leaves: every key of the layer that is of none of some parts.
-use Rattle.std.proofs.Common.{◌≡◌, ◌≢◌, ◌∙◌, sym, ap, refl, subst, ℕ, true, false, not, ◌||◌, ◌&&◌, List, [], ◌∷◌, Option, Some, None}
+use Rattle.std.proofs.Common.{◌≡◌, ◌∙◌, sym, ap, refl, subst, ℕ, true, false, not, ◌||◌, ◌&&◌, List, [], ◌∷◌, Option, Some, None}
 use Rattle.std.specs.BTreeMap.{is_at}
 use Rattle.std.specs.Cmp.Lexicographic.{nat_list_cmp_total}
 use Rattle.std.specs.Option.{option_map}
@@ -16,7 +16,6 @@ use Rattle.sdf_specs.specs.Layers.{LayerTable, spec_at, with_spec, with_spec_for
 use Rattle.sdf_specs.proofs.PathLemmas.{path_cmp_itself, not_both}
 use Rattle.spec_parts.specs.declared.spec.ArcPart.{ArcPart}
 use Rattle.spec_parts.specs.declared.spec.BodyPart.{BodyPart}
-use Rattle.spec_parts.specs.declared.spec.Head.{Head as HeadData}
 use Rattle.spec_parts.specs.declared.spec.Spec.{Spec}
 use Rattle.layer_set.specs.LookUps.{layer_head, root_names}
 use Rattle.layer_set.specs.declared.key.Key.{Key}
@@ -26,7 +25,7 @@ use Rattle.layer_edit.proofs.Found.{not_at, is_key, other_put, other_exchanged, 
 use Rattle.layer_changes.specs.Changed.{key_cmp}
 use Rattle.layer_changes.specs.Parts.{is_in, is_among, is_below}
 use Rattle.layer_changes.specs.declared.part.Part.{Part}
-use Rattle.layer_changes.specs.declared.part.Part.TheVariants.{At, Below}
+use Rattle.layer_changes.specs.declared.part.Part.TheVariants.{At}
 use Rattle.composition.proofs.Tests.{by_test}
 
 -- ---- keys of parts

@@ -7,7 +7,7 @@ use Rattle.std.proofs.lemmas.List.Elements.{All-more, All-weaker}
 use Rattle.layer_set.specs.Worlds.{WorldData}
 use Rattle.layer_set.specs.declared.key.Key.{Key}
 use Rattle.edit_batches.specs.declared.op.Op.{Op}
-use Rattle.layer_changes.specs.Covering.{HasSpec, Names, NamesBatch, Keeps}
+use Rattle.layer_changes.specs.Covering.{HasSpec, Names, Keeps}
 use Rattle.layer_changes.specs.Parts.{parts_of}
 use Rattle.layer_changes.specs.declared.part.Part.{Part}
 use Rattle.sdf_paths.specs.declared.element.Element.{Element}

@@ -1,20 +1,17 @@
 -- Each operation leaves the value of every key that is not of its parts.
-use Rattle.std.proofs.Common.{◌≡◌, ◌∙◌, sym, ap, refl, subst, ℕ, Bool, true, false, not, ◌||◌, ◌&&◌, List, [], ◌∷◌, Option, Some, None, Result, Ok, Err}
+use Rattle.std.proofs.Common.{◌≡◌, ◌∙◌, sym, ap, refl, subst, ℕ, Bool, true, false, ◌||◌, ◌&&◌, List, [], ◌∷◌, Option, Some, None, Ok, Err}
 use Rattle.std.specs.BTreeMap.{is_at}
-use Rattle.std.specs.Cmp.Lexicographic.{nat_list_cmp_total}
 use Rattle.std.specs.Option.{option_map}
-use Rattle.std.specs.Ordering.{is_eq}
 use Rattle.std.proofs.lemmas.Map.Lookups.{exact_bytes}
 use Rattle.sdf_paths.specs.Order.{text_cmp, path_cmp}
 use Rattle.sdf_paths.specs.DerivedOrder.{path_cmp_same}
 use Rattle.sdf_paths.specs.declared.element.Element.{Element}
 use Rattle.sdf_specs.specs.Layers.{LayerTable}
-use Rattle.sdf_specs.proofs.PathLemmas.{not_both}
 use Rattle.spec_parts.specs.declared.spec.Spec.{Spec}
 use Rattle.composition.specs.World.{Heading, headed}
-use Rattle.composition.specs.Keys.{KeyValue, head_value, arcs_value, body_value, roots_value, load_value}
+use Rattle.composition.specs.Keys.{head_value, arcs_value, body_value, roots_value, load_value}
 use Rattle.layer_set.specs.LookUps.{heading_of, roots_of, stands_at}
-use Rattle.layer_set.specs.Named.{at_name, name_cmp}
+use Rattle.layer_set.specs.Named.{name_cmp}
 use Rattle.layer_set.specs.Rules.{RuleEntries, rule_at, with_rule}
 use Rattle.layer_set.specs.Worlds.{WorldData, held_or_absent, held_at, spec_of, present_layer, with_held}
 use Rattle.layer_set.specs.declared.held.Held.{Held}
@@ -27,9 +24,8 @@ use Rattle.edit_batches.specs.declared.op.Op.{Op}
 use Rattle.edit_batches.specs.declared.op.Op.TheVariants as op
 use Rattle.layer_edit.proofs.Found.{is_key, other_put, same_put, other_removed}
 use Rattle.layer_apply.specs.Edits.{put_back, in_layer, new_layer, layer_added, layer_put, rule_set, edited}
-use Rattle.layer_changes.specs.Parts.{is_in, is_among, is_below, of_layer, of_rule, parts_of}
+use Rattle.layer_changes.specs.Parts.{is_among, of_layer, of_rule, parts_of}
 use Rattle.layer_changes.specs.declared.part.Part.{Part}
-use Rattle.layer_changes.specs.declared.part.Part.TheVariants.{At, Below}
 use Rattle.layer_changes.proofs.Left.{Leaves, text_itself}
 use Rattle.layer_changes.proofs.Layers as layers
 use Rattle.composition.proofs.Tests.{by_test}

@@ -1,9 +1,9 @@
 -- Edits of an attribute, by whether one is there.
-use Rattle.std.proofs.Common.{◌≡◌, ◌∙◌, sym, ap, refl, subst, Bool, true, false, not, List, [], ◌∷◌, Option, Some, None, Result, Ok, Err}
+use Rattle.std.proofs.Common.{◌≡◌, sym, ap, refl, subst, not, List, [], ◌∷◌, Option, Some, None, Result, Ok, Err}
 use Rattle.sdf_paths.specs.declared.element.Element.{Element}
 use Rattle.sdf_specs.specs.Layers.{LayerTable}
 use Rattle.sdf_values.specs.declared.type_name.TypeName.{TypeName}
-use Rattle.layer_edit.specs.Outcomes.{Made, Test, first_fault, unless, passing, given, Gives, Does}
+use Rattle.layer_edit.specs.Outcomes.{Made, first_fault, unless, passing, given, Gives, Does}
 use Rattle.layer_edit.specs.Places.{is_property_path, property_in}
 use Rattle.layer_edit.specs.Properties.{type_of, at_attribute}
 use Rattle.edit_batches.specs.declared.fault.EditFault.{EditFault}

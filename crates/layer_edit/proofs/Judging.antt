@@ -1,5 +1,5 @@
 -- Values of metadata, by what putting them into an empty table does.
-use Rattle.std.proofs.Common.{◌≡◌, ◌∙◌, sym, ap, refl, ℕ, List, [], ◌∷◌, Option, Some, None, Result, Ok, Err}
+use Rattle.std.proofs.Common.{◌≡◌, ◌∙◌, sym, ap, refl, ℕ, List, [], None, Result, Ok, Err}
 use Rattle.std.specs.Cmp.Lexicographic.{nat_list_cmp_total}
 use Rattle.std.specs.Result.{result_ok}
 use Rattle.std.proofs.lemmas.Map.Lookups.{exact_bytes}

@@ -1,5 +1,5 @@
 -- Names and sets of variants, as far as a walk has come.
-use Rattle.std.proofs.Common.{◌≡◌, ◌∙◌, sym, ap, refl, ℕ, Bool, cond, true, false, not, List, [], ◌∷◌, ◌++◌, map, filter, append-nil}
+use Rattle.std.proofs.Common.{◌≡◌, ◌∙◌, sym, ap, ℕ, Bool, cond, true, false, not, List, [], ◌∷◌, ◌++◌, map, filter, append-nil}
 use Rattle.std.specs.List.{flat_map}
 use Rattle.std.proofs.lemmas.Grind.{flat_map-append}
 use Rattle.std.proofs.lemmas.List.{map-append}

@@ -1,5 +1,5 @@
 -- Paths without their last element, and what the last element tells of a path.
-use Rattle.std.proofs.Common.{◌≡◌, ◌∙◌, sym, ap, refl, arith, ℕ, ◌-◌, ◌+◌, suc, Bool, true, false, ◌&&◌, List, [], ◌∷◌, length, Option, Some, None}
+use Rattle.std.proofs.Common.{◌≡◌, ◌∙◌, sym, ap, refl, arith, ◌-◌, suc, Bool, true, false, ◌&&◌, List, [], ◌∷◌, length, Option, Some, None}
 use Rattle.std.specs.Prelude.{slice_get}
 use Rattle.sdf_paths.specs.Paths.{parent, is_ordered, is_property, IsPath}
 use Rattle.sdf_paths.specs.declared.element.Element.{Element}

@@ -1,5 +1,5 @@
 -- Changes of specs and properties as data, and what they make: what the edits say, one after the other.
-use Rattle.std.specs.Prelude.{ℕ, ℤ, List, Option, Some, None}
+use Rattle.std.specs.Prelude.{ℕ, List, Option, Some, None}
 use Rattle.spec_parts.specs.declared.items.VariantSet.{VariantSet}
 use Rattle.spec_parts.specs.declared.spec.Spec.{Spec}
 use Rattle.spec_properties.specs.Properties.{property_at, with_property, without_property}

@@ -1,5 +1,5 @@
 -- Lists of fields, selections, orders and sublayers.
-use Rattle.std.specs.Prelude.{ℕ, Bool, true, false, not, ◌&&◌, ◌||◌, List, [], ◌∷◌, Option, Some, None, Ok}
+use Rattle.std.specs.Prelude.{ℕ, Bool, true, false, not, ◌||◌, List, [], ◌∷◌, Option, Some, None, Ok}
 use Rattle.std.specs.List.{list_any}
 use Rattle.list_ops.specs.Blank.{no_edits}
 use Rattle.list_ops.specs.declared.op.ListOp.{ListOp}

@@ -1,5 +1,5 @@
 -- Offsets, references and sublayers as they are written.
-use Rattle.std.specs.Prelude.{ℕ, ℤ, pos, Bool, true, false, not, ◌&&◌, ◌||◌, nat_le, int_le, unsigned_abs, if◌then◌else◌, List, [], ◌∷◌, Option, Some, None, is_some}
+use Rattle.std.specs.Prelude.{ℕ, ℤ, pos, Bool, false, not, ◌&&◌, ◌||◌, nat_le, int_le, unsigned_abs, if◌then◌else◌, List, [], ◌∷◌, Option, Some, None, is_some}
 use Rattle.sdf_paths.specs.declared.element.Element.{Element}
 use Rattle.sdf_values.specs.Scales.{Offset}
 use Rattle.spec_parts.specs.declared.items.RefItem.{RefItem}

@@ -1,5 +1,5 @@
 -- What stands at paths of a layer, and layers with something else there.
-use Rattle.std.specs.Prelude.{ℕ, ◌-◌, Bool, true, false, not, ◌&&◌, List, [], ◌∷◌, length, take, slice_get, Option, Some, None, is_some}
+use Rattle.std.specs.Prelude.{◌-◌, Bool, true, false, not, ◌&&◌, List, [], ◌∷◌, length, take, slice_get, Option, Some, None, is_some}
 use Rattle.sdf_paths.specs.Paths.{is_empty, is_plain, is_property}
 use Rattle.sdf_paths.specs.declared.element.Element.{Element}
 use Rattle.sdf_paths.specs.declared.element.Element.TheVariants.{Prim, Property as Named, Selection}

@@ -1,5 +1,5 @@
 -- Adding and removing prims, variants and properties.
-use Rattle.std.specs.Prelude.{ℕ, Bool, true, false, not, if◌then◌else◌, List, [], ◌∷◌, ◌++◌, map, filter, Option, Some, None, Ok}
+use Rattle.std.specs.Prelude.{ℕ, Bool, not, if◌then◌else◌, List, [], ◌∷◌, ◌++◌, map, filter, Option, Some, Ok}
 use Rattle.std.specs.List.{list_any, flat_map}
 use Rattle.sdf_paths.specs.Paths.{is_empty}
 use Rattle.sdf_paths.specs.declared.element.Element.{Element}

@@ -1,5 +1,5 @@
 -- Adding properties, and their defaults and samples.
-use Rattle.std.specs.Prelude.{ℕ, ℤ, Bool, true, false, not, List, [], ◌∷◌, Option, Some, None, is_some, Ok}
+use Rattle.std.specs.Prelude.{ℕ, ℤ, Bool, not, List, [], ◌∷◌, Option, Some, None, Ok}
 use Rattle.std.specs.Ordering.{int_cmp}
 use Rattle.list_ops.specs.Blank.{no_edits}
 use Rattle.sdf_paths.specs.declared.element.Element.{Element}

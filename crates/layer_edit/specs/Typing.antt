@@ -1,10 +1,9 @@
 -- Values as an attribute or a key of metadata takes them.
-use Rattle.std.specs.Prelude.{ℕ, Bool, true, false, not, ◌&&◌, ◌||◌, if◌then◌else◌, List, [], ◌∷◌, map, Option, Some, None, Result, Ok, Err}
+use Rattle.std.specs.Prelude.{ℕ, Bool, true, false, not, ◌&&◌, if◌then◌else◌, List, map, Option, Some, None, Ok, Err}
 use Rattle.std.specs.List.{list_all}
 use Rattle.std.specs.Result.{result_ok}
 use Rattle.sdf_values.specs.Conforms.{one, is_block}
 use Rattle.sdf_values.specs.declared.decimal.Num.{Num}
-use Rattle.sdf_values.specs.declared.refusal.RefusalKind.{RefusalKind}
 use Rattle.sdf_values.specs.declared.refusal.RefusalKind.TheVariants.{TimeRange}
 use Rattle.sdf_values.specs.declared.type_name.ElementType.{ElementType}
 use Rattle.sdf_values.specs.declared.type_name.ElementType.TheVariants as element

@@ -1,6 +1,6 @@
 //! Names of children and of variants, and their changes.
 ghost use Rattle.std.specs.Prelude.{◌≡◌, ◌++◌, [], ◌∷◌, map, IfOk, OnOk};
-ghost use Rattle.std.specs.List.{list_any, flat_map};
+ghost use Rattle.std.specs.List.{list_any};
 ghost use Rattle.layer_edit.specs.Prims.{with_name, without_name, is_of, grown, new_set, with_variant, if_any, shrunk, without_variant};
 ghost use Rattle.layer_edit.specs.Changes.{names_changed, sets_changed};
 

@@ -3,8 +3,7 @@ ghost use Rattle.std.specs.Prelude.{◌≡◌, Some, None, is_some, IfOk, OnOk};
 ghost use Rattle.std.specs.Option.{option_copied};
 ghost use Rattle.sdf_specs.specs.Layers.{spec_at, with_spec_for, has_parent};
 ghost use Rattle.spec_parts.specs.declared.spec.Spec.{Spec};
-ghost use Rattle.spec_properties.specs.Properties.{property_at};
-ghost use Rattle.layer_edit.specs.Places.{above, property_named, property_in, has_spec, last_element, changed_spec, changed_property};
+ghost use Rattle.layer_edit.specs.Places.{above, property_named, property_in, has_spec, changed_spec, changed_property};
 ghost use Rattle.layer_edit.specs.Changes.{spec_changed, property_changed};
 
 use crate::change::{PropertyChange, SpecChange};

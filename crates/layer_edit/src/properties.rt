@@ -3,7 +3,7 @@ ghost use Rattle.std.specs.Prelude.{◌≡◌, Ok, true, OnOk};
 ghost use Rattle.std.specs.Option.{option_copied};
 ghost use Rattle.layer_edit.specs.Outcomes.{Does, Gives};
 ghost use Rattle.layer_edit.specs.Places.{is_property_path};
-ghost use Rattle.layer_edit.specs.Properties.{blank_attribute, blank_relationship, named_property, with_new_property, attribute_added, relationship_added, type_of, at_attribute, default_given, default_set, default_dropped, default_cleared, sample_given, sample_set, sample_dropped, sample_cleared};
+ghost use Rattle.layer_edit.specs.Properties.{blank_attribute, blank_relationship, with_new_property, attribute_added, relationship_added, type_of, at_attribute, default_given, default_set, default_dropped, default_cleared, sample_given, sample_set, sample_dropped, sample_cleared};
 
 use crate::change::{PropertyChange, SpecChange};
 use crate::kinds::is_property_path;

@@ -1,4 +1,4 @@
-ghost use Rattle.std.specs.Prelude.{◌≡◌, [], fold, length, slice_get, IfOk, OnOk};
+ghost use Rattle.std.specs.Prelude.{◌≡◌, [], fold, length, slice_get, OnOk};
 
 use asset_names::AssetId;
 use layer_set::anchored;
@@ -18,7 +18,7 @@ pub struct Names {
 impl Names {
     ghost use Rattle.std.specs.Option.{option_copied};
     ghost use Rattle.layer_stack.specs.Meant.{noted};
-    ghost use Rattle.layer_load.specs.Opening.{with_asset, with_anchored};
+    ghost use Rattle.layer_load.specs.Opening.{with_asset};
     ghost use Rattle.layer_load.specs.Drafts.{AreMet};
 
     /// No names. Takes no memory.

@@ -1,5 +1,5 @@
 //! A world that is being opened.
-ghost use Rattle.std.specs.Prelude.{◌≡◌, ◌+◌, [], Ok, Err, length, slice_get, map, IfOk, OnOk};
+ghost use Rattle.std.specs.Prelude.{◌≡◌, [], Ok, Err, slice_get, IfOk, OnOk};
 ghost use Rattle.io_edges.specs.Causes.{IsCounted};
 ghost use Rattle.layer_set.specs.Worlds.{with_held};
 ghost use Rattle.layer_set.specs.declared.held.Held.{Held as SaidHeld};

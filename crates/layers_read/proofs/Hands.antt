@@ -13,7 +13,6 @@ use Rattle.usda_drafts.specs.declared.draft.Draft.{Draft}
 use Rattle.usda_drafts.specs.declared.draft.OpenList.{OpenList}
 use Rattle.usda_drafts.specs.declared.draft.OpenList.TheVariants as open_list
 use Rattle.usda_fields.specs.Fields as fields
-use Rattle.usda_fields.specs.Fields.{paths_at, items_at, texts_at}
 use Rattle.usda_fields.specs.declared.field.ListField.{ListField}
 use Rattle.usda_fields.specs.declared.field.ListField.TheVariants.{Paths, References, Texts}
 use Rattle.usda_fields.specs.declared.owner.OwnerDraft.{OwnerDraft}

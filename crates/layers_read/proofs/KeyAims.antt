@@ -1,5 +1,5 @@
 -- Where the value of a key of an owner is open or comes next, the key may stand there.
-use Rattle.std.proofs.Common.{◌≡◌, ◌∙◌, ap, subst, ℕ, true, [], ◌∷◌, Ok}
+use Rattle.std.proofs.Common.{◌≡◌, ◌∙◌, ap, subst, true, [], Ok}
 use Rattle.usda_grammar.specs.Words.{keyword_of}
 use Rattle.usda_grammar.specs.declared.kinds.WordKind.{WordKind}
 use Rattle.usda_grammar.specs.declared.kinds.WordKind.TheVariants as token

@@ -1,7 +1,7 @@
 //! Edits of lists, over any way to look up where items stand.
-ghost use Rattle.std.specs.Prelude.{◌≡◌, ◌++◌, ◌<◌, ℕ, IfOk, OnOk, OnErr, IfSome, length, take};
+ghost use Rattle.std.specs.Prelude.{◌≡◌, ◌++◌, ◌<◌, IfOk, OnOk, IfSome, length, take};
 ghost use Rattle.std.specs.List.{position_from};
-ghost use Rattle.list_ops.specs.ListEdits.{contains, without, firsts, until_listed, group_of, group_at, grouped, reordered, with_deleted, with_added, with_prepended, with_appended, edited, applied, all_applied, folded};
+ghost use Rattle.list_ops.specs.ListEdits.{contains, without, firsts, until_listed, group_of, group_at, grouped, reordered, with_deleted, with_added, with_prepended, with_appended, edited, applied, folded};
 
 use crate::op::ListOp;
 use crate::places::Places;

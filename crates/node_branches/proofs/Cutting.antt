@@ -8,7 +8,7 @@ use Rattle.list_ops.specs.ListEdits.{firsts}
 use Rattle.composition.specs.Arcs.{same_kind, Reason}
 use Rattle.composition.specs.Paths.{Limits, limits, has_selections}
 use Rattle.composition.specs.Nodes.{Node, refusal}
-use Rattle.composition.specs.Trees.{Branch, Class, Tree, Trees, classes, own_classes, handed_up, hands_up, classes_from, same_class, lifted_through, any_child, is_class_of, lifted_branch, lifted_branches, in_own_stack}
+use Rattle.composition.specs.Trees.{Branch, Class, Tree, classes, own_classes, handed_up, hands_up, classes_from, same_class, lifted_through, any_child, is_class_of, lifted_branch, lifted_branches, in_own_stack}
 use Rattle.prim_trees.specs.declared.tree.Child.{Child}
 use Rattle.prim_trees.specs.Meant.{Led, all_of, led, trees_of}
 use Rattle.node_branches.specs.Branches.{class_branch, lifted_of, lifted_kind}

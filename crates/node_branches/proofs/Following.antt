@@ -1,12 +1,12 @@
 -- Which paths are within the limits, and what the tests of an arc tell.
-use Rattle.std.proofs.Common.{◌≡◌, ◌∙◌, sym, ap, refl, subst, ℕ, zero, suc, ◌+◌, ◌-◌, ◌||◌, Bool, true, false, List, [], ◌∷◌, ◌++◌, length, take, drop, Option, Some, None, ◌≤◌, ◌&&◌}
-use Rattle.std.specs.Prelude.{not, ◌==◌}
+use Rattle.std.proofs.Common.{◌≡◌, ◌∙◌, sym, ap, refl, subst, ℕ, zero, suc, ◌+◌, ◌-◌, ◌||◌, Bool, true, false, List, [], ◌∷◌, ◌++◌, length, take, drop, Option, Some, None}
+use Rattle.std.specs.Prelude.{not}
 use Rattle.std.specs.Option.{IsSomeAnd, option_map, is_some, is_none}
 use Rattle.std.proofs.lemmas.List.Folds.{list_any-append}
 use Rattle.std.specs.List.{list_any}
-use Rattle.sdf_paths.specs.Paths.{IsPath, IsRefusal, same_element, rest_after, replaced, has_prefix, is_property, MayFollow}
+use Rattle.sdf_paths.specs.Paths.{IsPath, IsRefusal, same_element, rest_after, replaced, has_prefix, is_property}
 use Rattle.sdf_paths.specs.declared.fault.PathFault.TheVariants.{Bad}
-use Rattle.composition.specs.Texts.{both, Text, same_text}
+use Rattle.composition.specs.Texts.{both}
 use Rattle.composition.specs.Paths.{Path, limits, fits, is_prefix, up, tail}
 use Rattle.composition.specs.World.{StackName, same_stack, in_range}
 use Rattle.sdf_values.specs.Scales.{Offset, composed}

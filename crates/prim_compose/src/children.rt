@@ -1,5 +1,5 @@
 //! The names of children: those that a path can have, and those whose paths would pass a limit.
-ghost use Rattle.std.specs.Prelude.{◌≡◌, ◌++◌, ◌∷◌, [], true, false, map, Some, IfOk, OnOk};
+ghost use Rattle.std.specs.Prelude.{◌≡◌, true, false, map, Some, IfOk, OnOk};
 ghost use Rattle.std.specs.List.{list_all};
 ghost use Rattle.composition.specs.Faults.{child_too_long};
 ghost use Rattle.composition.specs.Fields.{listed_children, unlisted_children, is_false};

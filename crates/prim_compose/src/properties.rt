@@ -1,8 +1,7 @@
 //! The properties of a prim, by the opinions on it.
-ghost use Rattle.std.specs.Prelude.{◌≡◌, ◌++◌, [], flat_map, IfOk, OnOk};
+ghost use Rattle.std.specs.Prelude.{◌≡◌, ◌++◌, IfOk, OnOk};
 ghost use Rattle.std.specs.List.{list_any};
 ghost use Rattle.composition.specs.Views.{is_custom, property_meta};
-ghost use Rattle.field_resolve.specs.Folding.{properties_on};
 ghost use Rattle.prim_opinions.specs.Counting.{counted};
 ghost use Rattle.target_resolve.specs.Resolving.{targets_by, faults_by as target_faults_by};
 ghost use Rattle.value_resolve.specs.Resolving.{default_by, samples_by, faults_by as time_faults_by};

@@ -1,9 +1,8 @@
 -- Paths of names of prims alone: neither properties nor paths with variant selections.
-use Rattle.std.proofs.Common.{◌≡◌, refl, absurd, Bool, true, false, List, [], ◌∷◌}
+use Rattle.std.proofs.Common.{◌≡◌, refl, absurd, true, false, [], ◌∷◌}
 use Rattle.std.specs.List.{list_all}
 use Rattle.composition.specs.Paths.{Path}
 use Rattle.sdf_paths.specs.Paths.{is_plain, is_property, is_prim_name}
-use Rattle.sdf_paths.specs.declared.element.Element.{Element}
 use Rattle.sdf_paths.specs.declared.element.Element.TheVariants.{Prim, Property, Selection}
 
 pub with_property : (p : Path) → is_property p ≡ true → false ≡ list_all is_prim_name p

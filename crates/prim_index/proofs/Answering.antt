@@ -3,18 +3,18 @@ use Rattle.std.proofs.Common.{◌≡◌, ◌∙◌, sym, ap, refl, ℕ, zero, su
 use Rattle.list_ops.specs.ListEdits.{firsts}
 use Rattle.composition.specs.Paths.{Path, Limits}
 use Rattle.composition.specs.World.{World, identity, is_loaded, Root}
-use Rattle.composition.specs.Nodes.{Node, Here, Frame, Choices, frame_at, bare_node}
+use Rattle.composition.specs.Nodes.{Node, Here, Choices, frame_at, bare_node}
 use Rattle.composition.specs.Opinions.{Site}
 use Rattle.composition.specs.Trees.{Tree, node_of}
 use Rattle.composition.specs.Strength.{sites, listing}
-use Rattle.composition.specs.Compose.{meaning, level, bottom, tree_of, frames_along, is_overgrown_on_the_way}
+use Rattle.composition.specs.Compose.{meaning, tree_of, frames_along, is_overgrown_on_the_way}
 use Rattle.composition.specs.Faults.{Index, Fault, same_fault, site_of, node_faults}
 use Rattle.prim_index.specs.Answer.{index_at, indexed_of, stage_node_at, sites_in, choices_in, faults_in, is_none, viewed, IsAnswer}
 use Rattle.prim_index.specs.Depths.{deeper, tree_below, full_tree, frames_below}
 use Rattle.prim_index.specs.Loading.{loads}
 use Rattle.prim_index.specs.Once.{faults_once}
 use Rattle.prim_index.specs.Reading.{said}
-use Rattle.prim_index.specs.declared.grow.Payloads.TheVariants.{Ruled, All}
+use Rattle.prim_index.specs.declared.grow.Payloads.TheVariants.{Ruled}
 
 module _ (l : Limits) (h : Node → Here) where
   meant_tree : (d room : ℕ) (n : Node) → (meaning l h d).tree room n ≡ tree_below l h d l.nodes room n

@@ -1,13 +1,13 @@
 -- How trees, frames and rounds unfold, step by step.
-use Rattle.std.proofs.Common.{◌≡◌, ◌∙◌, sym, ap, refl, arith, ℕ, zero, suc, ◌+◌, ◌-◌, ◌<◌, Bool, true, false, List, [], ◌∷◌, length, take}
+use Rattle.std.proofs.Common.{◌≡◌, ◌∙◌, sym, ap, refl, arith, ℕ, zero, suc, ◌-◌, ◌<◌, Bool, true, false, List, [], ◌∷◌, length, take}
 use Rattle.composition.specs.Paths.{Path, Limits}
-use Rattle.composition.specs.Nodes.{Node, Here, Frame, nothing_said, bare, bare_node}
+use Rattle.composition.specs.Nodes.{Node, Here, Frame, nothing_said, bare}
 use Rattle.composition.specs.Arcs.{same_kind}
-use Rattle.composition.specs.Trees.{Branch, Tree, Trees, node, none, cut, child, size, size_among, own_branches, lifted_branches, arc_child}
-use Rattle.composition.specs.Compose.{bottom, level, meaning, decides_nothing, tree_of}
+use Rattle.composition.specs.Trees.{Branch, Tree, node, none, cut, child, size, size_among, own_branches, lifted_branches, arc_child}
+use Rattle.composition.specs.Compose.{meaning, decides_nothing}
 use Rattle.path_maps.specs.declared.kind.ArcKind.TheVariants.{Variant}
 use Rattle.prim_index.specs.Depths.{deeper, tree_below, child_below, grown_below, full_tree, frames_below, round_below, rounds_below}
-use Rattle.node_branches.specs.Children.{arc_child_with, chosen_child, above_target, node_at, node_in_round}
+use Rattle.node_branches.specs.Children.{arc_child_with, chosen_child, above_target, node_at}
 
 module _ (l : Limits) (h : Node → Here) where
   pub tree_cut : (d room : ℕ) (n : Node) → tree_below l h d 0 room n ≡ node n (h n) cut none

@@ -1,5 +1,5 @@
 -- Children one after the other, and the tree that they make.
-use Rattle.std.proofs.Common.{◌≡◌, ◌∙◌, sym, ap, refl, arith, ℕ, ◌+◌, ◌-◌, ◌<◌, Bool, true, false, List, [], ◌∷◌, ◌++◌, map, length, get_or, drop, drop-cons, add-one, zero, suc, ◌≤◌}
+use Rattle.std.proofs.Common.{◌≡◌, ◌∙◌, sym, ap, refl, arith, ℕ, ◌+◌, ◌-◌, ◌<◌, true, false, List, [], ◌∷◌, ◌++◌, map, length, get_or, drop, drop-cons, add-one, zero, suc, ◌≤◌}
 use Rattle.std.proofs.lemmas.List.{map-append}
 use Rattle.prim_nodes.specs.declared.arcs.Branch.{Branch}
 use Rattle.composition.specs.Paths.{Limits}

@@ -3,17 +3,16 @@ use Rattle.std.proofs.Common.{◌≡◌, ◌∙◌, sym, ap, refl, arith, ℕ, z
 use Rattle.std.specs.Prelude.{slice_get, not}
 use Rattle.std.specs.List.{filter_map}
 use Rattle.std.proofs.lemmas.List.{length-take, map-append, take-take}
-use Rattle.std.proofs.lemmas.List.Elements.{filter_map-append}
 use Rattle.path_maps.specs.declared.kind.ArcKind.{ArcKind}
 use Rattle.path_maps.specs.declared.kind.ArcKind.TheVariants.{Inherits, Variant, Reference, Payload, Specializes}
 use Rattle.prim_view.specs.declared.fault.PrimFault.{PrimFault}
 use Rattle.prim_view.specs.declared.fault.PrimFault.TheVariants.{Sublayer}
 use Rattle.composition.specs.Texts.{Text, same_text, find_at}
-use Rattle.composition.specs.Paths.{Path, limits, up, below, levels_of}
+use Rattle.composition.specs.Paths.{Path, limits, up, below}
 use Rattle.composition.specs.World.{World, StackName}
 use Rattle.composition.specs.Stacks.{SublayerFault}
 use Rattle.composition.specs.Arcs.{Authored, Opinion, Lead, Reason, leads, gives_no_arc, selections_of, is_empty}
-use Rattle.composition.specs.Nodes.{Node, Here, Frame, Tried, Chosen, Choices, bare, nth_frame, frame_at, author, fault_of, here, tried_at, chosen_at, said_at_levels, variant_target}
+use Rattle.composition.specs.Nodes.{Node, Frame, Tried, Choices, bare, nth_frame, frame_at, fault_of, tried_at, chosen_at, said_at_levels, variant_target}
 use Rattle.layer_stack.specs.Meant.{defined_stack}
 use Rattle.layer_stack.specs.declared.stacks.LayerStack.{LayerStack}
 use Rattle.arc_expand.specs.Authoring.{IsStackOf, opinions_in, opinions, authored_in, sets_in}

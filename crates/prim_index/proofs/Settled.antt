@@ -6,7 +6,7 @@ use Rattle.composition.specs.Paths.{Path, Limits}
 use Rattle.composition.specs.World.{World, identity, is_loaded, Root}
 use Rattle.composition.specs.Nodes.{Node, Here, Frame, Choices, bare, bare_node}
 use Rattle.composition.specs.Trees.{Tree}
-use Rattle.composition.specs.Compose.{decided, is_overgrown_on_the_way}
+use Rattle.composition.specs.Compose.{decided}
 use Rattle.prim_index.specs.Answer.{stage_node_at}
 use Rattle.node_branches.specs.Children.{node_at, node_in_round}
 use Rattle.prim_index.specs.Depths.{tree_below, frames_below, round_below, rounds_below}

@@ -1,5 +1,5 @@
 -- What each step of the recursion makes of the definitions.
-use Rattle.std.proofs.Common.{◌≡◌, ◌∙◌, sym, ap, refl, arith, ℕ, ◌-◌, ◌<◌, Bool, true, false, List, [], ◌∷◌, length, take, ◌==◌, Result, Ok, Err, IfOk}
+use Rattle.std.proofs.Common.{◌≡◌, ◌∙◌, sym, ap, refl, ℕ, ◌-◌, ◌<◌, Bool, true, false, List, [], ◌∷◌, length, take, ◌==◌, Result, Ok, Err, IfOk}
 use Rattle.path_maps.specs.declared.kind.ArcKind.TheVariants.{Variant}
 use Rattle.prim_nodes.specs.declared.arcs.Branch.{Branch}
 use Rattle.composition.specs.Arcs.{same_kind}
@@ -11,7 +11,7 @@ use Rattle.node_branches.specs.Children.{arc_child_with, chosen_child, above_tar
 use Rattle.prim_index.specs.Depths.{tree_below, child_below, grown_below, frames_below, full_tree, round_below, rounds_below}
 use Rattle.prim_index.specs.Grown.{with_round}
 use Rattle.prim_index.specs.Loading.{loads}
-use Rattle.prim_index.specs.declared.grow.Payloads.TheVariants.{Ruled, All}
+use Rattle.prim_index.specs.declared.grow.Payloads.TheVariants.{All}
 use Rattle.prim_index.proofs.Depths.{child_of_variant, child_of_last_arc, child_of_deeper_arc, no_frames, frames_more, no_rounds, last_round, next_round, tree_cut}
 use Rattle.prim_index.proofs.Grown.{tree_is}
 use Rattle.prim_trees.specs.declared.tree.Tree.{Tree as Built}

@@ -1,5 +1,5 @@
 -- What composition makes at each depth: its definitions under names of their own.
-use Rattle.std.specs.Prelude.{ℕ, zero, suc, Bool, List, take}
+use Rattle.std.specs.Prelude.{ℕ, zero, suc, Bool, List}
 use Rattle.composition.specs.Paths.{Path, Limits}
 use Rattle.composition.specs.Nodes.{Node, Here, Frame}
 use Rattle.composition.specs.Trees.{Branch, Tree, Trees, Meaning, grown, child_tree, tree_with}

@@ -32,8 +32,8 @@ pub struct PrimIndex {
 }
 
 impl Model for PrimIndex {
-    ghost use Rattle.std.specs.Prelude.{◌≡◌, [], ◌∷◌, true, false, Option, Some, None};
-    ghost use Rattle.composition.specs.Faults.{Index, Fault, overgrown};
+    ghost use Rattle.std.specs.Prelude.{◌≡◌, true, false, Option, Some, None};
+    ghost use Rattle.composition.specs.Faults.{Index, overgrown};
     ghost use Rattle.prim_index.specs.Answer.{viewed, IsAnswer};
 
     ghost Value = { Option Index };

@@ -1,7 +1,5 @@
 //! What the layers of a node's stack say at it.
 ghost use Rattle.std.specs.Prelude.{◌≡◌, ◌++◌, ◌∷◌, [], IfOk, OnOk, map, not};
-ghost use Rattle.std.specs.Option.{option_copied};
-ghost use Rattle.composition.specs.Texts.{same_text, find_at};
 ghost use Rattle.composition.specs.Paths.{limits};
 ghost use Rattle.composition.specs.Arcs.{is_empty, selections_of};
 ghost use Rattle.composition.specs.Nodes.{fault_of, frame_at};

@@ -3,8 +3,6 @@ use Rattle.std.specs.Prelude.{◌≡◌, List, map}
 use Rattle.std.proofs.Common.{ap, ◌∙◌}
 use Rattle.composition.specs.Trees as defined
 use Rattle.composition.specs.Trees.{node, node_of, here_of}
-use Rattle.prim_nodes.specs.declared.node.Node.{Node}
-use Rattle.prim_nodes.specs.declared.here.Here.{Here}
 use Rattle.prim_trees.specs.declared.tree.Tree.{Tree, out-Tree, fold_out-Tree}
 use Rattle.prim_trees.specs.declared.tree.Child.{Child, fold-Child, fold_out-Child}
 use Rattle.prim_trees.specs.Meant.{Led, tree_step, child_step, meant, all_of, led, trees_of}

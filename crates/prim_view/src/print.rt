@@ -1,5 +1,5 @@
 //! The texts of faults.
-ghost use Rattle.std.specs.Prelude.{◌≡◌, ◌++◌, IfOk, OnOk, codes, string_bytes};
+ghost use Rattle.std.specs.Prelude.{◌≡◌, ◌++◌, IfOk, OnOk, string_bytes};
 ghost use Rattle.std.specs.Fmt.{decimal};
 ghost use Rattle.prim_view.specs.Printing.{item_name, item_text, field_name, reason_name, refusal_name, refusal_text, refusal_of, arc_front, arc_back, arc_text, sublayer_reason_name, sublayer_text, place_text, property_text, property_place, target_word, time_word, child_word, time_text, target_front, target_text, child_text, fault_text};
 ghost use Rattle.sdf_values.specs.Print.{asset_text};

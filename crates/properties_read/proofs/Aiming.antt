@@ -1,5 +1,5 @@
 -- Where a value is open or comes next, what is expected of it fits what it goes to.
-use Rattle.std.proofs.Common.{◌≡◌, ◌∙◌, sym, ap, refl, subst, ℕ, Bool, true, false, not, ◌&&◌, ◌||◌, List, [], ◌∷◌, ◌++◌, Option, Some, None, Ok, inl, inr}
+use Rattle.std.proofs.Common.{◌≡◌, ◌∙◌, sym, ap, refl, subst, Bool, true, false, not, ◌&&◌, ◌||◌, List, [], ◌∷◌, ◌++◌, Option, Some, None, Ok, inl, inr}
 use Rattle.plain_data.specs.Exact.{both_true}
 use Rattle.sdf_values.specs.declared.value.Value.{Value}
 use Rattle.usda_grammar.specs.Machine.{choose, step}

@@ -1,8 +1,6 @@
 //! Lines of lists and sublayers.
-ghost use Rattle.std.specs.Prelude.{◌≡◌};
 ghost use Rattle.script_words.specs.Answers.{Finds, FindsAs};
-ghost use Rattle.usda_lists.specs.Edits.{edit_of};
-ghost use Rattle.script_lines.specs.FieldLines.{paths_list, references_list, texts_list, targets_in, field_list, if_edit, edit_word_at, edit_at, list_line, sublayers_in, sublayers_line};
+ghost use Rattle.script_lines.specs.FieldLines.{paths_list, references_list, texts_list, targets_in, field_list, edit_word_at, edit_at, list_line, sublayers_in, sublayers_line};
 
 use crate::line::Line;
 use crate::meta_lines::{is_path_field, is_reference_field, is_text_field};

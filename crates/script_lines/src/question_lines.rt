@@ -1,5 +1,4 @@
 //! Lines that ask.
-ghost use Rattle.std.specs.Prelude.{◌≡◌};
 ghost use Rattle.script_words.specs.Answers.{Finds, FindsAs};
 ghost use Rattle.script_lines.specs.QuestionLines.{property_at, asked, value_line, default_line, samples_line, targets_line, children_line, faults_line, sites_line};
 

@@ -1,5 +1,4 @@
 //! Lines that give and take values of attributes.
-ghost use Rattle.std.specs.Prelude.{◌≡◌};
 ghost use Rattle.script_words.specs.Answers.{Finds};
 ghost use Rattle.script_lines.specs.ValueLines.{set_line, clear_line, sample_line, unsample_line};
 

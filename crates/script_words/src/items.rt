@@ -1,7 +1,7 @@
 //! The items of a list that is being read, and what each token adds to them.
 ghost use Rattle.std.specs.Prelude.{◌≡◌, IfOk};
 ghost use Rattle.script_words.specs.Answers.{Finds, made};
-ghost use Rattle.script_words.specs.Lists.{no_offset, with_part, asset_reference, path_reference, sublayer_of, behind_asset, item_with_part, sublayer_with_part, amend_last, with_text, with_path, with_target, put_path, put_number, with_reference, put_sublayer_number, with_sublayer, with_token, form_of};
+ghost use Rattle.script_words.specs.Lists.{no_offset, with_part, asset_reference, behind_asset, item_with_part, sublayer_with_part, amend_last, with_text, with_path, with_target, put_path, put_number, with_reference, put_sublayer_number, with_sublayer, with_token, form_of};
 ghost use Rattle.usda_lists.specs.References.{path_or_none};
 
 use crate::fault::LineFault;

@@ -1,9 +1,9 @@
 //! A list that goes to the end of a line.
-ghost use Rattle.std.specs.Prelude.{◌≡◌, ◌∷◌, List, ℕ, false};
-ghost use Rattle.usda_lexer.specs.Words.{Word, left, word_of};
+ghost use Rattle.std.specs.Prelude.{false};
+ghost use Rattle.usda_lexer.specs.Words.{left};
 ghost use Rattle.script_words.specs.Answers.{Finds};
 ghost use Rattle.script_words.specs.Values.{of_all};
-ghost use Rattle.script_words.specs.Lists.{list_draft, draft_behind, whole_list, list_from, list_in, texts_of, paths_of, targets_of, references_of, sublayers_of};
+ghost use Rattle.script_words.specs.Lists.{draft_behind, whole_list, list_from, list_in, texts_of, paths_of, targets_of, references_of, sublayers_of};
 
 use crate::fault::LineFault;
 use crate::items::{ListItems, with_token};

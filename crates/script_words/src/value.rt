@@ -1,7 +1,6 @@
 //! A value that goes to the end of a line.
-ghost use Rattle.std.specs.Prelude.{◌≡◌, ◌∷◌, List, ℕ};
+ghost use Rattle.std.specs.Prelude.{◌∷◌, List};
 ghost use Rattle.usda_lexer.specs.Words.{Word, left, word_of};
-ghost use Rattle.usda_statements.specs.OpenValues.{opened};
 ghost use Rattle.script_words.specs.Answers.{Finds, Goes};
 ghost use Rattle.script_words.specs.Values.{of_all, whole_value, value_from, value_in};
 

@@ -1,6 +1,5 @@
 //! The words of a line: what stands in front, and the bytes behind it.
 ghost use Rattle.std.specs.Prelude.{◌≡◌, ◌≤◌, IfSome, drop, length, slice_range};
-ghost use Rattle.std.specs.List.{prefix_len};
 ghost use Rattle.std.specs.Option.{option_copied, option_map};
 ghost use Rattle.usda_lexer.specs.Blanks.{IsGap};
 ghost use Rattle.usda_lexer.specs.Meanings.{string_text};

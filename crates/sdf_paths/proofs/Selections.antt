@@ -10,7 +10,7 @@ use Rattle.usd_names.specs.Names.{is_identifier, is_variant, is_variant_characte
 use Rattle.sdf_paths.specs.Paths.{IsPath, is_empty, is_property, is_well_named, depth, ends_selected, written, written_all}
 use Rattle.sdf_paths.specs.Variants.{ends_variant, part_after, run_part, is_whole}
 use Rattle.sdf_paths.specs.declared.element.Element.{Element}
-use Rattle.sdf_paths.specs.declared.element.Element.TheVariants.{Prim, Selection}
+use Rattle.sdf_paths.specs.declared.element.Element.TheVariants.{Selection}
 use Rattle.sdf_paths.specs.declared.variants.VariantPart.{VariantPart}
 use Rattle.sdf_paths.specs.declared.variants.VariantPart.TheVariants.{Start, Dotted, Run}
 use Rattle.sdf_paths.proofs.Shapes.{depth_joined, length_joined, length_printed, named_back, ordered_joined, path_of}

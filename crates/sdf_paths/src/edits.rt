@@ -1,5 +1,5 @@
 //! Lists of elements made of other lists.
-ghost use Rattle.std.specs.Prelude.{◌≡◌, ◌≤◌, ◌<◌, ◌+◌, ◌^◌, ◌&&◌, ◌↔◌, ◌++◌, ◌∷◌, [], IfOk, IfErr, OnOk, IsTrue, false, length, cond};
+ghost use Rattle.std.specs.Prelude.{◌≡◌, ◌≤◌, ◌<◌, ◌+◌, ◌^◌, ◌↔◌, ◌++◌, ◌∷◌, [], IfOk, IfErr, OnOk, IsTrue, false, length, cond};
 ghost use Rattle.usd_names.specs.Names.{is_identifier};
 ghost use Rattle.sdf_paths.specs.Paths.{written, written_all, is_selection, is_property, is_property_part, ends_selected, depth, plain, owner, IsPath};
 

@@ -1,7 +1,7 @@
 //! What a list of elements tells.
-ghost use Rattle.std.specs.Prelude.{◌≡◌, ◌≤◌, ◌<◌, ◌^◌, ◌+◌, ◌++◌, ◌∷◌, [], false, IfOk, string_bytes, IfSome, length};
+ghost use Rattle.std.specs.Prelude.{◌≡◌, ◌<◌, ◌+◌, ◌++◌, ◌∷◌, [], false, IfOk, string_bytes};
 ghost use Rattle.std.specs.Option.{option_map, option_copied};
-ghost use Rattle.sdf_paths.specs.Paths.{printed, written, written_all, is_property, is_plain, is_selection, depth, last_name, rest_after, same_element, is_prim_name, is_property_part, plain, has_prefix};
+ghost use Rattle.sdf_paths.specs.Paths.{printed, written, is_property, is_plain, is_selection, depth, last_name, rest_after, same_element, is_prim_name, is_property_part, plain, has_prefix};
 
 use crate::element::Element;
 use std::alloc::{AllocError, Global};

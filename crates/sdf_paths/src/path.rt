@@ -1,4 +1,4 @@
-ghost use Rattle.std.specs.Prelude.{List, ◌≡◌, ◌⊎◌, [], ◌∷◌, ◌++◌, Ok, Err, IfOk, IfErr, OnOk, IfSome, IsSomeAnd, false, string_bytes, IsTrue, ◌↔◌};
+ghost use Rattle.std.specs.Prelude.{List, ◌≡◌, ◌⊎◌, [], ◌∷◌, ◌++◌, Ok, Err, IfOk, IfErr, OnOk, IsSomeAnd, false, string_bytes, IsTrue, ◌↔◌};
 ghost use Rattle.std.specs.Option.{option_copied, ForSome};
 ghost use Rattle.sdf_paths.specs.Paths.{IsPath, IsReadAs, printed, is_property, is_plain, depth, last_name, has_prefix, HasPrefix};
 ghost use Rattle.sdf_paths.specs.Refusal.{IsFaultOf};

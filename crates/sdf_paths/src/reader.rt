@@ -1,5 +1,5 @@
 //! Reads a path character by character.
-ghost use Rattle.std.specs.Prelude.{◌≡◌, ◌++◌, ◌∷◌, [], IfOk, IfErr};
+ghost use Rattle.std.specs.Prelude.{◌≡◌, IfOk, IfErr};
 ghost use Rattle.sdf_paths.specs.Reader.{step, finish, start, begins, step_nothing, step_name, step_set, step_after_set, step_variant, step_selected, step_property, RunsTo, StopsAsTold};
 
 use crate::element::Element;

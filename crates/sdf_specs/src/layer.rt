@@ -1,6 +1,6 @@
-ghost use Rattle.std.specs.Prelude.{◌≡◌, ◌≢◌, ◌↔◌, ◌<◌, ◌^◌, [], Some, None, Ok, Err, true, false, length, slice_get, is_some, IfOk, IfErr, OnOk, OnErr, IsTrue};
+ghost use Rattle.std.specs.Prelude.{◌≡◌, ◌≢◌, ◌↔◌, ◌<◌, ◌^◌, [], Ok, Err, true, false, length, is_some, IfOk, OnOk, OnErr, IsTrue};
 ghost use Rattle.std.specs.Map.Iter.{ShowsInOrder, deref_pair};
-ghost use Rattle.std.specs.Option.{option_copied, option_map};
+ghost use Rattle.std.specs.Option.{option_copied};
 ghost use Rattle.sdf_paths.specs.Paths.{is_property};
 ghost use Rattle.spec_parts.specs.Blank.{blank_head};
 ghost use Rattle.sdf_specs.specs.Layers.{LayerTable, AreSpecs, spec_at, with_spec, with_spec_for, has_parent, has_tree, without_tree, specs_from};

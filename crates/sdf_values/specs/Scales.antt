@@ -1,5 +1,5 @@
 -- Times in units of 10^-18, and offsets of layers.
-use Rattle.std.specs.Prelude.{ℕ, Bool, true, false, ◌&&◌, ◌==◌, ◌≤◌, ◌^◌, ℤ, pos, negsuc, ◌+ℤ◌, ◌*ℤ◌, ◌≤ℤ◌, unsigned_abs}
+use Rattle.std.specs.Prelude.{Bool, false, ◌&&◌, ◌==◌, ◌≤◌, ◌^◌, ℤ, pos, negsuc, ◌+ℤ◌, ◌*ℤ◌, ◌≤ℤ◌, unsigned_abs}
 use Rattle.sdf_values.specs.Numbers.{DecimalNumber, SameNumber}
 
 -- within 10^12 whole units of time of 0

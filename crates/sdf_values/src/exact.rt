@@ -1,5 +1,4 @@
 //! A copy is the value, and values that compare equal are one.
-ghost use Rattle.std.specs.Prelude.{◌≡◌};
 
 use crate::decimal::{Decimal, Num};
 use crate::offset::LayerOffset;

@@ -1,9 +1,9 @@
 //! The canonical text of numbers and times.
-ghost use Rattle.std.specs.Prelude.{◌≡◌, ◌++◌, ◌+◌, ◌-◌, ◌≤◌, ◌<◌, ◌^◌, ◌∷◌, [], OnOk, IfOk, string_bytes, replicate, unsigned_abs, ℕ, ℤ, pos, negsuc};
+ghost use Rattle.std.specs.Prelude.{◌≡◌, ◌++◌, ◌+◌, ◌-◌, ◌≤◌, ◌<◌, ◌^◌, ◌∷◌, OnOk, IfOk, string_bytes, replicate, unsigned_abs, pos, negsuc};
 ghost use Rattle.std.specs.Fmt.{decimal};
 ghost use Rattle.sdf_values.specs.NumberTexts.{Writes};
 ghost use Rattle.sdf_values.specs.Numbers.{IsDecimal};
-ghost use Rattle.sdf_values.specs.Print.{sign_text, fraction_digits, fraction_text, point_text, scaled_text, decimal_text, num_text, time_text, whole_scaled, magnitude_text, whole_text};
+ghost use Rattle.sdf_values.specs.Print.{sign_text, fraction_digits, point_text, scaled_text, decimal_text, num_text, time_text, magnitude_text, whole_text};
 
 use crate::decimal::{Decimal, Num};
 use crate::tens::ten_to;

@@ -1,5 +1,5 @@
 //! The canonical text of values.
-ghost use Rattle.std.specs.Prelude.{◌≡◌, ◌++◌, ◌+◌, ◌*◌, ◌<◌, ◌^◌, ◌∷◌, OnOk, OnErr, IfOk, map, replicate, string_bytes, []};
+ghost use Rattle.std.specs.Prelude.{◌≡◌, ◌++◌, ◌+◌, ◌*◌, ◌<◌, ◌∷◌, OnOk, IfOk, map, string_bytes, []};
 ghost use Rattle.sdf_values.specs.Print.{print, print_item, listed, lines, dict_text, blanks, quoted, escaped, escape, asset_text, key_text, dict_type_text, hex_digit, is_escaped, is_long_asset};
 ghost use Rattle.sdf_values.specs.TypeNames.{type_text};
 ghost use Rattle.sdf_values.specs.declared.value.DictItem.{out-DictItem};

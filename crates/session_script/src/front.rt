@@ -1,7 +1,6 @@
 //! The line in front of a script, read from its source.
 
-ghost use Rattle.std.specs.Prelude.{◌≡◌, ◌+◌, ◌-◌, ◌<◌, ◌≤◌, ◌++◌, List, ℕ, length, drop, take, false, true, Ok, Err, IfOk, IfErr, OnErr, IfSome, IfNone, slice_index, if◌then◌else◌, nat_lt, ◌==◌};
-ghost use Rattle.std.specs.Io.KnownBytes.{Consumes, IsAtEnd, Keeps};
+ghost use Rattle.std.specs.Prelude.{◌≡◌, ◌+◌, ◌-◌, ◌<◌, ◌≤◌, length, drop, take, false, true, Ok, Err, IfOk, IfErr, IfSome, IfNone, slice_index, if◌then◌else◌, nat_lt, ◌==◌};
 ghost use Rattle.io_edges.specs.Causes.{IsCounted};
 ghost use Rattle.session_script.specs.States.{has_feed, IsScanned};
 ghost use Rattle.session_script.specs.Fronts.{ReadsMore, IsFront, Grows, IsReadError};

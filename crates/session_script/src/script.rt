@@ -1,6 +1,6 @@
 //! The script, step by step.
 
-ghost use Rattle.std.specs.Prelude.{◌≡◌, ◌+◌, ◌<◌, ◌≤◌, ◌++◌, [], List, ℕ, length, drop, take, true, false, Ok, Err, None, Some, IfErr, IfOk, IsSome};
+ghost use Rattle.std.specs.Prelude.{◌≡◌, ◌+◌, ◌<◌, ◌≤◌, [], length, drop, take, true, false, Ok, Err, None, Some, IfErr, IfOk, IsSome};
 ghost use Rattle.io_edges.specs.Causes.{IsCounted};
 ghost use Rattle.session_script.specs.Fronts.{IsReadError};
 

@@ -1,5 +1,4 @@
 //! Comparison of two tables, entry by entry.
-ghost use Rattle.std.specs.Prelude.{◌≡◌};
 
 use crate::table::SharedTable;
 use plain_data::{ExactEq, ExactOrd};

@@ -1,7 +1,7 @@
 //! A tree in which a value is exchanged: only what other trees share is made anew.
 ghost use Rattle.std.specs.Prelude.{◌≡◌, IfOk, OnOk, OnErr};
 ghost use Rattle.spec_tables.specs.Tables.{IsTable, at_key, with_value};
-ghost use Rattle.shared_tables.specs.Trees.{entries, link_entries};
+ghost use Rattle.shared_tables.specs.Trees.{link_entries};
 
 use crate::node::{Link, Node, shared};
 use plain_data::ExactClone;

@@ -8,7 +8,7 @@ use Rattle.composition.specs.Arcs.{same_kind}
 use Rattle.composition.specs.Trees as defined
 use Rattle.composition.specs.Trees.{Trees, node, Class, is_class_of, classes, node_of}
 use Rattle.composition.specs.Strength as order
-use Rattle.composition.specs.Strength.{Parts, above_child, rank_of, strong, strong_parts, weak, weak_parts, part_of, by_classes, by_kind, by_strength}
+use Rattle.composition.specs.Strength.{above_child, rank_of, strong, strong_parts, weak, weak_parts, part_of, by_classes, by_strength}
 use Rattle.prim_trees.specs.declared.tree.Tree.{Tree, out-Tree}
 use Rattle.prim_trees.specs.declared.tree.Child.{Child}
 use Rattle.prim_trees.specs.Meant.{meant, trees_of, led}

@@ -1,7 +1,6 @@
 -- The derived comparisons of sites tell every two apart.
-use Rattle.std.specs.Prelude.{◌≡◌, ◌==◌, true}
+use Rattle.std.specs.Prelude.{◌≡◌, true}
 use Rattle.std.proofs.Common.{refl, ap}
-use Rattle.std.specs.declared.cmp.Ordering.{Ordering}
 use Rattle.std.specs.declared.cmp.Ordering.TheVariants.{Equal}
 use Rattle.std.proofs.lemmas.Map.Lookups.{exact_bytes}
 use Rattle.plain_data.specs.Exact.{both_true, then_both, text_same}

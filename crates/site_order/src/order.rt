@@ -5,7 +5,6 @@ ghost use Rattle.composition.specs.Paths.{limits};
 ghost use Rattle.composition.specs.Trees.{classes};
 ghost use Rattle.composition.specs.Strength.{strong_of, weak_of, listing, by_strength, by_classes, by_kind, part_of};
 ghost use Rattle.prim_trees.specs.Meant.{meant};
-ghost use Rattle.prim_trees.specs.declared.tree.Tree.{out-Tree};
 ghost use Rattle.site_order.specs.Entries.{entries, tree_part, child_part, parts_of, all_parts, leads_to, is_promoted};
 
 use crate::ranks::{Ranked, above_child, rank_of};

@@ -1,5 +1,5 @@
 -- Maps whose entries are exact copies.
-use Rattle.std.proofs.Common.{◌≡◌, List, Result, Ok, Err, IfOk, MatchResult}
+use Rattle.std.proofs.Common.{◌≡◌, List}
 use Rattle.std.specs.List.{AllZip}
 use Rattle.std.proofs.lemmas.List.Elements.{same_from_all_zip}
 

@@ -1,6 +1,4 @@
 ghost use Rattle.std.specs.Prelude.{◌≡◌, ◌<◌, ◌≤◌, [], length, Err, IfOk};
-ghost use Rattle.compose_api.specs.Stage.{stage_of};
-ghost use Rattle.prim_compose.specs.Listing.{entry_at, listed_below};
 ghost use Rattle.stage_questions.specs.Answers.{flat_text};
 ghost use Rattle.stage_session.specs.Sessions.{most_paths, stage_after};
 

@@ -1,5 +1,5 @@
 -- Paths and edits through the arcs between a site and the stage, within the limits of this project.
-use Rattle.std.specs.Prelude.{Bool, true, false, List, [], ◌∷◌, ◌++◌, filter_map, option_map, Option, Some, None}
+use Rattle.std.specs.Prelude.{Bool, true, false, List, [], ◌∷◌, filter_map, option_map, Option, Some, None}
 use Rattle.list_ops.specs.declared.op.ListOp.{ListOp}
 use Rattle.path_maps.specs.Maps.{translated}
 use Rattle.prim_view.specs.declared.fault.PrimFault.{PrimFault}

@@ -1,5 +1,3 @@
-ghost use Rattle.std.specs.Prelude.{◌≡◌};
-
 use std::test::Fail;
 use turn_lock::{Desk, Journalled, SplitRefused};
 

@@ -55,7 +55,7 @@ use Rattle.usda_words.specs.Words.{Word}
 use Rattle.trees_read.specs.Drafts.{frame_of, frames, tree_of}
 use Rattle.trees_read.specs.Trees.{Frame, Tree, IsSound}
 use Rattle.trees_read.proofs.Fields as same
-use Rattle.trees_read.proofs.Fields.{IfMade, and_made, if_made, IsSame, IsNamedSame}
+use Rattle.trees_read.proofs.Fields.{IfMade, if_made, IsSame, IsNamedSame}
 use Rattle.trees_read.proofs.Growing.{properties_changed}
 use Rattle.trees_read.proofs.Properties.{with_once}
 

@@ -24,7 +24,6 @@ use Rattle.usda_drafts.specs.declared.owner.Owner.{Owner}
 use Rattle.usda_fields.specs.Keys as keys
 use Rattle.usda_fields.specs.Names.{text_of}
 use Rattle.usda_fields.specs.Owners as owner
-use Rattle.usda_fields.specs.Variants.{selections_act}
 use Rattle.usda_fields.specs.Variants as variants
 use Rattle.usda_fields.specs.declared.keys.KeyRule.{KeyRule}
 use Rattle.usda_fields.specs.declared.owner.OrderWord.{OrderWord}

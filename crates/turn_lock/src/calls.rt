@@ -1,4 +1,4 @@
-ghost use Rattle.std.specs.Prelude.{◌≡◌, ◌↔◌, ℕ, List, ◌+◌, ◌-◌, ◌<◌, ◌≤◌, [], ◌∷◌, ◌++◌, All, IfOk, IfErr, IsErr};
+ghost use Rattle.std.specs.Prelude.{◌≡◌, ◌↔◌, List, ◌+◌, ◌-◌, ◌<◌, ◌≤◌, [], ◌∷◌, ◌++◌, All, IfOk, IfErr, IsErr};
 ghost use Rattle.turn_lock.specs.Weights.{times};
 ghost use Rattle.turn_lock.specs.Turns.{GoesOn, Longer, Adds};
 ghost use Rattle.turn_lock.specs.Seats.{IsSeatOf, IsFree, HasTurn, HasAll, SameNumbers, number, seen, numbers, spare_numbers, spares, part_of, own_entries, desk_name, seats_of, numbers_from};

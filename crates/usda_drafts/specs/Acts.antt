@@ -1,5 +1,5 @@
 -- What each token adds to a draft, by the symbol that takes it, or why it is refused.
-use Rattle.std.specs.Prelude.{ℕ, Bool, true, false, List, Result, Ok, Err, if◌then◌else◌}
+use Rattle.std.specs.Prelude.{Ok, Err, if◌then◌else◌}
 use Rattle.sdf_values.specs.declared.refusal.RefusalKind.TheVariants.{NumberTooLong}
 use Rattle.usda_grammar.specs.declared.symbols.Symbol.{Symbol}
 use Rattle.usda_grammar.specs.declared.symbols.Symbol.TheVariants as symbol
@@ -7,7 +7,7 @@ use Rattle.usda_words.specs.Words.{Word}
 use Rattle.usda_statements.specs.OpenValues.{is_open}
 use Rattle.usda_drafts.specs.Refusals.{Acted, refused, placed}
 use Rattle.usda_drafts.specs.Bodies.{after_variability_act, after_custom_act, after_edit_act, after_reorder_act, body_act, brackets_act, name_act, tail_act, dot_act, sample_act, list_begun}
-use Rattle.usda_drafts.specs.Prims.{specifier_act, prim_type_act, prim_name_act, open_act, set_name_act, variant_name_act, body_end_act}
+use Rattle.usda_drafts.specs.Prims.{prim_type_act, prim_name_act, open_act, set_name_act, variant_name_act, body_end_act}
 use Rattle.usda_drafts.specs.Values.{token_act, first_act}
 use Rattle.usda_drafts.specs.Metadata.{head_item_act, prim_item_act, edited_act, property_item_act, root_act, root_order_act, order_name_act}
 use Rattle.usda_drafts.specs.Lists.{in_list_act, in_references_act, item_path_act, sublayer_act, offset_key_act, number_act}

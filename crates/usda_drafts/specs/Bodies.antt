@@ -1,5 +1,5 @@
 -- Statements of a prim or a variant on its properties, and its orders of names.
-use Rattle.std.specs.Prelude.{ℕ, List, Result, Ok, Err}
+use Rattle.std.specs.Prelude.{ℕ, List, Ok, Err}
 use Rattle.sdf_values.specs.declared.refusal.RefusalKind.TheVariants.{Spline}
 use Rattle.usda_grammar.specs.declared.kinds.WordKind.{WordKind}
 use Rattle.usda_grammar.specs.declared.kinds.WordKind.TheVariants as token

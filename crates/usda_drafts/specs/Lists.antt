@@ -1,17 +1,11 @@
 -- Lists of fields, of connections and targets, and of sublayers; offsets of their items.
-use Rattle.std.specs.Prelude.{ℕ, List, [], ◌∷◌, ◌++◌, Option, Some, None, Result, Ok, Err}
-use Rattle.sdf_paths.specs.declared.element.Element.{Element}
-use Rattle.sdf_values.specs.declared.refusal.RefusalKind.{RefusalKind}
-use Rattle.sdf_values.specs.declared.refusal.RefusalKind.TheVariants.{Syntax}
+use Rattle.std.specs.Prelude.{[], ◌∷◌, ◌++◌, Ok}
 use Rattle.usda_fields.specs.Fields as fields
-use Rattle.usda_fields.specs.declared.field.ListField.{ListField}
 use Rattle.usda_fields.specs.declared.field.ListField.TheVariants.{Paths, References, Texts}
 use Rattle.usda_grammar.specs.declared.kinds.WordKind.{WordKind}
 use Rattle.usda_grammar.specs.declared.kinds.WordKind.TheVariants as token
-use Rattle.usda_lexer.specs.Meanings.{path_text}
 use Rattle.usda_lists.specs.Lists.{amend_last}
 use Rattle.usda_lists.specs.Offsets.{offset_key}
-use Rattle.usda_lists.specs.Paths.{target_from}
 use Rattle.usda_lists.specs.References.{sublayer_of, sublayer_number}
 use Rattle.usda_statements.specs.PropertyDrafts.{path_act, with_list_closed}
 use Rattle.usda_words.specs.Words.{Word}

@@ -1,5 +1,5 @@
 -- Metadata of the layer, of prims and variants, and of properties; and orders of names.
-use Rattle.std.specs.Prelude.{ℕ, Bool, true, List, [], codes, Option, Some, None, Result, Ok, Err, if◌then◌else◌}
+use Rattle.std.specs.Prelude.{ℕ, true, List, Result, Ok, Err, if◌then◌else◌}
 use Rattle.sdf_values.specs.declared.refusal.RefusalKind.{RefusalKind}
 use Rattle.sdf_values.specs.declared.refusal.RefusalKind.TheVariants.{DuplicateSpec}
 use Rattle.usda_fields.specs.Fields as fields

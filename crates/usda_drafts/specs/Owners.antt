@@ -1,18 +1,17 @@
 -- The owners of statements: a prim, a variant, or the layer itself. The layer's path is `/`, its children are the root prims, and its
 -- metadata is that of the head.
-use Rattle.std.specs.Prelude.{ℕ, Bool, true, false, List, [], ◌∷◌, ◌++◌, Option, Some, None, is_some, unwrap_or, Result, Ok, Err, if◌then◌else◌}
+use Rattle.std.specs.Prelude.{ℕ, Bool, true, List, [], ◌∷◌, ◌++◌, Option, Some, None, is_some, unwrap_or, Result, if◌then◌else◌}
 use Rattle.plain_data.specs.Ends.{last, front}
 use Rattle.sdf_paths.specs.Order.{text_cmp}
 use Rattle.sdf_paths.specs.declared.element.Element.{Element}
 use Rattle.sdf_values.specs.declared.refusal.RefusalKind.{RefusalKind}
-use Rattle.sdf_values.specs.declared.refusal.RefusalKind.TheVariants.{DuplicateSpec}
 use Rattle.spec_parts.specs.declared.items.Specifier.{Specifier}
 use Rattle.spec_parts.specs.declared.items.VariantSet.{VariantSet}
 use Rattle.spec_parts.specs.declared.spec.Spec.{Spec}
 use Rattle.spec_properties.specs.Properties.{property_at, with_property, blank_relationship}
 use Rattle.spec_tables.specs.Tables.{at_key, with_key}
 use Rattle.usda_fields.specs.Owners.{owner_at}
-use Rattle.usda_statements.specs.PropertyDrafts.{no_marks, no_property, joined, property_of, is_in_hand}
+use Rattle.usda_statements.specs.PropertyDrafts.{no_marks, joined, property_of, is_in_hand}
 use Rattle.usda_statements.specs.declared.heading.Heading.{Heading}
 use Rattle.usda_statements.specs.declared.property.PropertyDraft.{PropertyDraft}
 use Rattle.usda_statements.specs.declared.property.PropertyMarks.{PropertyMarks}

@@ -1,5 +1,5 @@
 -- Prims, variant sets and variants: how they are named, begun and ended.
-use Rattle.std.specs.Prelude.{ℕ, Bool, true, false, ◌==◌, List, [], ◌∷◌, ◌++◌, Option, Some, None, Result, Ok, Err, codes, if◌then◌else◌}
+use Rattle.std.specs.Prelude.{ℕ, true, false, ◌==◌, List, [], ◌∷◌, ◌++◌, Option, Some, None, Result, Ok, Err, codes, if◌then◌else◌}
 use Rattle.std.specs.Cmp.Lexicographic.{pointwise}
 use Rattle.plain_data.specs.Ends.{last, front}
 use Rattle.sdf_paths.specs.declared.element.Element.{Element}
@@ -11,7 +11,6 @@ use Rattle.usda_fields.specs.Names.{identifier_of, variant_of}
 use Rattle.usda_drafts.specs.Closed.{is_closed, with_closed}
 use Rattle.usda_drafts.specs.Places.{prim_place, variant_place}
 use Rattle.usda_lists.specs.Acts.{and_then}
-use Rattle.usda_words.specs.Words.{Word}
 use Rattle.usda_drafts.specs.Refusals.{Acted, refused}
 use Rattle.usda_drafts.specs.Owners.{owner_of, with_child, has_set, with_set, with_variant, settled}
 use Rattle.usda_drafts.specs.declared.owner.Owner.{Owner}

@@ -1,5 +1,5 @@
 -- Values: what is expected of one, its tokens, and where it goes when it is complete.
-use Rattle.std.specs.Prelude.{ℕ, ℤ, Bool, true, false, List, [], Option, Some, None, Result, Ok, Err, if◌then◌else◌}
+use Rattle.std.specs.Prelude.{ℕ, ℤ, Bool, true, false, List, Option, Some, None, Result, Ok, Err, if◌then◌else◌}
 use Rattle.sdf_values.specs.declared.decimal.Num.{Num}
 use Rattle.sdf_values.specs.declared.refusal.RefusalKind.{RefusalKind}
 use Rattle.sdf_values.specs.declared.refusal.RefusalKind.TheVariants.{NumberTooLong, TimeRange}
@@ -8,7 +8,7 @@ use Rattle.sdf_values.specs.declared.value.Value.{Value}
 use Rattle.usda_lexer.specs.Meanings.{number_of}
 pub use Rattle.usda_values.specs.Scalars.{finite_time}
 use Rattle.usda_values.specs.declared.shape.Shape.{Shape}
-use Rattle.usda_values.specs.declared.shape.Shape.TheVariants.{Untyped, Typed, Dictionary}
+use Rattle.usda_values.specs.declared.shape.Shape.TheVariants.{Untyped, Typed}
 use Rattle.usda_words.specs.Words.{Word}
 use Rattle.usda_fields.specs.Keys.{rule_shape}
 use Rattle.usda_fields.specs.Owners.{value_act}
@@ -22,7 +22,6 @@ use Rattle.usda_statements.specs.declared.open_value.OpenValue.{OpenValue}
 use Rattle.usda_drafts.specs.Refusals.{Acted, refused, then_with}
 use Rattle.usda_drafts.specs.declared.aim.Goal.{Goal}
 use Rattle.usda_drafts.specs.declared.aim.Goal.TheVariants as goal
-use Rattle.usda_drafts.specs.declared.aim.Aim.{Aim}
 use Rattle.usda_drafts.specs.declared.draft.Draft.{Draft}
 
 -- ---- what the next value is for

@@ -1,5 +1,4 @@
 //! What each token adds to a draft, by the symbol that takes it.
-ghost use Rattle.std.specs.Prelude.{◌≡◌};
 ghost use Rattle.usda_drafts.specs.Refusals.{Does};
 ghost use Rattle.usda_drafts.specs.Acts.{layers_act, prims_act, bodies_act, act};
 ghost use Rattle.usda_words.specs.Sources.{word_of};

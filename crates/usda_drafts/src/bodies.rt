@@ -1,5 +1,4 @@
 //! Statements of a prim or a variant on its properties.
-ghost use Rattle.std.specs.Prelude.{◌≡◌};
 ghost use Rattle.usda_drafts.specs.Refusals.{Does};
 ghost use Rattle.usda_drafts.specs.Bodies.{type_act, after_variability_act, after_custom_act, after_edit_act, after_reorder_act, statement_act, body_act, brackets_act, name_act, default_begun, samples_begun, list_begun, tail_act, dot_act, sample_act};
 ghost use Rattle.usda_words.specs.Sources.{word_of};

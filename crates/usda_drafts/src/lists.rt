@@ -1,5 +1,4 @@
 //! Lists of fields, of connections and targets, and of sublayers; offsets of their items.
-ghost use Rattle.std.specs.Prelude.{◌≡◌};
 ghost use Rattle.usda_drafts.specs.Refusals.{Does};
 ghost use Rattle.usda_drafts.specs.Lists.{string_act, list_path_act, asset_act, lone_path_act, item_path_act, end_act, in_list_act, in_references_act, sublayer_act, offset_key_act, number_act};
 ghost use Rattle.usda_words.specs.Sources.{word_of};

@@ -1,5 +1,4 @@
 //! Metadata of the layer, of prims and variants, and of properties; and orders of names.
-ghost use Rattle.std.specs.Prelude.{◌≡◌};
 ghost use Rattle.usda_lists.specs.Acts.{Gives as GivesPart};
 ghost use Rattle.usda_drafts.specs.Refusals.{Does};
 ghost use Rattle.usda_drafts.specs.Metadata.{comment_act, key_act, variants_act, field_act, string_field_act, path_field_act, reference_field_act, edit_act, edited_act, prim_item_act, sublayers_act, head_item_act, root_act, ordered_by, order_act, root_order_act, order_name_act, property_rule, property_key_act, property_item_act};

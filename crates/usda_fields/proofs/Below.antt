@@ -11,7 +11,7 @@ use Rattle.std.specs.List.{list_all}
 use Rattle.std.proofs.lemmas.Bool.{and_from, and_parts}
 use Rattle.std.proofs.lemmas.List.Folds.{list_all-append}
 use Rattle.usd_names.specs.Names.{is_identifier, is_variant}
-use Rattle.sdf_paths.specs.Paths.{IsPath, IsReadAs, is_ordered, is_empty, is_property, is_selection, is_well_named, depth, written, written_all, printed, ends_selected}
+use Rattle.sdf_paths.specs.Paths.{IsPath, IsReadAs, is_ordered, is_empty, is_property, is_well_named, depth, written, written_all, printed, ends_selected}
 use Rattle.sdf_paths.specs.declared.element.Element.{Element}
 use Rattle.sdf_paths.specs.declared.element.Element.TheVariants.{Prim, Property, Selection}
 use Rattle.sdf_paths.proofs.Shapes.{written_append, length_printed, depth_joined, path_of, append_path}

@@ -1,7 +1,7 @@
 //! The variants that an owner selects: a dictionary of strings, one for each set.
 ghost use Rattle.std.specs.Prelude.{◌≡◌, [], map, IfOk, OnOk};
 ghost use Rattle.usda_lists.specs.Acts.{Does};
-ghost use Rattle.usda_fields.specs.Variants.{is_behind_type, is_string, of_strings, token_act, with_selection, with_selections, selections_of, said, entry_of};
+ghost use Rattle.usda_fields.specs.Variants.{is_behind_type, is_string, token_act, with_selection, with_selections, selections_of, said, entry_of};
 
 use plain_data::{Items, Text};
 use sdf_values::{DictItem, DictType, ElementType, RefusalKind, Value};

@@ -1,5 +1,5 @@
 -- The decimal that a number's text writes.
-use Rattle.std.specs.Prelude.{◌≡◌, ℕ, zero, suc, ◌+◌, ◌/◌, ◌%◌, ◌^◌, nat_lt, Bool, true, false, ◌&&◌, ◌==◌, ℤ, pos, negsuc, ◌+ℤ◌, List, [], ◌∷◌, Option, Some, None}
+use Rattle.std.specs.Prelude.{ℕ, zero, suc, ◌+◌, ◌/◌, ◌%◌, ◌^◌, nat_lt, Bool, true, false, ◌&&◌, ◌==◌, ℤ, pos, negsuc, ◌+ℤ◌, List, Option, Some, None}
 use Rattle.sdf_values.specs.Numbers.{DecimalNumber, zero_number}
 use Rattle.sdf_values.specs.NumberTexts.{is_number, is_negative, signed, before_mark, digits_number, written_exponent}
 

@@ -1,5 +1,5 @@
 -- How far each token goes that is no name.
-use Rattle.std.specs.Prelude.{ℕ, ◌<◌, ◌≤◌, ◌+◌, ◌-◌, Bool, true, false, ◌&&◌, ◌||◌, ◌==◌, if◌then◌else◌, List, [], ◌∷◌, drop, length, slice_index, Option, Some, None}
+use Rattle.std.specs.Prelude.{ℕ, ◌<◌, ◌≤◌, ◌+◌, ◌-◌, Bool, true, false, ◌&&◌, ◌==◌, if◌then◌else◌, List, [], ◌∷◌, drop, length, slice_index, Option, Some, None}
 use Rattle.std.specs.List.{prefix_len}
 use Rattle.sdf_values.specs.NumberTexts.{is_digit, is_sign, is_mark}
 use Rattle.usda_lexer.specs.Blanks.{begins}

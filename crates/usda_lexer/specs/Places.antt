@@ -1,5 +1,5 @@
 -- Lines and columns.
-use Rattle.std.specs.Prelude.{ℕ, ◌+◌, Bool, true, false, ◌==◌, List, [], ◌∷◌, take}
+use Rattle.std.specs.Prelude.{ℕ, ◌+◌, true, false, ◌==◌, List, [], ◌∷◌, take}
 use Rattle.usda_lexer.specs.declared.place.Place.{Place}
 
 -- the place behind these bytes, from a place on; columns count bytes, and a line feed ends a line

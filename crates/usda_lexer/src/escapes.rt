@@ -1,7 +1,7 @@
 //! What the text of a token means.
-ghost use Rattle.std.specs.Prelude.{◌≡◌, ◌<◌, ◌≤◌, ◌*◌, ◌+◌, ◌-◌, ◌^◌, ◌∷◌, ◌++◌, ◌↔◌, Some, IfOk, IfSome, OnOk, length, slice_index, drop, false};
+ghost use Rattle.std.specs.Prelude.{◌≡◌, ◌<◌, ◌≤◌, ◌*◌, ◌+◌, ◌-◌, ◌∷◌, ◌++◌, ◌↔◌, Some, IfOk, IfSome, OnOk, length, slice_index, drop, false};
 ghost use Rattle.std.specs.Option.{option_to_list};
-ghost use Rattle.usda_lexer.specs.Meanings.{hexadecimal, is_octal, digit_at, two_digits, octal, letter, escape, unescaped, inside, quotes_len, string_bytes_of, if_utf8, string_text, trimmed, asset_text, path_text, number_of};
+ghost use Rattle.usda_lexer.specs.Meanings.{hexadecimal, is_octal, digit_at, two_digits, octal, letter, escape, unescaped, inside, quotes_len, if_utf8, string_text, trimmed, asset_text, path_text, number_of};
 ghost use Rattle.sdf_values.specs.Numbers.{DecimalNumber, IsDecimal};
 ghost use Rattle.sdf_values.specs.NumberTexts.{Writes};
 ghost use Rattle.usda_lexer.specs.Decimals.{decimal_of};

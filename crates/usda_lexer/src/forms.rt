@@ -1,6 +1,6 @@
 //! How far numbers, strings, assets and paths go.
 ghost use Rattle.std.specs.Prelude.{◌≡◌, ℕ, ◌<◌, ◌≤◌, ◌+◌, ◌^◌, IfSome, List, ◌∷◌, length, false};
-ghost use Rattle.usda_lexer.specs.Forms.{digits_len, sign_len, with_digits, exponent_len, pointed_len, mantissa_len, scaled_len, behind_sign_len, number_len, closed_line, closed_string, closed_tripled, more_ats, closed_asset, begins_twice, string_len, asset_len, EndsIn};
+ghost use Rattle.usda_lexer.specs.Forms.{digits_len, sign_len, with_digits, exponent_len, pointed_len, mantissa_len, number_len, closed_line, closed_string, closed_tripled, more_ats, closed_asset, begins_twice, string_len, asset_len, EndsIn};
 
 use crate::blanks::begins;
 use sdf_values::{is_digit, is_mark, is_sign};

@@ -1,8 +1,8 @@
 //! The tokens of a source, one after the other.
-ghost use Rattle.std.specs.Prelude.{◌≡◌, ◌∷◌, [], ◌≢◌, ◌<◌, ◌≤◌, ◌+◌, ◌-◌, IfOk, IfErr, IfSome, IsTrue, take, drop, length, Some, None, Ok, Err};
-ghost use Rattle.std.specs.Str.{IsCharBoundary, IsUtf8};
+ghost use Rattle.std.specs.Prelude.{◌≡◌, ◌∷◌, ◌<◌, ◌+◌, ◌-◌, IfOk, IfErr, IfSome, IsTrue, drop, length, Some, None, Ok, Err};
+ghost use Rattle.std.specs.Str.{IsCharBoundary};
 ghost use Rattle.usda_lexer.specs.Forms.{number_len, EndsIn};
-ghost use Rattle.usda_lexer.specs.Words.{found, name_kind, begins_number_word, quoted_or_mark, minus_or_mark, number_or_mark, next_word, word_of, left, AnswersNew, AnswersNext, AnswersPeek, Finds, IsAt, StandsAt, StandsIn, word_in_front};
+ghost use Rattle.usda_lexer.specs.Words.{found, name_kind, begins_number_word, quoted_or_mark, minus_or_mark, number_or_mark, next_word, left, AnswersNew, AnswersNext, AnswersPeek, Finds, IsAt, StandsAt, StandsIn, word_in_front};
 
 use crate::blanks::gap_len;
 use crate::escapes::decimal_of;

@@ -1,5 +1,5 @@
 -- A list without a last item.
-use Rattle.std.proofs.Common.{◌≡◌, ◌∙◌, sym, ap, List, [], ◌∷◌, Option, Some, None, Result, Ok, refl}
+use Rattle.std.proofs.Common.{◌≡◌, ◌∙◌, sym, ap, List, [], ◌∷◌, Option, None, Result, Ok, refl}
 use Rattle.plain_data.specs.Ends.{last, front}
 use Rattle.sdf_values.specs.declared.refusal.RefusalKind.{RefusalKind}
 use Rattle.usda_lists.specs.Lists.{amended, amend_last}

@@ -1,5 +1,5 @@
 -- A step over `../`.
-use Rattle.std.proofs.Common.{◌≡◌, ℕ, Bool, true, false, List, [], ◌∷◌, Option, Some, None, drop, ap, sym, refl, subst}
+use Rattle.std.proofs.Common.{◌≡◌, ℕ, true, false, List, ◌∷◌, Option, Some, None, drop, ap, sym, refl, subst}
 use Rattle.sdf_paths.specs.Paths.{parent}
 use Rattle.sdf_paths.specs.declared.element.Element.{Element}
 use Rattle.usda_values.specs.PathTexts.{begins_up}

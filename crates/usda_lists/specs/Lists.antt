@@ -1,5 +1,5 @@
 -- Lists in the making, in the opinion that they are part of.
-use Rattle.std.specs.Prelude.{Bool, List, [], ◌∷◌, ◌++◌, Option, Some, None, Result, Ok, Err}
+use Rattle.std.specs.Prelude.{Bool, List, [], ◌∷◌, ◌++◌, Option, Some, None, Result, Ok}
 use Rattle.plain_data.specs.Ends.{last, front}
 use Rattle.list_ops.specs.ListEdits.{firsts}
 use Rattle.list_ops.specs.declared.op.ListOp.{ListOp}

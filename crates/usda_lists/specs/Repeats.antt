@@ -15,7 +15,7 @@ use Rattle.sdf_paths.specs.contracts.path.PathOrd.TheImpl.{ghosts as path_order}
 use Rattle.sdf_values.specs.Scales.{Offset}
 use Rattle.sdf_values.specs.contracts.offset.LayerOffsetOrd.TheImpl.{ghosts as offset_order}
 use Rattle.spec_parts.specs.declared.items.RefItem.{RefItem}
-use Rattle.usda_lists.specs.References.{same_text, same_path, same_offset, same_item}
+use Rattle.usda_lists.specs.References.{same_text, same_offset, same_item}
 use Rattle.usda_lists.specs.contracts.repeats.OrderedItemPartialEq.TheImpl.{ghosts as item_eq}
 use Rattle.usda_lists.specs.contracts.repeats.OrderedItemOrd.TheImpl.{ghosts as item_order}
 

@@ -2,7 +2,7 @@
 ghost use Rattle.std.specs.Prelude.{◌≡◌, ◌++◌, ◌∷◌, [], Ok, IfOk, OnOk};
 ghost use Rattle.usda_lists.specs.Acts.{Does, Gives};
 ghost use Rattle.usda_lists.specs.Lists.{amend_last, amend_list};
-ghost use Rattle.usda_lists.specs.References.{asset_or_none, asset_item, path_or_none, path_item, with_path, with_number_of, sublayer_of, sublayer_number};
+ghost use Rattle.usda_lists.specs.References.{asset_item, path_or_none, path_item, with_path, with_number_of, sublayer_of, sublayer_number};
 
 use crate::edit::ListEdit;
 use crate::lists::{put_list, take_list};

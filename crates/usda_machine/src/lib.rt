@@ -4,7 +4,7 @@
 //! for whatever they mean, that a run gives exactly what the grammar makes of a text, or its first refusal.
 #![tactic(auto)]
 
-ghost use Rattle.std.specs.Prelude.{◌≡◌, ◌++◌, ◌<◌, length, OnOk, OnErr, List};
+ghost use Rattle.std.specs.Prelude.{◌≡◌, ◌++◌, ◌<◌, OnOk};
 ghost use Rattle.usda_grammar.specs.Machine.{step, is_done};
 ghost use Rattle.usda_machine.specs.Laws.{KindsAreExact};
 ghost use Rattle.usda_machine.specs.Stacks.{stack_of, Steps};

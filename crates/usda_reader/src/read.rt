@@ -1,6 +1,5 @@
 //! The layer that a text says, or its first refusal.
-ghost use Rattle.std.specs.Prelude.{◌≡◌, length, true, Some, None, Err};
-ghost use Rattle.std.specs.Str.{is_utf8};
+ghost use Rattle.std.specs.Prelude.{◌≡◌, length, Some, None, Err};
 ghost use Rattle.sdf_specs.specs.Layers.{LayerTable};
 ghost use Rattle.spec_parts.specs.declared.items.Refusal.{Refusal as SaidRefusal};
 ghost use Rattle.usda_drafts.specs.Drafts.{blank};

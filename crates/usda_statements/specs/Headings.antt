@@ -1,5 +1,5 @@
 -- What the words before a property's name say: the edit word, the flags, and the type, or `rel`.
-use Rattle.std.specs.Prelude.{ℕ, Bool, true, false, ◌==◌, List, [], ◌∷◌, Option, Some, None, Result, Ok, Err, codes}
+use Rattle.std.specs.Prelude.{ℕ, Bool, true, false, ◌==◌, List, Option, Some, None, Result, Ok, Err, codes}
 use Rattle.std.specs.Cmp.Lexicographic.{pointwise}
 pub use Rattle.sdf_values.specs.Conforms.{one as one_of}
 use Rattle.sdf_values.specs.declared.refusal.RefusalKind.{RefusalKind}
@@ -8,7 +8,6 @@ use Rattle.sdf_values.specs.declared.type_name.ElementType.{ElementType}
 use Rattle.sdf_values.specs.declared.type_name.TheConstants.{ELEMENTS}
 use Rattle.sdf_values.specs.declared.type_name.TypeName.{TypeName}
 use Rattle.usda_lists.specs.declared.edit.ListEdit.{ListEdit}
-use Rattle.usda_lists.specs.declared.edit.ListEdit.TheVariants.{Explicit}
 use Rattle.usda_values.specs.Drafts.{find_element}
 use Rattle.usda_statements.specs.declared.heading.Heading.{Heading}
 

@@ -2,7 +2,6 @@
 use Rattle.std.specs.Prelude.{ℕ, ℤ, Bool, true, false, not, ◌&&◌, ◌||◌, ◌==◌, List, [], ◌∷◌, Option, Some, None, is_some, Result, Ok, Err, if◌then◌else◌}
 use Rattle.std.specs.Cmp.Lexicographic.{pointwise}
 use Rattle.std.specs.Ordering.{int_cmp}
-use Rattle.list_ops.specs.declared.op.ListOp.{ListOp}
 use Rattle.sdf_paths.specs.declared.element.Element.{Element}
 use Rattle.sdf_values.specs.TypeNames.{element_name}
 use Rattle.sdf_values.specs.declared.refusal.RefusalKind.{RefusalKind}
@@ -22,9 +21,7 @@ use Rattle.usda_lists.specs.Paths.{target_from}
 use Rattle.usda_lists.specs.References.{same_path}
 use Rattle.usda_lists.specs.Edits.{none_given, give}
 use Rattle.usda_lists.specs.Lists.{open_list, push_item, close_list}
-use Rattle.usda_lists.specs.declared.edit.ListEdit.{ListEdit}
 use Rattle.usda_lists.specs.declared.edit.ListEdit.TheVariants.{Explicit}
-use Rattle.usda_lists.specs.declared.edit.GivenLists.{GivenLists}
 use Rattle.usda_statements.specs.declared.heading.Heading.{Heading}
 use Rattle.usda_statements.specs.declared.property.PropertyMarks.{PropertyMarks}
 use Rattle.usda_statements.specs.declared.property.PropertyDraft.{PropertyDraft}

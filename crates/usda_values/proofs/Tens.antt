@@ -1,5 +1,5 @@
 -- A step that takes ten out.
-use Rattle.std.proofs.Common.{◌≡◌, ◌∙◌, ℕ, zero, suc, ◌+◌, ◌-◌, ◌/◌, ◌%◌, ◌<◌, ◌==◌, Bool, true, false, Some, ap, arith, eq-eqb}
+use Rattle.std.proofs.Common.{◌≡◌, ◌∙◌, ℕ, zero, suc, ◌+◌, ◌-◌, ◌/◌, ◌%◌, ◌<◌, true, false, Some, ap, arith, eq-eqb}
 use Rattle.usda_values.specs.Scalars.{stripped}
 
 pub stripped_step : (k n t : ℕ) → 0 < k → n % 10 ≡ 0 → stripped k n t ≡ stripped (k - 1) (n / 10) (t + 1)

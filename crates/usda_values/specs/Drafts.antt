@@ -1,23 +1,20 @@
 -- A value that is being read: the levels that are open, and what each token adds or why it is refused.
-use Rattle.std.specs.Prelude.{◌≡◌, ℕ, zero, suc, nat_le, Bool, true, false, ◌&&◌, ◌==◌, if◌then◌else◌, List, [], ◌∷◌, ◌++◌, length, Option, Some, None, Result, Ok, Err, codes}
+use Rattle.std.specs.Prelude.{ℕ, zero, suc, nat_le, Bool, true, false, ◌==◌, if◌then◌else◌, List, [], ◌∷◌, ◌++◌, length, Option, Some, None, Result, Ok, Err, codes}
 use Rattle.std.specs.Cmp.Lexicographic.{pointwise}
 use Rattle.plain_data.specs.Ends.{last, front}
 use Rattle.sdf_values.specs.TypeNames.{element_name}
 use Rattle.sdf_values.specs.declared.refusal.RefusalKind.{RefusalKind}
 use Rattle.sdf_values.specs.declared.refusal.RefusalKind.TheVariants.{Syntax, NotUtf8, UnknownType, ValueShape, DuplicateSpec, TooDeep}
 use Rattle.sdf_values.specs.declared.type_name.ElementType.{ElementType}
-use Rattle.sdf_values.specs.declared.type_name.TypeName.{TypeName}
 use Rattle.sdf_values.specs.declared.type_name.TheConstants.{ELEMENTS}
 use Rattle.sdf_values.specs.declared.value.DictType.{DictType}
 use Rattle.sdf_values.specs.declared.value.DictType.TheVariants as dict
-use Rattle.sdf_values.specs.declared.value.DictItem.{DictItem}
 use Rattle.sdf_values.specs.declared.value.Value.{Value}
 use Rattle.sdf_values.specs.declared.value.Value.TheVariants as value
 use Rattle.usda_lexer.specs.declared.token.Mark.TheVariants as mark
 use Rattle.usda_lexer.specs.declared.token.TokenKind.{TokenKind}
 use Rattle.usda_lexer.specs.declared.token.TokenKind.TheVariants as kind
 use Rattle.usda_lexer.specs.Meanings.{string_text}
-use Rattle.usda_lexer.specs.Words.{Word}
 use Rattle.usda_values.specs.declared.shape.Shape.{Shape}
 use Rattle.usda_values.specs.declared.shape.Shape.TheVariants.{Untyped}
 use Rattle.usda_values.specs.declared.level.Bracket.{Bracket}

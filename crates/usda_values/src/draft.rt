@@ -3,7 +3,7 @@ ghost use Rattle.std.specs.Prelude.{◌≡◌, Ok, OnOk};
 ghost use Rattle.plain_data.specs.Ends.{last};
 ghost use Rattle.usda_values.specs.Scalars.{token_value};
 ghost use Rattle.usda_values.specs.Shapes.{tuple_members, array_members, take_value};
-ghost use Rattle.usda_values.specs.Drafts.{draft_of, give_act, given, put_act, deeper, open_members, open_dict, new_level, close_act, go_out, find_element, typed_entry, type_act, array_act, key_act, equals_act, act_value, act_value_or_end, act_behind_member, act_entry, act_key, act_behind_type, act_type_end, act_equals, act_behind_entry, act_dictionary, value_act, is_complete, value_of};
+ghost use Rattle.usda_values.specs.Drafts.{draft_of, give_act, put_act, deeper, open_members, open_dict, new_level, close_act, go_out, find_element, type_act, key_act, act_value, act_value_or_end, act_behind_member, act_entry, act_key, act_behind_type, act_type_end, act_equals, act_behind_entry, act_dictionary, value_act, is_complete, value_of};
 ghost use Rattle.usda_values.specs.Reads.{Does};
 ghost use Rattle.usda_lexer.specs.Meanings.{string_text};
 

@@ -1,5 +1,5 @@
 //! The entries of a dictionary that is open.
-ghost use Rattle.std.specs.Prelude.{◌≡◌, ◌++◌, [], IfOk, OnOk};
+ghost use Rattle.std.specs.Prelude.{◌≡◌, [], IfOk, OnOk};
 ghost use Rattle.usda_values.specs.Entries.{has_key, with_entry, items_of};
 
 use plain_data::{Items, Text};

@@ -1,6 +1,5 @@
 //! Which texts between `<` and `>` are paths.
-ghost use Rattle.std.specs.Prelude.{◌≡◌, ◌≤◌, IfOk, length, drop};
-ghost use Rattle.std.specs.Str.{IsCharBoundary};
+ghost use Rattle.std.specs.Prelude.{◌≡◌, IfOk};
 ghost use Rattle.usda_values.specs.PathTexts.{is_path, begins_up, behind_ups, is_path_below, is_path_text};
 
 use plain_data::Text;

@@ -1,5 +1,5 @@
 //! Values and dictionaries from tokens.
-ghost use Rattle.std.specs.Prelude.{◌≡◌, IfOk};
+ghost use Rattle.std.specs.Prelude.{◌≡◌};
 ghost use Rattle.usda_values.specs.Drafts.{draft_of};
 ghost use Rattle.usda_values.specs.Reads.{AnswersRead, AnswersStep, kind_of_fault, place_of_fault};
 

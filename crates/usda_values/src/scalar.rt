@@ -3,7 +3,7 @@ ghost use Rattle.std.specs.Prelude.{◌≡◌, ◌≢◌, ◌<◌, ◌%◌, ◌^
 ghost use Rattle.sdf_values.specs.Conforms.{whole_bounds, is_between};
 ghost use Rattle.sdf_values.specs.Numbers.{zero_number};
 ghost use Rattle.sdf_values.specs.NumberTexts.{signed};
-ghost use Rattle.usda_values.specs.Scalars.{power_of, times_power, whole_of, is_plain_byte, is_plain, whole_or, by_value, as_written, number_value, string_value, path_value, word_value, token_value, time_of, finite_time, decimal_of_whole, take_bool_word, take_bool, take_real, take_time, take_number_time, take_timecode, take_text, take_asset, take_whole_value, take_element, tens_out, is_below_zero};
+ghost use Rattle.usda_values.specs.Scalars.{power_of, times_power, whole_of, is_plain_byte, is_plain, by_value, number_value, string_value, path_value, word_value, token_value, time_of, finite_time, decimal_of_whole, take_bool_word, take_bool, take_real, take_time, take_number_time, take_timecode, take_text, take_asset, take_whole_value, take_element, tens_out, is_below_zero};
 ghost use Rattle.usda_values.specs.Shapes.{for_metadata, take_typed, take_value};
 ghost use Rattle.usda_values.specs.Takes.{Gives};
 ghost use Rattle.usda_lexer.specs.Meanings.{number_of, string_text};

@@ -1,6 +1,5 @@
 //! Values as values of a type.
-ghost use Rattle.std.specs.Prelude.{◌≡◌, map, false};
-ghost use Rattle.usda_values.specs.Shapes.{take_typed};
+ghost use Rattle.std.specs.Prelude.{map};
 ghost use Rattle.usda_values.specs.Scalars.{take_element};
 ghost use Rattle.usda_values.specs.Takes.{Gives};
 ghost use Rattle.usda_values.specs.Shaping.{taken, take_all, take_counted, take_tuple, take_leaf, take_shape, AnswersShape, GivesAll};

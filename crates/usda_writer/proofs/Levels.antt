@@ -1,9 +1,8 @@
 -- The statements of a prim, level by level.
-use Rattle.std.proofs.Common.{◌≡◌, ℕ, zero, suc, ◌-◌, List, [], refl, sym, ap, arith}
+use Rattle.std.proofs.Common.{◌≡◌, ℕ, zero, suc, ◌-◌, List, [], refl, ap, arith}
 use Rattle.sdf_paths.specs.declared.element.Element.{Element}
 use Rattle.sdf_specs.specs.Layers.{SpecEntries}
 use Rattle.spec_parts.specs.declared.spec.Spec.{Spec}
-use Rattle.usda_writer.specs.Texts.{Text}
 use Rattle.usda_writer.specs.Canonical.{body_text, statements}
 
 pub no_level : (specs : SpecEntries) (levels level : ℕ) (path : List Element) (spec : Spec) → levels ≡ 0 → body_text specs levels level path spec ≡ []

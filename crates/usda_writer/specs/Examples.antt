@@ -1,22 +1,14 @@
 -- Layers and their texts: forms of lists, sublayers, relationships and variant sets, and two of connections.
-use Rattle.std.specs.Prelude.{◌≡◌, ℕ, ℤ, pos, negsuc, true, false, List, [], ◌∷◌, ◌++◌, codes, Option, Some, None}
-use Rattle.list_ops.specs.declared.op.ListOp.{ListOp}
-use Rattle.sdf_paths.specs.declared.element.Element.{Element}
+use Rattle.std.specs.Prelude.{◌≡◌, ℕ, ℤ, pos, negsuc, true, false, List, [], ◌∷◌, ◌++◌, codes, Some, None}
 use Rattle.sdf_paths.specs.declared.element.Element.TheVariants as path
 use Rattle.sdf_values.specs.Conforms.{one}
-use Rattle.sdf_values.specs.Scales.{Offset}
 use Rattle.sdf_values.specs.declared.decimal.Num.TheVariants.{Finite}
-use Rattle.sdf_values.specs.declared.type_name.ElementType.{ElementType}
 use Rattle.sdf_values.specs.declared.type_name.ElementType.TheVariants as element
-use Rattle.sdf_values.specs.declared.type_name.Precision.TheVariants.{Double}
-use Rattle.sdf_values.specs.declared.type_name.Width.TheVariants.{Three}
-use Rattle.sdf_values.specs.declared.type_name.TypeName.{TypeName}
-use Rattle.sdf_values.specs.declared.value.DictType.TheVariants.{Plain, Dictionary}
 use Rattle.sdf_values.specs.declared.value.Value.{Value}
 use Rattle.sdf_values.specs.declared.value.Value.TheVariants as value
 use Rattle.spec_parts.specs.Blank.{blank_arcs, blank_body, blank_head, blank_spec, no_edits}
 use Rattle.sdf_specs.specs.Layers.{LayerTable}
-use Rattle.spec_parts.specs.declared.items.Specifier.TheVariants.{Def, Over, Class}
+use Rattle.spec_parts.specs.declared.items.Specifier.TheVariants.{Over, Class}
 use Rattle.spec_properties.specs.declared.property.Property.TheVariants.{Attr, Rel}
 use Rattle.usda_writer.specs.Canonical.{canonical}
 

@@ -11,7 +11,6 @@ use Rattle.sdf_values.specs.declared.value.Value.TheVariants as value
 use Rattle.sdf_values.specs.declared.type_name.ElementType.TheVariants as element
 use Rattle.spec_properties.specs.Entries.{MetaEntries, SelectionEntries}
 use Rattle.spec_parts.specs.declared.items.SubLayer.{SubLayer}
-use Rattle.spec_parts.specs.declared.spec.Head.{Head}
 use Rattle.spec_parts.specs.declared.spec.Spec.{Spec}
 use Rattle.sdf_paths.specs.Paths.{path_text}
 use Rattle.usda_writer.specs.Texts.{Text, bracketed, explicit_list, reference_text, sublayer_text}

@@ -1,12 +1,11 @@
 -- The lines of a property.
-use Rattle.std.specs.Prelude.{ℕ, ℤ, Bool, true, false, if◌then◌else◌, List, [], ◌∷◌, ◌++◌, codes, Option, Some, None}
+use Rattle.std.specs.Prelude.{ℕ, ℤ, Bool, if◌then◌else◌, List, [], ◌∷◌, ◌++◌, codes, Option, Some, None}
 use Rattle.std.specs.List.{flat_map}
 use Rattle.list_ops.specs.declared.op.ListOp.{ListOp}
 use Rattle.sdf_paths.specs.Paths.{path_text}
 use Rattle.sdf_paths.specs.declared.element.Element.{Element}
-use Rattle.sdf_values.specs.Print.{blanks, deeper, print, time_text}
+use Rattle.sdf_values.specs.Print.{deeper, print, time_text}
 use Rattle.sdf_values.specs.TypeNames.{type_text}
-use Rattle.sdf_values.specs.declared.type_name.TypeName.{TypeName}
 use Rattle.sdf_values.specs.declared.value.Value.{Value}
 use Rattle.spec_properties.specs.Entries.{MetaEntries, SampleEntries}
 use Rattle.spec_properties.specs.declared.property.Property.{Property}

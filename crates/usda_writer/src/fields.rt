@@ -1,5 +1,5 @@
 //! Lines of metadata.
-ghost use Rattle.std.specs.Prelude.{◌≡◌, ◌++◌, OnOk, IfOk, IsTrue, codes, map, string_bytes};
+ghost use Rattle.std.specs.Prelude.{◌≡◌, ◌++◌, OnOk, IfOk, codes, map, string_bytes};
 ghost use Rattle.std.specs.List.{flat_map};
 ghost use Rattle.sdf_values.specs.Print.{print};
 ghost use Rattle.usda_writer.specs.Fields.{line, is_comment, comment_line, key_line, meta_lines, selection_item, selection_lines, spec_lines, sublayer_lines};

@@ -1,6 +1,6 @@
 //! All that the program does.
 
-ghost use Rattle.std.specs.Prelude.{◌≡◌, ◌≢◌, ◌≤◌, ◌↔◌, ◌++◌, ◌⊎◌, ℕ, List, [], map, take, length, Ok, Err, Some, None, false, IfSome, IfOk, IfErr, string_bytes};
+ghost use Rattle.std.specs.Prelude.{◌≡◌, ◌≢◌, ◌≤◌, ◌++◌, ◌⊎◌, ℕ, List, [], map, length, Ok, Err, Some, None, false, IfSome, IfOk, IfErr, string_bytes};
 ghost use Rattle.std.specs.Io.KnownBytes.{Appends};
 ghost use Rattle.io_edges.specs.Causes.{IsCounted, Rose};
 ghost use Rattle.io_edges.specs.Stores.{file_named};
@@ -10,9 +10,8 @@ ghost use Rattle.session_script.specs.Told.{BothTold};
 ghost use Rattle.session_script.specs.Reading.{steps_of};
 ghost use Rattle.stage_session.specs.Sessions.{most_paths, opening, opening_text, stage_after};
 ghost use Rattle.usdstage.specs.Command.{command_of};
-ghost use Rattle.usdstage.specs.Course.{nothing, onto, unopened, turn, flat_course, session_course, carried, course};
-ghost use Rattle.usdstage.specs.Outcome.{AreCounted, ByFiles, Carries, Ends, EndsAsDue, EndsWith, IsFront, IsScript, RepliesToLines, Takes};
-ghost use Rattle.usdstage.specs.declared.words.Verb.{Verb as SaidVerb};
+ghost use Rattle.usdstage.specs.Course.{unopened, turn, flat_course, session_course, carried, course};
+ghost use Rattle.usdstage.specs.Outcome.{AreCounted, ByFiles, Carries, EndsAsDue, EndsWith, IsScript, RepliesToLines, Takes};
 ghost use Rattle.usdstage.specs.declared.words.Verb.TheVariants as verbs;
 
 use crate::output::{Written, write_all};

@@ -1,7 +1,6 @@
 //! The words that are a command.
 
 ghost use Rattle.std.specs.Prelude.{◌≡◌, IfOk, map, string_bytes};
-ghost use Rattle.std.specs.Option.{option_map};
 ghost use Rattle.script_words.specs.Words.{layer_named};
 ghost use Rattle.usdstage.specs.Command.{begins_with_dash, verb_of, blank, with_root, with_session, wanting, with_word, take_word, take_words, finished, command_of};
 

@@ -1,5 +1,5 @@
 -- The values of an attribute by its specs.
-use Rattle.std.specs.Prelude.{Bool, List, [], ◌∷◌, ◌++◌, cond, map, Option}
+use Rattle.std.specs.Prelude.{Bool, List, [], ◌∷◌, cond, map, Option}
 use Rattle.sdf_values.specs.declared.value.Value.{Value}
 use Rattle.spec_properties.specs.Entries.{SampleEntries}
 use Rattle.prim_view.specs.declared.fault.PrimFault.{PrimFault}

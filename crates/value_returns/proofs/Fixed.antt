@@ -15,7 +15,7 @@ use Rattle.sdf_values.specs.declared.value.DictType.{DictType}
 use Rattle.sdf_values.specs.declared.value.DictType.TheVariants as dict_type
 use Rattle.sdf_values.specs.declared.value.Value.{Value}
 use Rattle.sdf_values.specs.declared.value.Value.TheVariants as value
-use Rattle.sdf_values.proofs.Values.{Each, Cases, by_cases}
+use Rattle.sdf_values.proofs.Values.{Each, by_cases}
 use Rattle.usda_lexer.specs.Blanks.{begins}
 use Rattle.usda_lexer.specs.Meanings.{path_text}
 use Rattle.sdf_paths.specs.Reader.{path_of}

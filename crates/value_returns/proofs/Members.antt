@@ -13,7 +13,7 @@ use Rattle.sdf_values.specs.declared.value.DictType.{DictType}
 use Rattle.sdf_values.specs.declared.value.Value.{Value}
 use Rattle.sdf_values.specs.declared.value.Value.TheOpen.{Value-F}
 use Rattle.sdf_values.specs.declared.value.Value.TheVariants as value
-use Rattle.sdf_values.proofs.Values.{Each, Cases, by_cases}
+use Rattle.sdf_values.proofs.Values.{Each, by_cases}
 use Rattle.usda_values.specs.Shapes.{entry_shape}
 use Rattle.usda_values.specs.declared.shape.Shape.{Shape}
 use Rattle.usda_values.specs.declared.shape.Shape.TheVariants.{Untyped, Metadata, Typed, Dictionary}

@@ -4,7 +4,7 @@ use Rattle.sdf_values.specs.declared.value.DictItem.{DictItem, fold-DictItem}
 use Rattle.sdf_values.specs.declared.value.Value.{Value, fold-Value}
 use Rattle.sdf_values.specs.declared.value.Value.TheOpen.{Value-F, DictItem-F}
 use Rattle.sdf_values.specs.declared.value.Value.TheVariants as value
-use Rattle.sdf_values.proofs.Values.{Each, Cases, by_cases}
+use Rattle.sdf_values.proofs.Values.{Each, by_cases}
 use Rattle.sdf_values.proofs.Values as fold
 
 -- a value again, and its members

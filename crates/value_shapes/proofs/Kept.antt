@@ -13,7 +13,7 @@ use Rattle.sdf_values.specs.declared.value.DictItem.{fold-DictItem}
 use Rattle.sdf_values.specs.declared.value.Value.{Value}
 use Rattle.sdf_values.specs.declared.value.Value.TheOpen.{Value-F}
 use Rattle.sdf_values.specs.declared.value.Value.TheVariants as value
-use Rattle.sdf_values.proofs.Values.{Each, Cases, by_cases}
+use Rattle.sdf_values.proofs.Values.{Each, by_cases}
 use Rattle.usda_values.specs.Scalars.{Taken, take_element}
 use Rattle.usda_values.specs.Shaping.{Taking, TakenAll, before_all, take_all, take_counted, as_tuple, as_array, take_tuple, take_leaf, take_step, take_item, taken}
 use Rattle.usda_values.proofs.Wholes.{element_taken}

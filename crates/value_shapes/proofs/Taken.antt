@@ -12,7 +12,7 @@ use Rattle.sdf_values.specs.declared.value.Value.TheVariants as value
 use Rattle.usda_values.specs.Scalars.{Taken, take_element}
 use Rattle.usda_values.specs.Shaping.{Taking, TakenAll, before_all, take_all, take_counted, as_tuple, as_array, take_tuple, take_leaf, take_step, take_item, taken}
 use Rattle.sdf_values.specs.Proper.{all_true}
-use Rattle.sdf_values.proofs.Values.{Each, Cases, by_cases}
+use Rattle.sdf_values.proofs.Values.{Each, by_cases}
 use Rattle.value_shapes.specs.Held.{is_held, held_step, held_item}
 use Rattle.value_shapes.specs.Meanings.{SameMeanings, tuple, array, none, more}
 use Rattle.sdf_values.proofs.Values as fold

@@ -5,7 +5,7 @@ use Rattle.sdf_values.specs.Conforms.{holds, is_block, is_block_step, is_block_i
 use Rattle.sdf_values.specs.declared.type_name.TypeName.{TypeName}
 use Rattle.sdf_values.specs.declared.value.Value.{Value}
 use Rattle.sdf_values.specs.declared.value.Value.TheVariants as value
-use Rattle.sdf_values.proofs.Values.{Cases, by_cases}
+use Rattle.sdf_values.proofs.Values.{by_cases}
 use Rattle.usda_values.specs.Shaping.{take_shape, take_shape_step}
 use Rattle.value_shapes.specs.Held.{is_held}
 use Rattle.value_shapes.specs.Meanings.{SameMeaning, itself}

@@ -1,5 +1,5 @@
 //! A value as one of a type, and a value that is read as one.
-ghost use Rattle.std.specs.Prelude.{◌≡◌, true, Ok, Err, IfOk};
+ghost use Rattle.std.specs.Prelude.{◌≡◌, true, IfOk};
 ghost use Rattle.sdf_values.specs.Conforms.{conforms};
 ghost use Rattle.sdf_values.specs.declared.value.Value.{Value};
 ghost use Rattle.usda_values.specs.Drafts.{draft_of};

@@ -10,7 +10,7 @@ use Rattle.sdf_values.specs.declared.value.DictItem.{DictItem, fold-DictItem}
 use Rattle.sdf_values.specs.declared.value.Value.{Value}
 use Rattle.sdf_values.specs.declared.value.Value.TheOpen.{Value-F}
 use Rattle.sdf_values.specs.declared.value.Value.TheVariants as value
-use Rattle.sdf_values.proofs.Values.{Each, Cases, by_cases}
+use Rattle.sdf_values.proofs.Values.{Each, by_cases}
 use Rattle.value_texts.specs.Readable.{depth, depth_step, depth_item, deepest}
 use Rattle.sdf_values.proofs.Values as fold
 use Rattle.value_texts.proofs.Leaves.{no_array}

@@ -7,7 +7,7 @@ use Rattle.sdf_values.specs.declared.value.DictItem.{fold-DictItem}
 use Rattle.sdf_values.specs.declared.value.Value.{Value}
 use Rattle.sdf_values.specs.declared.value.Value.TheOpen.{Value-F}
 use Rattle.sdf_values.specs.declared.value.Value.TheVariants as value
-use Rattle.sdf_values.proofs.Values.{Each, Cases, by_cases}
+use Rattle.sdf_values.proofs.Values.{Each, by_cases}
 use Rattle.usda_values.specs.declared.shape.Shape.TheVariants.{Typed}
 use Rattle.value_texts.specs.Readable.{Reading, is_read_as, reading_step, reading_item, typed}
 use Rattle.sdf_values.proofs.Values as fold

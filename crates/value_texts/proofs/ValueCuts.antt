@@ -16,7 +16,7 @@ use Rattle.sdf_values.specs.declared.value.DictItem.{DictItem, fold-DictItem}
 use Rattle.sdf_values.specs.declared.value.Value.{Value}
 use Rattle.sdf_values.specs.declared.value.Value.TheOpen.{Value-F}
 use Rattle.sdf_values.specs.declared.value.Value.TheVariants as value
-use Rattle.sdf_values.proofs.Values.{Each, Cases, by_cases}
+use Rattle.sdf_values.proofs.Values.{Each, by_cases}
 use Rattle.value_texts.specs.Cuts.{Said, IsCut}
 use Rattle.value_texts.specs.Follows.{may_follow, ends_name, is_border}
 use Rattle.value_texts.specs.Writable.{writable_step, writable_item, is_writable, is_writable_item}

@@ -5,7 +5,7 @@ use Rattle.sdf_values.specs.Print.{num_text, time_text, whole_text, quoted, asse
 use Rattle.sdf_values.specs.declared.value.Value.{Value}
 use Rattle.sdf_values.specs.declared.value.Value.TheOpen.{Value-F}
 use Rattle.sdf_values.specs.declared.value.Value.TheVariants as value
-use Rattle.sdf_values.proofs.Values.{Cases, by_cases}
+use Rattle.sdf_values.proofs.Values.{by_cases}
 use Rattle.usda_values.specs.declared.level.Bracket.TheVariants as bracket
 use Rattle.usda_values.specs.declared.shape.Shape.{Shape}
 use Rattle.usda_values.specs.declared.draft.ValueDraft.{ValueDraft}

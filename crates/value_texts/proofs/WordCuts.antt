@@ -12,7 +12,7 @@ use Rattle.sdf_values.specs.declared.value.DictType.{DictType}
 use Rattle.sdf_values.specs.declared.value.DictType.TheVariants as dict_type
 use Rattle.sdf_values.specs.declared.value.DictItem.{DictItem}
 use Rattle.sdf_values.specs.declared.value.Value.{Value}
-use Rattle.sdf_values.proofs.Values.{Each, Cases, by_cases}
+use Rattle.sdf_values.proofs.Values.{Each, by_cases}
 use Rattle.usda_lexer.specs.declared.token.LexFault.{LexFault}
 use Rattle.usda_lexer.specs.Words.{Word as Token, lexing_from}
 use Rattle.usda_words.specs.Words.{Word, kind_of, is_dot, if_joined, kind_behind, word_at, behind, words_behind, words_in}

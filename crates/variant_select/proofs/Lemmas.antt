@@ -4,11 +4,11 @@ use Rattle.std.specs.Option.{option_or}
 use Rattle.std.specs.Ordering.{nat_cmp}
 use Rattle.std.specs.Cmp.Lexicographic.{slice_cmp}
 use Rattle.std.proofs.lemmas.Map.Lookups.{exact_bytes}
-use Rattle.variant_select.specs.Rounds.{same_name, opinion_on}
-use Rattle.std.proofs.Common.{◌≡◌, ℕ, zero, suc, ◌+◌, ◌-◌, ◌<◌, ◌≤◌, List, [], ◌∷◌, ◌++◌, refl, ap, sym, ◌∙◌, subst, append-nil, length, length-append, arith}
+use Rattle.variant_select.specs.Rounds.{same_name}
+use Rattle.std.proofs.Common.{◌≡◌, ℕ, zero, suc, ◌+◌, ◌-◌, List, [], ◌∷◌, ◌++◌, refl, ap, sym, ◌∙◌, append-nil, length, length-append, arith}
 use Rattle.std.specs.Cmp.{Equal-is}
 use Rattle.variant_select.specs.declared.met.Met.{Met}
-use Rattle.variant_select.specs.Rounds.{after_rounds, after_round, choices, round_limit, decided}
+use Rattle.variant_select.specs.Rounds.{after_rounds, after_round, choices}
 
 pub from_none : (f : List (List ℕ × List ℕ) → List Met) (k : ℕ) → k ≡ 16 → after_rounds f k [] ≡ choices f
 unfolding choices

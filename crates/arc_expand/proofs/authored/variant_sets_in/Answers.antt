@@ -1,4 +1,4 @@
-use Rattle.std.proofs.Common.{◌∙◌, ap, Bool, List, map, reverse}
+use Rattle.std.proofs.Common.{◌∙◌, ap, Bool, List, reverse}
 use Rattle.std.proofs.lemmas.Result.{IfOk-weaker}
 use Rattle.list_ops.specs.declared.op.ListOp.{ListOp}
 use Rattle.list_ops.specs.ListEdits.{folded}

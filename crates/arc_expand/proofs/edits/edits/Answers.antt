@@ -1,7 +1,6 @@
-use Rattle.std.proofs.Common.{◌∙◌, sym, ap, List, ◌∷◌, [], ◌++◌}
-use Rattle.list_ops.specs.declared.op.ListOp.{ListOp}
+use Rattle.std.proofs.Common.{◌∙◌, sym, ap, ◌∷◌, [], ◌++◌}
 use Rattle.composition.specs.Texts.{Text}
-use Rattle.composition.specs.Arcs.{Item, Opinion}
+use Rattle.composition.specs.Arcs.{Opinion}
 use Rattle.arc_expand.specs.Authoring.{edit_of}
 use Rattle.arc_expand.proofs.Kept.{kept_more, kept_same, edit_some, edit_none}
 use Rattle.arc_expand.proofs.edits.edits.Goals as goal

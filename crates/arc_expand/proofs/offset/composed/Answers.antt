@@ -1,4 +1,4 @@
-use Rattle.std.proofs.Common.{◌≡◌, ◌∙◌, ap, arith}
+use Rattle.std.proofs.Common.{◌∙◌, ap, arith}
 use Rattle.sdf_values.specs.Scales.{Offset, composed}
 use Rattle.arc_expand.proofs.Offsets.{scaled, shifted, least}
 use Rattle.arc_expand.proofs.offset.composed.Goals as goal

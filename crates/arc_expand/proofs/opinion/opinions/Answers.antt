@@ -1,6 +1,4 @@
-use Rattle.std.proofs.Common.{◌≡◌, ◌∙◌, sym, ap, Option, Some, None}
-use Rattle.std.specs.Option.{option_copied}
-use Rattle.spec_parts.specs.declared.spec.Spec.{Spec}
+use Rattle.std.proofs.Common.{◌∙◌, sym, Some}
 use Rattle.layer_set.specs.LookUps.{look_ups}
 use Rattle.arc_expand.specs.Authoring.{opinion_of}
 use Rattle.arc_expand.proofs.Kept.{kept_more, kept_same, opinion_some, opinion_none}

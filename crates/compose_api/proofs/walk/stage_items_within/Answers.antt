@@ -1,4 +1,4 @@
-use Rattle.std.proofs.Common.{rules, ◌≡◌, ◌∙◌, ap, sym, ◌++◌, ◌<◌, length, arith, Err}
+use Rattle.std.proofs.Common.{rules, ◌≡◌, ◌∙◌, ap, ◌++◌, ◌<◌, length, arith, Err}
 use Rattle.compose_api.specs.Stage.{walked, stage_of}
 use Rattle.compose_api.specs.declared.refused.StageRefused.TheVariants as StageRefused
 use Rattle.compose_api.proofs.walk.stage_items_within.Goals as goal

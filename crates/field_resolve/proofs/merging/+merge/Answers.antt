@@ -1,4 +1,4 @@
-use Rattle.std.proofs.Common.{◌≡◌, ◌∙◌, ap, sym, Option, Some, None}
+use Rattle.std.proofs.Common.{◌≡◌, ◌∙◌, ap, sym, Some, None}
 use Rattle.std.specs.Option.{option_copied}
 use Rattle.sdf_values.specs.declared.value.Value.TheVariants as value
 use Rattle.std.proofs.lemmas.Result.{IfOk-weaker}

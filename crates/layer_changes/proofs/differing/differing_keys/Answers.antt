@@ -1,6 +1,6 @@
-use Rattle.std.proofs.Common.{◌≡◌, true, false}
+use Rattle.std.proofs.Common.{true}
 use Rattle.layer_changes.specs.Changed.{IsChangedKey}
-use Rattle.layer_changes.proofs.Walks.{keeps_told, keeps_whole}
+use Rattle.layer_changes.proofs.Walks.{keeps_told}
 use Rattle.layer_changes.proofs.differing.differing_keys.Goals as goal
 
 pub loop-key-preserved : goal.loop-key-preserved

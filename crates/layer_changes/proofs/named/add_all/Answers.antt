@@ -1,5 +1,5 @@
 use Rattle.std.proofs.Common.{subst, take}
-use Rattle.std.specs.List.{All, Contains}
+use Rattle.std.specs.List.{Contains}
 use Rattle.layer_changes.specs.declared.part.Part.{Part}
 use Rattle.layer_changes.proofs.Walks.{more_hold, all_hold, parts_kept}
 use Rattle.layer_changes.proofs.named.add_all.Goals as goal

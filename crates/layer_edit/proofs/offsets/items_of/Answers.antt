@@ -1,6 +1,6 @@
 use Rattle.std.proofs.Common.{◌∙◌, sym}
 use Rattle.layer_edit.specs.Offsets.{item_of}
-use Rattle.layer_edit.proofs.AllOf.{one_more, none_more, all_done}
+use Rattle.layer_edit.proofs.AllOf.{none_more}
 use Rattle.layer_edit.proofs.offsets.items_of.Goals as goal
 
 pub returns-in-None : goal.returns-in-None

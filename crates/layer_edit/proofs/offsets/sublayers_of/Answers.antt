@@ -1,6 +1,6 @@
 use Rattle.std.proofs.Common.{◌∙◌, sym}
 use Rattle.layer_edit.specs.Offsets.{sublayer_of}
-use Rattle.layer_edit.proofs.AllOf.{one_more, none_more, all_done}
+use Rattle.layer_edit.proofs.AllOf.{none_more}
 use Rattle.layer_edit.proofs.offsets.sublayers_of.Goals as goal
 
 pub returns-in-None : goal.returns-in-None

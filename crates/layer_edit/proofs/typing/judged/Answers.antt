@@ -1,4 +1,4 @@
-use Rattle.std.proofs.Common.{◌∙◌, refl}
+use Rattle.std.proofs.Common.{◌∙◌}
 use Rattle.usda_fields.specs.Keys.{key_rule, judged}
 use Rattle.layer_edit.proofs.Judging.{judged_ok, judged_err}
 use Rattle.layer_edit.proofs.typing.judged.Goals as goal

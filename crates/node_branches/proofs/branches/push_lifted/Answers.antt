@@ -1,4 +1,4 @@
-use Rattle.std.proofs.Common.{◌≡◌, ◌∙◌}
+use Rattle.std.proofs.Common.{◌∙◌}
 use Rattle.node_branches.proofs.Cutting.{lifted_own, lifted_selected, lifted_refused, lifted_followed}
 use Rattle.node_branches.proofs.branches.push_lifted.Goals as goal
 

@@ -1,7 +1,7 @@
-use Rattle.std.proofs.Common.{rules, ◌≡◌, sym, ◌∙◌, ap, refl, true, List, Option, Some, None, is_some}
-use Rattle.sdf_paths.specs.Paths.{IsPath, replaced}
+use Rattle.std.proofs.Common.{◌≡◌, sym, ◌∙◌, ap, refl, true, List, Option, Some, None, is_some}
+use Rattle.sdf_paths.specs.Paths.{replaced}
 use Rattle.sdf_paths.specs.declared.element.Element.{Element}
-use Rattle.path_maps.specs.Maps.{through_class, outside_class}
+use Rattle.path_maps.specs.Maps.{outside_class}
 use Rattle.path_maps.proofs.moves.through_class.Goals as goal
 
 -- a path that moves is the answer

@@ -1,4 +1,4 @@
-use Rattle.std.proofs.Common.{◌≡◌, ◌∙◌, sym, ap, refl, arith, ◌<◌, ◌+◌, ◌-◌, List, drop}
+use Rattle.std.proofs.Common.{◌≡◌, ◌∙◌, ap, refl, arith, ◌+◌, ◌-◌, List, drop}
 use Rattle.prim_nodes.specs.declared.arcs.Branch.{Branch}
 use Rattle.composition.specs.Trees.{size, lifted_branches}
 use Rattle.prim_trees.specs.declared.tree.Child.{Child}

@@ -2,7 +2,6 @@ use Rattle.std.proofs.Common.{◌∙◌, ap, refl, arith}
 use Rattle.composition.specs.Nodes.{Node}
 use Rattle.composition.specs.Paths.{limits}
 use Rattle.layer_set.specs.LookUps.{look_ups}
-use Rattle.prim_trees.specs.Meant.{meant}
 use Rattle.prim_index.specs.Depths.{tree_below}
 use Rattle.prim_index.specs.Reading.{said}
 use Rattle.prim_index.proofs.Settled.{bare_stage, stage_framed}

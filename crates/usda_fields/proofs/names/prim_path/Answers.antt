@@ -1,4 +1,4 @@
-use Rattle.std.proofs.Common.{◌≡◌, ◌∙◌, ◌<◌, ◌≤◌, length, ap, sym, arith, List, ℕ}
+use Rattle.std.proofs.Common.{◌<◌, length, ap, arith, List, ℕ}
 use Rattle.sdf_paths.specs.Paths.{depth}
 use Rattle.usda_fields.proofs.Below.{prim_path}
 use Rattle.usda_fields.proofs.names.prim_path.Goals as goal

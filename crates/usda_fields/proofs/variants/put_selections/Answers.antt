@@ -1,4 +1,4 @@
-use Rattle.std.proofs.Common.{◌≡◌, ◌∙◌, [], ap, sym}
+use Rattle.std.proofs.Common.{◌∙◌, [], ap, sym}
 use Rattle.usda_fields.specs.Variants.{with_selection, said}
 use Rattle.usda_fields.proofs.Selected.{selections_more}
 use Rattle.usda_fields.proofs.variants.put_selections.Goals as goal

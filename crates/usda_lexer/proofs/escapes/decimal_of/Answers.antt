@@ -1,4 +1,4 @@
-use Rattle.std.proofs.Common.{◌≡◌, ◌∙◌, sym, ap, refl, Option, Some, None, Ok, Result}
+use Rattle.std.proofs.Common.{◌≡◌, sym, refl, Option, Some, None, Ok}
 use Rattle.sdf_values.specs.Numbers.{DecimalNumber}
 use Rattle.usda_lexer.specs.Decimals.{decimal_of}
 use Rattle.usda_lexer.proofs.DecimalLaw.{decimal_law}

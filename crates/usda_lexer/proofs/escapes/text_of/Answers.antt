@@ -1,8 +1,7 @@
-use Rattle.std.proofs.Common.{◌≡◌, ◌∙◌, List, ℕ, sym, ap, subst, Option, Some, None}
+use Rattle.std.proofs.Common.{◌≡◌, ◌∙◌, sym, ap, subst, Some}
 use Rattle.std.specs.Str.{IsUtf8}
 use Rattle.std.specs.String.{string_bytes}
 use Rattle.std.proofs.lemmas.Str.{IsUtf8-string_bytes}
-use Rattle.usda_lexer.specs.Meanings.{if_utf8}
 use Rattle.usda_lexer.proofs.Backslashes.{is_text, is_no_text}
 use Rattle.usda_lexer.proofs.escapes.text_of.Goals as goal
 

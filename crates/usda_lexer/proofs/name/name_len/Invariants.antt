@@ -1,4 +1,4 @@
-use Rattle.std.proofs.Common.{◌≡◌, ◌≤◌, ◌+◌, drop, length, false}
+use Rattle.std.proofs.Common.{◌≡◌, ◌+◌, drop, length, false}
 use Rattle.std.specs.Str.{chars, IsUtf8, IsCharBoundary}
 use Rattle.usda_lexer.specs.Names.{name_end}
 use Rattle.usda_lexer.proofs.name.name_len.Given as goal

@@ -1,5 +1,4 @@
-use Rattle.std.proofs.Common.{◌≡◌, ◌∙◌, sym, ap, subst, arith, ℕ, List, ◌∷◌, Result, Ok, Err}
-use Rattle.std.specs.Result.{IfOk}
+use Rattle.std.proofs.Common.{◌∙◌, sym, arith}
 use Rattle.usda_lexer.proofs.Cuts.{cut_after_first, found_boundary}
 use Rattle.usda_lexer.proofs.tokens.minus_or_mark.Goals as goal
 

@@ -1,4 +1,4 @@
-use Rattle.std.proofs.Common.{◌≡◌, ◌<◌, ◌∙◌, sym, subst, arith, ℕ, List}
+use Rattle.std.proofs.Common.{◌<◌, subst, arith, ℕ, List}
 use Rattle.usda_lexer.specs.Forms.{EndsIn}
 use Rattle.usda_lexer.proofs.Cuts.{ends_boundary}
 use Rattle.usda_lexer.proofs.tokens.number_or_mark.Goals as goal

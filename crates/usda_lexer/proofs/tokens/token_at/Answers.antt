@@ -1,4 +1,4 @@
-use Rattle.std.proofs.Common.{◌≡◌, arith}
+use Rattle.std.proofs.Common.{arith}
 use Rattle.usda_lexer.proofs.tokens.token_at.Goals as goal
 
 pub overflow_add-result : goal.overflow_add-result

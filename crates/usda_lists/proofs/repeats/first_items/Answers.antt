@@ -1,4 +1,4 @@
-use Rattle.std.proofs.Common.{◌≡◌, ◌∙◌, Bool, List, Result, Ok, Err, subst, ap}
+use Rattle.std.proofs.Common.{◌≡◌, ◌∙◌, Bool, List, Result, subst, ap}
 use Rattle.std.specs.Result.{IfOk}
 use Rattle.list_ops.specs.ListEdits.{firsts}
 use Rattle.spec_parts.specs.declared.items.RefItem.{RefItem}

@@ -1,4 +1,4 @@
-use Rattle.std.proofs.Common.{◌≡◌, arith}
+use Rattle.std.proofs.Common.{arith}
 use Rattle.std.proofs.lemmas.Int.{ints}
 use Rattle.usda_values.proofs.Powers.{power_fits}
 use Rattle.usda_values.proofs.scalar.power_of.Goals as goal

@@ -1,4 +1,4 @@
-use Rattle.std.proofs.Common.{◌≡◌, sym, subst, refl}
+use Rattle.std.proofs.Common.{sym, subst, refl}
 use Rattle.sdf_values.specs.Numbers.{IsDecimal}
 use Rattle.usda_values.proofs.TimeLaw.{time_found, time_none}
 use Rattle.usda_values.proofs.scalar.time_of.Goals as goal

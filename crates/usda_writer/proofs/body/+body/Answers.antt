@@ -1,4 +1,4 @@
-use Rattle.std.proofs.Common.{◌≡◌, ◌++◌, List, ℕ, sym, ap, ◌∙◌, append-nil, append_assoc, arith, rules, refl}
+use Rattle.std.proofs.Common.{sym, ap, append-nil, append_assoc, arith, rules, refl}
 use Rattle.std.specs.Option.{option_map}
 use Rattle.sdf_paths.specs.declared.element.Element.TheVariants.{Prim, Selection}
 use Rattle.sdf_specs.specs.Found.{spec_below}

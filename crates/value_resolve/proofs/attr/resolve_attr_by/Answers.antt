@@ -1,4 +1,4 @@
-use Rattle.std.proofs.Common.{◌∙◌, ap, refl, arith, List, ◌++◌, take}
+use Rattle.std.proofs.Common.{◌∙◌, ap, refl, arith, List, ◌++◌}
 use Rattle.std.proofs.lemmas.List.{take_all}
 use Rattle.prim_view.specs.declared.fault.PrimFault.{PrimFault}
 use Rattle.composition.specs.Values.{given}

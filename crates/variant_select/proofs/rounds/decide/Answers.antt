@@ -1,4 +1,4 @@
-use Rattle.std.proofs.Common.{◌≡◌, ℕ, ◌+◌, ◌-◌, suc, length, ◌++◌, refl, ap, sym, ◌∙◌, arith}
+use Rattle.std.proofs.Common.{◌≡◌, ◌+◌, ◌-◌, suc, length, ◌++◌, refl, ap, sym, ◌∙◌, arith}
 use Rattle.variant_select.specs.Rounds.{after_rounds, after_round, decided, choices}
 use Rattle.variant_select.proofs.Lemmas.{from_none, one_round, no_round, no_more, none_added}
 use Rattle.variant_select.proofs.rounds.decide.Goals as goal

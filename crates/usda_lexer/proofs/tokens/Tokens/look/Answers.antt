@@ -1,4 +1,4 @@
-use Rattle.std.proofs.Common.{◌≡◌, ◌∙◌, ◌≤◌, ◌<◌, ◌+◌, sym, ap, subst, arith, ℕ, List, drop, length, Ok, Err, length-drop}
+use Rattle.std.proofs.Common.{◌≡◌, ◌∙◌, ◌+◌, sym, ap, subst, arith, ℕ, List, drop, Ok, Err}
 use Rattle.std.specs.Str.{IsCharBoundary}
 use Rattle.usda_lexer.specs.declared.token.LexFault.TheVariants.{Unclosed}
 use Rattle.usda_lexer.specs.Blanks.{gap}

@@ -1,7 +1,6 @@
-use Rattle.std.proofs.Common.{◌≡◌, ◌∙◌, Bool, true, false, List, ℕ, sym, ap, refl, subst}
+use Rattle.std.proofs.Common.{◌∙◌, List, ℕ, sym, ap, subst}
 use Rattle.std.specs.Str.{is_utf8, IsUtf8}
 use Rattle.std.proofs.lemmas.Str.{IsCharBoundary-start, is_utf8-from_IsUtf8}
-use Rattle.usda_lexer.specs.Words.{Lexer}
 use Rattle.usda_lexer.specs.declared.token.LexFault.TheVariants.{NotUtf8}
 use Rattle.usda_lexer.proofs.Cuts.{not_utf8}
 use Rattle.usda_lexer.proofs.tokens.Tokens.new.Goals as goal

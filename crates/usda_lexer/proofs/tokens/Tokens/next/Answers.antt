@@ -1,5 +1,5 @@
-use Rattle.std.proofs.Common.{◌≡◌, ◌∙◌, ◌<◌, sym, ap, refl, arith, Ok, Err, Some, None}
-use Rattle.usda_lexer.specs.Words.{Lexer, AnswersNext}
+use Rattle.std.proofs.Common.{◌<◌, ap, refl, arith, Ok, Err, Some, None}
+use Rattle.usda_lexer.specs.Words.{Lexer}
 use Rattle.usda_lexer.proofs.Steps.{answers_next, left_none, left_fault}
 use Rattle.usda_lexer.proofs.tokens.Tokens.next.Goals as goal
 

@@ -1,4 +1,3 @@
-use Rattle.std.proofs.Common.{◌≡◌}
 use Rattle.usda_lexer.proofs.Steps.{answers_peek}
 use Rattle.usda_lexer.proofs.tokens.Tokens.peek.Goals as goal
 
