@@ -16,8 +16,8 @@ use class_arcs::same_kind;
 use layer_set::World;
 use list_ops::push_all;
 use node_branches::{
-    above_target, arc_child, chosen_child, front, lifted_branches, node_at, node_in_round, own_branches,
-    with_first,
+    above_target, arc_child, chosen_child, front, lifted_branches, node_at, node_in_round,
+    own_branches, with_first,
 };
 use path_maps::ArcKind;
 use plain_data::{Items, copy};
