@@ -11,6 +11,7 @@ use Rattle.usda_grammar.proofs.Clear.{IsClear, is_good-at, clear-after, clear-la
 use Rattle.usda_grammar.proofs.Parsing.{step_sound, done_text, completed, shortest_of, refused as no_text, text as of_text}
 use Rattle.usda_machine.specs.Reading.{after_act as after_act_by, after_step as after_step_by, at_end as at_end_by, run as run_by}
 use Rattle.usda_machine.specs.Texts.{Makes as MakesBy, Make as MakeBy, kinds as kinds_by, HasRead as HasReadBy, IsSyntax as IsSyntaxBy, IsRefusedAct as IsRefusedActBy, IsAtWord as IsAtWordBy, IsAtEnd as IsAtEndBy, HaveFirstRefusal as HaveFirstRefusalBy, HaveOneAnswer as HaveOneAnswerBy}
+use Rattle.usda_machine.proofs.Appending.{makes_append}
 
 module _ {Word Draft Refusal : Type 0} (kind : Word → WordKind) (act : Symbol → Word → Draft → Result Draft Refusal) (refused_as : Option Word → Refusal) (blank : Draft) where
   abbrev start : List Symbol
@@ -189,15 +190,6 @@ module _ {Word Draft Refusal : Type 0} (kind : Word → WordKind) (act : Symbol 
 
   -- ---- refusals
 
-  makes_append : (t : Derivation) (stack : List Symbol) (d : Draft) (front : List Word) (mid : List Symbol) (d_mid : Draft) (u : Derivation) (ws : List Word) (left : List Symbol) (out : Draft) → Makes t stack d front mid d_mid → Makes u mid d_mid ws left out → (v : Derivation) × Makes v stack d (front ++ ws) left out
-  makes_append ends stack d [] mid d_mid u ws left out h g = (u, subst (λ (x : Draft). Makes u stack x ws left out) (sym h.1) (subst (λ (x : List Symbol). Makes u x d_mid ws left out) (sym h.0) g))
-  makes_append ends stack d (w ∷ front) mid d_mid u ws left out h g = absurd h
-  makes_append (skips t) [] d front mid d_mid u ws left out h g = absurd h
-  makes_append (skips t) (s ∷ stack) d front mid d_mid u ws left out h g = let v = makes_append t stack d front mid d_mid u ws left out h.1 g in (skips v.0, (h.0, v.1))
-  makes_append (takes t) [] d front mid d_mid u ws left out h g = absurd h
-  makes_append (takes t) (s ∷ stack) d [] mid d_mid u ws left out h g = absurd h
-  makes_append (takes t) (s ∷ stack) d (w ∷ front) mid d_mid u ws left out (after, next, at, acted, h) g = let v = makes_append t (after ++ stack) next front mid d_mid u ws left out h g in (takes v.0, (after, next, at, acted, v.1))
-
   pub makes_text : (t : Derivation) (stack : List Symbol) (d : Draft) (front : List Word) (left : List Symbol) (out : Draft) (rest : List WordKind) → Makes t stack d front left out → AreText left rest → AreText stack (kinds front ++ rest)
   makes_text ends stack d [] left out rest h g = subst (λ (x : List Symbol). AreText x rest) (sym h.0) g
   makes_text ends stack d (w ∷ front) left out rest h g = absurd h
@@ -245,13 +237,13 @@ module _ {Word Draft Refusal : Type 0} (kind : Word → WordKind) (act : Symbol 
   is_at_next : (front : List Word) (stack : List Symbol) (d : Draft) (w : Word) (s : Symbol) (next : List Symbol) (after : Draft) → IsAt front stack d → step stack (kind w) ≡ Some (s, next) → act s w d ≡ Ok after → IsAt (front ++ w ∷ []) next after
   is_at_next front stack d w s next after here took acted =
       let one = step_makes stack w s next d after [] next after ends took acted (refl, refl) in
-      let whole = makes_append here.read.by start blank front stack d one.0 (w ∷ []) next after here.read.made one.1 in
+      let whole = makes_append kind act refused_as here.read.by start blank front stack d one.0 (w ∷ []) next after here.read.made one.1 in
       record { read = record { by = whole.0; made = whole.1 }; steps_to = steps-push start front w stack next s here.steps_to took }
 
   refused_act : (front : List Word) (stack : List Symbol) (d : Draft) (w : Word) (ws : List Word) (s : Symbol) (next : List Symbol) (q r : Refusal) → IsAt front stack d → step stack (kind w) ≡ Some (s, next) → act s w d ≡ Err q → q ≡ r → IsAtWord (front ++ w ∷ ws) r
   refused_act front stack d w ws s next q r here took acted same =
       let t = tops stack d (kind w) s next took in
-      let whole = makes_append here.read.by start blank front stack d t.by [] (s ∷ t.below) d here.read.made t.made in
+      let whole = makes_append kind act refused_as here.read.by start blank front stack d t.by [] (s ∷ t.below) d here.read.made t.made in
       record {
         front = front;
         word = w;

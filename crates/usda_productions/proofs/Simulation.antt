@@ -7,6 +7,7 @@ use Rattle.usda_grammar.specs.declared.symbols.Symbol.{Symbol}
 use Rattle.usda_grammar.specs.Table.{layer, starts}
 use Rattle.usda_grammar.specs.Derivations.{Derivation, ends, skips, takes, Derives, AreText}
 use Rattle.usda_machine.specs.Texts as table
+use Rattle.usda_machine.proofs.Appending.{makes_append}
 use Rattle.usda_productions.specs.Forms.{Form, one}
 use Rattle.usda_productions.specs.Rules.{layer_forms}
 use Rattle.usda_productions.specs.Texts.{Choice, Route, done, word, pick, IsMade, MakeBy, adds_nothing, IsText}
@@ -136,18 +137,9 @@ module _ {Word Draft Refusal : Type 0} (kind : Word → WordKind) (act : Symbol 
         record { below = t.below; after = t.after; by = skips t.by; made = (sym (absent_same u) ∙ x.0, t.made); starts_it = t.starts_it; same = t.same }
   ]
 
-  makes_append : (t : Derivation) (stack : List Symbol) (d : Draft) (front : List Word) (mid : List Symbol) (d_mid : Draft) (u : Derivation) (ws : List Word) (left : List Symbol) (out : Draft) → Makes t stack d front mid d_mid → Makes u mid d_mid ws left out → (v : Derivation) × Makes v stack d (front ++ ws) left out
-  makes_append ends stack d [] mid d_mid u ws left out h g = (u, subst (λ (x : Draft). Makes u stack x ws left out) (sym h.1) (subst (λ (x : List Symbol). Makes u x d_mid ws left out) (sym h.0) g))
-  makes_append ends stack d (w ∷ front) mid d_mid u ws left out h g = absurd h
-  makes_append (skips t) [] d front mid d_mid u ws left out h g = absurd h
-  makes_append (skips t) (s ∷ stack) d front mid d_mid u ws left out h g = let v = makes_append t stack d front mid d_mid u ws left out h.1 g in (skips v.0, (h.0, v.1))
-  makes_append (takes t) [] d front mid d_mid u ws left out h g = absurd h
-  makes_append (takes t) (s ∷ stack) d [] mid d_mid u ws left out h g = absurd h
-  makes_append (takes t) (s ∷ stack) d (w ∷ front) mid d_mid u ws left out (after, next, at, acted, h) g = let v = makes_append t (after ++ stack) next front mid d_mid u ws left out h g in (takes v.0, (after, next, at, acted, v.1))
-
   -- the same, where no word is left
   makes_to : (t : Derivation) (stack : List Symbol) (d : Draft) (ws : List Word) (mid : List Symbol) (d_mid : Draft) (u : Derivation) (left : List Symbol) (out : Draft) → Makes t stack d ws mid d_mid → Makes u mid d_mid [] left out → (v : Derivation) × Makes v stack d ws left out
-  makes_to t stack d ws mid d_mid u left out h g = let v = makes_append t stack d ws mid d_mid u [] left out h g in (v.0, subst (λ (l : List Word). Makes v.0 stack d l left out) (append-nil ws) v.1)
+  makes_to t stack d ws mid d_mid u left out h g = let v = makes_append kind act refused_as t stack d ws mid d_mid u [] left out h g in (v.0, subst (λ (l : List Word). Makes v.0 stack d l left out) (append-nil ws) v.1)
 
   -- the table has got behind the words, to symbols whose forms are opened to those that are left
   record Got (stack : List Symbol) (d : Draft) (ws : List Word) (to : List Form) (out : Draft) : Type 0 where
@@ -162,7 +154,7 @@ module _ {Word Draft Refusal : Type 0} (kind : Word → WordKind) (act : Symbol 
       let t = took p (forms stack) d w ws to out h in
       let top = tops stack d (kind w) t.symbol t.test t.behind t.choices t.passes t.opens in
       let g = got ws (top.after ++ top.below) t.next to out t.by (subst (λ (l : List Form). IsMade kind act t.by l t.next ws to out) top.same t.made) in
-      let v = makes_append top.by stack d [] (t.symbol ∷ top.below) d (takes g.by) (w ∷ ws) g.mid out top.made (top.after, t.next, top.starts_it, t.acted, g.made) in
+      let v = makes_append kind act refused_as top.by stack d [] (t.symbol ∷ top.below) d (takes g.by) (w ∷ ws) g.mid out top.made (top.after, t.next, top.starts_it, t.acted, g.made) in
       record { mid = g.mid; by = v.0; made = v.1; opens = g.opens }
 
   all_skipped : (stack : List Symbol) (d : Draft) → absent_all (forms stack) ≡ true → (t : Derivation) × Makes t stack d [] [] d
