@@ -1,5 +1,5 @@
 //! Items of references and payloads, and sublayers.
-ghost use Rattle.std.specs.Prelude.{◌≡◌, ◌++◌, ◌∷◌, [], Ok, IfOk, OnOk};
+ghost use Rattle.std.specs.Prelude.{◌≡◌, ◌++◌, ◌∷◌, [], Ok, IfOk, OnOk, OnErr};
 ghost use Rattle.usda_lists.specs.Acts.{Does, Gives};
 ghost use Rattle.usda_lists.specs.Lists.{amend_last, amend_list};
 ghost use Rattle.usda_lists.specs.References.{asset_item, path_or_none, path_item, with_path, with_number_of, sublayer_of, sublayer_number};
@@ -173,13 +173,14 @@ pub fn set_last_offset(
     }
 }
 
-/// Adds a sublayer by its asset token, as written.
+/// Adds a sublayer by its asset token, as written. After want of memory the list is as before.
 pub fn push_sublayer(
     alloc: Global,
     sublayers: &mut Items<SubLayer>,
     text: &str,
 ) -> Result<(), AllocError>
-    ensures { OnOk result (sublayers.new ≡ sublayers.old ++ sublayer_of text.now ∷ []) }
+    ensures ok { OnOk result (sublayers.new ≡ sublayers.old ++ sublayer_of text.now ∷ []) }
+    ensures err { OnErr result (sublayers.new ≡ sublayers.old) }
 {
     sublayers.push(SubLayer {
         asset: Text::of(alloc, asset_text(text))?,

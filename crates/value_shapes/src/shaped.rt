@@ -41,6 +41,7 @@ pub fn read_of_type(
     tokens: &mut Tokens<'_>,
 ) -> Result<Value, ValueFault>
     ensures of_the_type { IfOk result (λ w. conforms w ty ≡ true) }
+    ensures source { tokens.new.source ≡ tokens.old.source }
     // the value and what is left, or the first refusal with its place, by the definition
     ensures answer { AnswersRead result (draft_of place.Value (Typed ty)) tokens.old tokens.new }
 {
