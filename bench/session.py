@@ -72,7 +72,7 @@ def root_prims(count):
 CASES = [
     Case("sets", "bytes of batches of 1,000 sets", (MOST // 4, MOST), stage, sets),
     Case("batches", "batches of one set", (16_384, 65_536), stage, batches),
-    Case("large", "batches of one set on 131,072 prims", (10_000, 40_000), large_stage, large_batches, unasked),
+    Case("large_layer", "batches of one set on 131,072 prims", (10_000, 40_000), large_stage, large_batches, unasked),
     Case("empty", "empty batches", (65_537,), stage, empty),
     Case("most", "bytes of a script that is a comment", (MOST, MOST + 1), stage, comment),
     Case("prims", "prims at the root", (65_536, 262_143), root_prims, no_lines),

@@ -813,7 +813,7 @@ def main():
             held, types = opened(world.layers.get, root, session, lambda layer: refusal_in(expected, layer))
             asked = questions(world.asked)
             equations = [equation(number_, prim, qs, types) for prim, qs in asked.items()]
-        except (Unread, ValueError, KeyError, AttributeError, UnicodeDecodeError) as e:
+        except (Unread, ValueError, KeyError, IndexError, AttributeError, UnicodeDecodeError) as e:
             print(number_, "left out:", e)
             continue
         with open(os.path.join(crate, "specs", title(number_) + ".antt"), "w", encoding="utf-8") as f:
