@@ -3,11 +3,9 @@
 
     python3 bench/edits.py [--in FOLDER] [CALL ..]
 
-The program that makes the calls is no crate of the repository, since nothing else needs it. So the script writes a
-scratch repository with the crates and one program, lets `rt run` prove and build it (as long as its crates take, the first time), and
-then runs what was built. With --in the scratch repository stays in FOLDER, and the next run proves nothing again.
-Seconds are the processor's; what comes before the call, as the making of the world, is taken off. CALL picks lines of
-the table, as `set`.
+The program that makes the calls is built in a scratch repository, which --in keeps in FOLDER: see measure.py.
+Seconds are the processor's; what comes before the call, as the making of the world, is taken off. CALL picks lines of the table, as
+`set`.
 """
 import measure
 

@@ -4,7 +4,8 @@
     python3 bench/index.py [PROGRAM] [--only CASE ..]
 
 Each case is a session with an empty script: the world is opened, its stage is composed and published. What a prim refers to lies in a
-layer of its own, so that it is no part of the stage. Seconds are the processor's, and peak memory is that of the process.
+layer of its own, so that it is no part of the stage, but for prims that refer to each other. Seconds are the processor's, and peak memory
+is that of the process.
 """
 from measure import Case, listed, main, nested, no_lines
 
@@ -18,10 +19,24 @@ def referring(targets, model):
     return {"root": f'def "A" (references = {listed(f"@m.usda@</{name}>" for name in targets)}) {{}}\n', "m": model}
 
 
+def in_a_row(name, first, last, layer=""):
+    """Prims by number, each of which refers to the next; the layer's name may stand in each reference."""
+    return "".join(f'def "{name}{i}" (references = {layer}</{name}{i + 1}>) {{}}\n' for i in range(first, last)) + f'def "{name}{last}" {{}}\n'
+
+
 def chain(arcs):
     """A prim that begins a chain of so many references."""
-    model = "".join(f'def "c{i}" (references = </c{i + 1}>) {{}}\n' for i in range(1, arcs))
-    return referring(["c1"], model + f'def "c{arcs}" {{}}\n')
+    return referring(["c1"], in_a_row("c", 1, arcs))
+
+
+def chains(count):
+    """Prims each of which begins a chain of 64 references."""
+    return {"root": prims("p", count, " (references = @m.usda@</c1>)"), "m": in_a_row("c", 1, 64)}
+
+
+def following(count):
+    """Prims of a stage, each of which refers to the next: of the chain that a prim begins 64 arcs are followed."""
+    return {"root": in_a_row("p", 0, count - 1, "@root.usda@")}
 
 
 def wide(count):
@@ -38,7 +53,8 @@ def bushy(nodes):
 
 def classes(depth):
     """A prim that refers to one with so many classes, in chains of this depth: each is looked up in both layers. A chain of k classes
-    has 2 ^ k - 1 nodes, since what a class inherits is a class of each node that inherits it."""
+    has 2 ^ k - 1 nodes, since what a class inherits is a class of each node that inherits it: from 13 classes in a chain on the listing is
+    given up as overgrown."""
     def made(count):
         heads = listed(f"</c{i}>" for i in range(0, count, depth))
         text = f'def "M" (inherits = {heads}) {{}}\n'
@@ -59,6 +75,14 @@ def sets(count):
     return {"root": text + "}\n"}
 
 
+def chosen(count):
+    """A prim with so many variant sets, of each of which it chooses the one variant."""
+    choices = "".join(f'string s{i} = "v"\n' for i in range(count))
+    names = listed(f'"s{i}"' for i in range(count))
+    text = f'def "A" (variants = {{ {choices} }} variantSets = {names}) {{\n'
+    return {"root": text + "".join(f'variantSet "s{i}" = {{ "v" {{}} }}\n' for i in range(count)) + "}\n"}
+
+
 def deep(depth):
     return {"root": nested(depth)}
 
@@ -70,12 +94,15 @@ def below_reference(depth):
 
 CASES = [
     Case("chain", "references in a chain", (16, 64), chain, no_lines),
+    Case("chains", "prims with a chain of 64 references", (250, 1_000), chains, no_lines),
+    Case("following", "prims, each refers to the next", (2_500, 10_000), following, no_lines),
     Case("wide", "references of one prim", (1_023, 4_095), wide, no_lines),
     Case("nodes", "nodes of one prim, most of them repeated", (1_024, 4_096), bushy, no_lines),
     Case("classes", "classes, each alone", (50, 200), classes(1), no_lines),
     Case("classes", "classes in chains of 4", (50, 200), classes(4), no_lines),
-    Case("classes", "classes in chains of 30", (50, 200), classes(30), no_lines),
+    Case("classes", "classes in chains of 30, overgrown", (50, 200), classes(30), no_lines),
     Case("sets", "variant sets, one a round", (7, 30), sets, no_lines),
+    Case("chosen", "variant sets, all chosen at once", (500, 2_000), chosen, no_lines),
     Case("nested", "nested prims, opened", (16, 32, 63), deep, no_lines),
     Case("below", "nested prims below a reference", (16, 32, 63), below_reference, no_lines),
 ]

@@ -1,7 +1,12 @@
 """What the scripts of this folder share: layers that they make, runs of a program with what they took, the table, and scratch repositories.
 
 A script that needs the built program alone has a list of cases, CASES, and calls `main`. One that makes calls of crates has lines of
-calls, TABLE, and what runs them in a scratch repository, `run`, and calls `calls`. `all.py` runs them all.
+calls, TABLE, and what runs them in a scratch repository, `run`, and calls `calls`. `all.py` runs both kinds.
+
+The program that makes the calls of a script is no crate of the repository, since nothing else needs it. So the script writes a scratch
+repository with copies of the crates and of what was built of them, and the program, and lets `rt run` prove and build it (as long as its
+crates take, the first time), and then runs what was built. With --in the scratch repository stays in FOLDER, and the next run proves
+nothing again.
 """
 import argparse
 import json
@@ -54,6 +59,11 @@ def nested(count, body=""):
 def no_lines(_size):
     """The script of a session that is opened and no more."""
     return ""
+
+
+def unasked(layers, _script):
+    """The same session with an empty script."""
+    return layers, ""
 
 
 def listed(items):
@@ -139,13 +149,14 @@ def run_once(program, layers, script):
         return measured([program, "flatten" if script is None else "session", "root.usda"], folder, script or "")
 
 
-def told(took, whole, off):
-    """What a run wrote, in words, and what was taken off its seconds."""
+def told(took, less):
+    """What a run wrote, in words, and what was taken off its seconds, with the status of that run where it failed."""
     lines = took.out.split(b"\n")
     last = lines[-2].decode()[:60] if len(lines) > 1 else ""
     parts = [f"{took.out.count(10)} lines", f"{len(took.out)} bytes", f"last: {last}"]
-    if off is not None:
-        parts.insert(0, f"{whole:.2f} s with the {off:.2f} s taken off")
+    if less is not None:
+        failed = f", whose status is {less.status}" if less.status else ""
+        parts.insert(0, f"{took.seconds:.2f} s with the {less.seconds:.2f} s taken off{failed}")
     return ", ".join(parts + [took.err.strip()] * bool(took.err.strip()))
 
 
@@ -157,10 +168,10 @@ def run_case(program, case):
         script = case.script(size) if case.script else None
         length = sum(len(FIRST) + len(text) for text in layers.values()) + len(script or "")
         took = run_once(program, layers, script)
-        off = None if case.less is None else run_once(program, *case.less(layers, script)).seconds
-        left = max(took.seconds - (off or 0), 0.0)
+        less = None if case.less is None else run_once(program, *case.less(layers, script))
+        left = max(took.seconds - (less.seconds if less else 0), 0.0)
         growth = left / max(before[1], 1e-3) if before and 3.9 < size / before[0] < 4.5 else None
-        line(f"{size:,} {case.name}", length, left, growth, took, size, told(took, took.seconds, off))
+        line(f"{size:,} {case.name}", length, left, growth, took, size, told(took, less))
         before = size, left
 
 

@@ -12,8 +12,7 @@ import subprocess
 import sys
 import tempfile
 
-TOP = os.path.dirname(os.path.dirname(os.path.abspath(__file__)))
-PROGRAM = os.path.abspath(sys.argv[1]) if len(sys.argv) > 1 else os.path.join(TOP, "crates", "usdstage", "out", "usdstage")
+import measure
 
 FAILING = r"""
 #include <errno.h>
@@ -63,16 +62,16 @@ RUNS = [
 ]
 
 
-def run_once(folder, words, script, env=None):
-    return subprocess.run([PROGRAM] + words.split(), cwd=folder, env=env, input=script.encode(), stdout=subprocess.PIPE, stderr=subprocess.PIPE)
+def run_once(program, folder, words, script, env=None):
+    return subprocess.run([program] + words.split(), cwd=folder, env=env, input=script.encode(), stdout=subprocess.PIPE, stderr=subprocess.PIPE)
 
 
-def tried(folder, words, script, library):
+def tried(program, folder, words, script, library):
     """Counts the runs by status; stops once three runs in a row did not reach the failing allocation."""
-    whole = run_once(folder, words, script)
+    whole = run_once(program, folder, words, script)
     counts, same = {}, 0
     for at in range(1, 1000000):
-        run = run_once(folder, words, script, {"LD_PRELOAD": library, "FAIL_AT": str(at)})
+        run = run_once(program, folder, words, script, {"LD_PRELOAD": library, "FAIL_AT": str(at)})
         is_same = (run.returncode, run.stdout, run.stderr) == (whole.returncode, whole.stdout, whole.stderr)
         is_front = run.returncode == 9 and whole.stdout.startswith(run.stdout)
         if not is_same and not is_front:
@@ -87,8 +86,7 @@ def tried(folder, words, script, library):
 
 
 def main():
-    if not os.path.exists(PROGRAM):
-        sys.exit("build the program first: cd examples/shot && ../../usdstage flatten shot.usda")
+    program = measure.program_of(sys.argv[1] if len(sys.argv) > 1 else measure.PROGRAM)
     with tempfile.TemporaryDirectory() as folder:
         source, library = os.path.join(folder, "failing.c"), os.path.join(folder, "failing.so")
         with open(source, "w") as f:
@@ -98,7 +96,7 @@ def main():
             for layer, text in layers.items():
                 with open(os.path.join(folder, layer), "w") as f:
                     f.write(text)
-            runs, counts = tried(folder, words, script, library)
+            runs, counts = tried(program, folder, words, script, library)
             print(f"{name}: {runs} runs, " + ", ".join(f"{n} with status {s}" for s, n in sorted(counts.items())), flush=True)
 
 

@@ -3,11 +3,9 @@
 
     python3 bench/text.py [--in FOLDER] [CALL ..]
 
-CALL is one of bytes (a plain count), tokens, words, read and written. The program that makes the calls is no crate of the
-repository, since nothing else needs it: the script writes it into a scratch repository with copies of the crates and of what was
-built of them, so that what is proved already is not proved again, and lets `rt run` prove and build it. With --in the scratch
-repository stays in FOLDER. Seconds are the processor's, and peak memory is that of the process, the text itself included. Four times the bytes should take little more than
-four times the time.
+CALL is one of bytes (a plain count), tokens, words, read and written. The program that makes the calls is built in a scratch repository,
+which --in keeps in FOLDER: see measure.py. Seconds are the processor's, and peak memory is that of the process, the text itself included.
+Four times the bytes should take little more than four times the time.
 """
 import os
 

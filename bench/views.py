@@ -7,7 +7,7 @@ Each case is made in a temporary folder, once and four times as large. Seconds a
 of the same layers, is run alone and taken off: a prim that is not active keeps what it holds from being composed, and its layers are
 still opened. Peak memory is that of the whole run.
 """
-from measure import Case, listed, main, nested, path_in_tree, tree
+from measure import Case, listed, main, nested, path_in_tree, tree, unasked
 
 
 def sites(count):
@@ -66,6 +66,7 @@ def large_tree(_count):
 
 
 def a_nest(count):
+    """Prims inside each other: `unseen` puts one around them, and a layer has at most 64 levels."""
     return {"root": nested(count)}
 
 
@@ -86,11 +87,6 @@ def unseen(layers, script):
     return {**layers, "root": f'def "Q" (active = false) {{ {head}{body} }}\n'}, script
 
 
-def unasked(layers, script):
-    """The same session without its questions."""
-    return layers, ""
-
-
 def questions(count, line):
     return "".join(line(i) for i in range(count))
 
@@ -107,7 +103,7 @@ CASES = [
     Case("children", "children in ten layers", (50_000, 200_000), children, None, unseen),
     Case("dictionaries", "keys of dictionaries in ten layers", (2_500, 10_000), dictionaries, None, unseen),
     Case("tree", "prims in a tree, composed", (32_768, 131_072), a_tree, None, unseen),
-    Case("nested", "nested prims, composed", (16, 64), a_nest, None, unseen),
+    Case("nested", "nested prims, composed", (16, 63), a_nest, None, unseen),
     Case("questions", "questions on 131,072 prims", (25_000, 100_000), large_tree,
          lambda n: questions(n, lambda i: f"default {path_in_tree(spread(i))}.a\n"), unasked),
     Case("places", "prims, 25,000 questions", (32_768, 131_072), a_tree,

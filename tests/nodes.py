@@ -1,12 +1,12 @@
 #!/usr/bin/env python3
-"""Runs the built program on prims whose listing has as many nodes as there may be, 4,096, and on prims with one more."""
-import os
-import subprocess
+"""Runs the built program on prims whose listing has as many nodes as there may be, 4,096, and on prims with one more.
+
+    python3 tests/nodes.py [PROGRAM]
+"""
 import sys
 import tempfile
 
-TOP = os.path.dirname(os.path.dirname(os.path.abspath(__file__)))
-PROGRAM = sys.argv[1] if len(sys.argv) > 1 else os.path.join(TOP, "usdstage")
+from shared import run, write
 
 
 def prims(name, count, arcs=""):
@@ -46,11 +46,10 @@ SCENES = [
 
 
 def is_as_told(folder, text, prim, sites):
-    with open(os.path.join(folder, "root.usda"), "w") as f:
-        f.write("#usda 1.0\n" + text)
-    p = subprocess.run([PROGRAM, "session", "root.usda"], cwd=folder, input=f"faults {prim}\nsites {prim}\n".encode(), capture_output=True)
+    write(folder, {"root": text})
+    p = run(folder, ["session", "root.usda"], f"faults {prim}\nsites {prim}\n")
     faults = f"faults {prim}: 0\n" if sites else f"faults {prim}: 1\n  Overgrown\n"
-    said = p.stdout.decode().split("\n", 1)[1]
+    said = p.stdout.decode().partition("\n")[2]
     return p.returncode == 0 and said.startswith(faults + f"sites {prim}: {sites or 0}\n")
 
 
@@ -65,4 +64,5 @@ def main():
     sys.exit(1 if wrong else 0)
 
 
-main()
+if __name__ == "__main__":
+    main()

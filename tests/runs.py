@@ -1,5 +1,8 @@
 #!/usr/bin/env python3
-"""Runs the built program: layers that are flattened or refused, scripts with their replies, and files, scripts and outputs that fail."""
+"""Runs the built program: layers that are flattened or refused, scripts with their replies, and files, scripts and outputs that fail.
+
+    python3 tests/runs.py [PROGRAM]
+"""
 import os
 import pty
 import resource
@@ -10,9 +13,8 @@ import tempfile
 import termios
 import tty
 
-TOP = os.path.dirname(os.path.dirname(os.path.abspath(__file__)))
-PROGRAM = os.path.abspath(sys.argv[1]) if len(sys.argv) > 1 else os.path.join(TOP, "usdstage")
-FIRST = "#usda 1.0\n"
+from shared import FIRST, PROGRAM
+
 READING = "usdstage: reading failed\n"
 WRITING = "usdstage: writing failed\n"
 FOLDER = None

@@ -1,12 +1,14 @@
 #!/usr/bin/env python3
 """Writes closed equations of the definitions of composition from small worlds of layers.
 
-    tools/world_equations.py WORLDS CRATE NUMBER..
+    python3 tools/world_equations.py WORLDS CRATE NAME ..
 
-WORLDS has a folder a world, with its layers, `words` (the command line), `script` (questions) and `expected` (the replies to the
-opening and to the questions). For each world three files are written into CRATE: its layers as a term, a function whose clause says
-what the definitions answer, and its proof, which computes. The answers are those of `expected`, never those of the definitions.
-It reads the usual text format, and leaves a world out where a layer is not of it.
+WORLDS is a folder with a folder a world, by name, as tests/worlds: its layers, `words` (the command line), `script` (questions) and
+`expected` (the replies to the opening and to the questions). Or it is a table of worlds, as tests/tables/worlds.rows, of which the names
+are the places from 001 on; of a world the questions before its first batch count. For each world three files are written into CRATE: its
+layers as a term, a function whose clause says what the definitions answer, and its proof, which computes. The answers are those of
+`expected` or of the table, never those of the definitions. It reads the usual text format, and leaves a world out where a layer is not of
+it. In crates/composition_worlds the worlds with a number and those of tests/worlds are what it writes, apart from layout and lines `use`.
 """
 import os
 import re
@@ -655,11 +657,64 @@ def replies(text):
 QUESTION = re.compile(r"(children|sites|faults|value|default|samples|targets) (\S+)(?: (\S+))?$")
 
 
-def questions(folder):
-    script = open(os.path.join(folder, "script"), encoding="utf-8").read().split("\n")
-    answers = replies(open(os.path.join(folder, "expected"), encoding="utf-8").read())[1:]
+class World:
+    """A world: the names of its root and session layer, the texts of layers by name, and questions with their answers."""
+
+    def __init__(self, root, session, layers, asked):
+        self.root, self.session, self.layers, self.asked = root, session, layers, asked
+
+    def expected(self):
+        return "".join(answer + "\n" for _, answer in self.asked)
+
+
+def world_in_folder(folder):
+    def read(*names):
+        with open(os.path.join(folder, *names), encoding="utf-8") as f:
+            return f.read()
+
+    words = read("words").split()
+    layers = {}
+    for at, _, files in os.walk(folder):
+        for name in files:
+            path = os.path.relpath(os.path.join(at, name), folder)
+            if path not in ("words", "script", "expected"):
+                layers[path] = read(path)
+    asked = list(zip(read("script").split("\n"), replies(read("expected"))[1:]))
+    return World(words[1], words[3] if len(words) > 3 else None, layers, asked)
+
+
+def world_in_rows(rows):
+    """A world of a table: `layer` and `session` lines, a layer's text behind `|`, questions behind `? ask`, their answers behind `=`."""
+    session, layers, asked, into = None, {}, [], None
+    for row in rows:
+        if row.startswith("? batch"):
+            break
+        if row.startswith("layer "):
+            layers[row[6:]] = into = []
+        elif row.startswith("session "):
+            session = row[8:]
+        elif row.startswith("?"):
+            into = []
+            if row.startswith("? ask "):
+                asked.append((row[6:], into))
+        elif row[:1] in ("|", "="):
+            into.append(row[1:])
+    texts = {name: "\n".join(lines) + "\n" for name, lines in layers.items()}
+    return World("root.usda", session, texts, [(line, "\n".join(answer)) for line, answer in asked])
+
+
+def world_of(worlds, name):
+    """The world of a name, in a folder of worlds or in a table of them."""
+    if os.path.isdir(worlds):
+        return world_in_folder(os.path.join(worlds, name))
+    with open(worlds, encoding="utf-8") as f:
+        parts = re.split(r"^world\n", f.read(), flags=re.M)
+    return world_in_rows(parts[int(name)].split("\n"))
+
+
+def questions(asked):
     by_path = {}
-    for line, answer in zip(script, answers):
+    for line, answer in asked:
         m = QUESTION.match(line)
         if not m:
             break
@@ -745,26 +800,20 @@ def nested(terms):
 
 
 def main():
+    if len(sys.argv) < 4:
+        sys.exit(__doc__)
     worlds, crate, numbers = sys.argv[1], sys.argv[2], sys.argv[3:]
     name = os.path.basename(os.path.normpath(crate))
     done = []
     title = lambda n: "World" + "".join(part.capitalize() for part in n.split("_"))
     for number_ in numbers:
-        folder = os.path.join(worlds, number_)
-        words = open(os.path.join(folder, "words")).read().split()
-        root, session = words[1], words[3] if len(words) > 3 else None
-
-        def read(layer):
-            try:
-                return open(os.path.join(folder, layer), encoding="utf-8").read()
-            except (FileNotFoundError, IsADirectoryError):
-                return None
         try:
-            expected = open(os.path.join(folder, "expected"), encoding="utf-8").read()
-            held, types = opened(read, root, session, lambda layer: refusal_in(expected, layer))
-            asked = questions(folder)
+            world = world_of(worlds, number_)
+            root, session, expected = world.root, world.session, world.expected()
+            held, types = opened(world.layers.get, root, session, lambda layer: refusal_in(expected, layer))
+            asked = questions(world.asked)
             equations = [equation(number_, prim, qs, types) for prim, qs in asked.items()]
-        except (Unread, ValueError, KeyError, AttributeError, UnicodeDecodeError) as e:
+        except (Unread, ValueError, KeyError, IndexError, AttributeError, UnicodeDecodeError) as e:
             print(number_, "left out:", e)
             continue
         with open(os.path.join(crate, "specs", title(number_) + ".antt"), "w", encoding="utf-8") as f:

@@ -1,8 +1,8 @@
 //! Each object once, over what it was made of.
 
 use io_edges::{
-    Fetched, FolderFiles, FreeGate, Gate, GatePoint, Got, LayerFiles, MemoryFiles, MemorySink,
-    MemorySource, Put, Sink, Source, StdSink, StdSource, SureFiles, SureSink, SureSource,
+    Fetched, FolderFiles, Got, LayerFiles, MemoryFiles, MemorySink, MemorySource, Put, Sink,
+    Source, StdSink, StdSource, SureFiles, SureSink, SureSource,
 };
 use std::alloc::Global;
 use std::fs;
@@ -202,18 +202,4 @@ fn a_sink_over_a_writer_tells_how_much_it_took(rt: HostRuntime) -> Result<(), Fa
     ];
     assert!(rt; told == [Put::Took(2), Put::Failed, Put::Failed]);
     Ok(())
-}
-
-#[test]
-fn a_free_gate_lets_everybody_pass(rt: HostRuntime) {
-    for point in [
-        GatePoint::Taken,
-        GatePoint::Composed,
-        GatePoint::Edited,
-        GatePoint::Published,
-        GatePoint::Looking,
-    ] {
-        FreeGate.pass(point, 1);
-    }
-    assert!(rt; true);
 }
