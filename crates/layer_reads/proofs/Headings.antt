@@ -1,6 +1,7 @@
 -- The words before the name of a property: the edit word, the flags, and the type or `rel`.
 use Rattle.std.proofs.Common.{◌≡◌, ◌∙◌, ℕ, Bool, true, false, List, [], ◌∷◌, ◌++◌, append_assoc, Some, None, Ok, ap, sym, refl}
 use Rattle.std.specs.Prelude.{if◌then◌else◌, codes}
+use Rattle.sdf_values.proofs.Elements.{type_is_found}
 use Rattle.sdf_values.specs.TypeNames.{element_name}
 use Rattle.sdf_values.specs.declared.type_name.ElementType.{ElementType}
 use Rattle.sdf_values.specs.declared.type_name.TypeName.{TypeName}
@@ -21,7 +22,6 @@ use Rattle.usda_drafts.specs.Refusals.{then_with}
 use Rattle.usda_drafts.specs.declared.draft.Draft.{Draft}
 use Rattle.value_texts.specs.Cuts.{Said}
 use Rattle.value_texts.specs.ValueWords.{name_said, type_said, open_bracket, close_bracket}
-use Rattle.value_texts.proofs.TypeTexts.{type_is_found}
 use Rattle.layer_texts.specs.PropertyWords.{flag_words}
 use Rattle.layer_reads.specs.Taking.{AreTaken}
 use Rattle.layer_reads.proofs.Taking.{together}

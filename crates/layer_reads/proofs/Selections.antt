@@ -9,6 +9,8 @@ use Rattle.std.specs.List.Sorted.{IsStrictlySortedBy}
 use Rattle.usd_names.specs.Names.{is_name}
 use Rattle.sdf_paths.specs.Order.{text_cmp}
 use Rattle.sdf_paths.specs.declared.element.Element.{Element}
+use Rattle.sdf_values.proofs.Elements.{type_is_found}
+use Rattle.sdf_values.specs.TypeNames.{find_element}
 use Rattle.sdf_values.specs.Print.{quoted}
 use Rattle.sdf_values.specs.declared.refusal.RefusalKind.TheVariants.{NumberTooLong, DuplicateSpec}
 use Rattle.sdf_values.specs.declared.type_name.ElementType.TheVariants as element
@@ -27,7 +29,7 @@ use Rattle.usda_lexer.specs.declared.token.TokenKind.TheVariants as kind
 use Rattle.usda_lists.specs.Acts.{and_then}
 use Rattle.usda_statements.specs.OpenValues.{no_value, is_open, opened, given, with_draft, value_in}
 use Rattle.usda_statements.specs.declared.open_value.OpenValue.{OpenValue}
-use Rattle.usda_values.specs.Drafts.{Acted, new_level, value_act, key_act, find_element, typed_entry}
+use Rattle.usda_values.specs.Drafts.{Acted, new_level, value_act, key_act, typed_entry}
 use Rattle.usda_values.specs.Entries.{Table, items_of}
 use Rattle.usda_values.specs.Shapes.{entry_shape}
 use Rattle.usda_values.specs.declared.level.Bracket.TheVariants as bracket
@@ -55,7 +57,7 @@ use Rattle.value_texts.proofs.DictsGiven.{in_dict}
 use Rattle.value_texts.proofs.Given.{leaf_given}
 use Rattle.value_texts.proofs.Leaves.{text_gives}
 use Rattle.value_texts.proofs.StringTokens.{string_means}
-use Rattle.value_texts.proofs.TypeTexts.{type_is_found, type_is_no_dictionary}
+use Rattle.value_texts.proofs.TypeTexts.{type_is_no_dictionary}
 use Rattle.sdf_values.proofs.Values as fold
 use Rattle.value_texts.proofs.ValuesGiven.{string_none}
 use Rattle.value_texts.specs.Each.{AreAll}

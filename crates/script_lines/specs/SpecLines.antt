@@ -2,12 +2,12 @@
 use Rattle.std.specs.Prelude.{ℕ, Bool, true, false, ◌==◌, if◌then◌else◌, List, codes, Option, Some, None}
 use Rattle.std.specs.Cmp.Lexicographic.{pointwise}
 use Rattle.edit_batches.specs.declared.op.Op.TheVariants as op
+use Rattle.sdf_values.specs.TypeNames.{find_element}
 use Rattle.sdf_values.specs.declared.type_name.ElementType.{ElementType}
 use Rattle.sdf_values.specs.declared.type_name.TypeName.{TypeName}
 use Rattle.sdf_values.specs.declared.type_name.TheConstants.{ELEMENTS}
 use Rattle.spec_parts.specs.declared.items.Specifier.{Specifier}
 use Rattle.spec_parts.specs.declared.items.Specifier.TheVariants.{Def, Over, Class}
-use Rattle.usda_values.specs.Drafts.{find_element}
 use Rattle.script_words.specs.Answers.{◌>>=◌}
 use Rattle.script_words.specs.Words.{name_at, text_at, layer_at, is_end, behind_word, flag_at}
 use Rattle.script_lines.specs.Places.{target_at, changed}

@@ -9,10 +9,9 @@ use asset_names::AssetId;
 use edit_batches::Op;
 use plain_data::Text;
 use script_words::{LineFault, behind_word, flag_at, is_end, layer_at, name_at, text_at};
-use sdf_values::{ELEMENTS, ElementType, TypeName};
+use sdf_values::{ELEMENTS, ElementType, TypeName, find_element};
 use spec_parts::Specifier;
 use std::alloc::Global;
-use usda_values::find_element;
 
 #[tactic(auto, unfolding(crate::specs::SpecLines::new_layer_of))]
 fn new_layer_of(alloc: Global, layer: AssetId, bytes: &[u8]) -> Result<Line, LineFault>

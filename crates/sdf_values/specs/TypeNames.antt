@@ -1,5 +1,6 @@
 -- The names of the types.
-use Rattle.std.specs.Prelude.{ℕ, List, [], ◌++◌, codes, if◌then◌else◌}
+use Rattle.std.specs.Prelude.{ℕ, ◌==◌, List, [], ◌∷◌, ◌++◌, Option, Some, None, codes, if◌then◌else◌}
+use Rattle.std.specs.Cmp.Lexicographic.{pointwise}
 use Rattle.sdf_values.specs.declared.type_name.Precision.{Precision}
 use Rattle.sdf_values.specs.declared.type_name.Precision.TheVariants as precision
 use Rattle.sdf_values.specs.declared.type_name.Width.{Width}
@@ -65,6 +66,11 @@ element_name (element.Ints w) = codes "int" ++ width_digit w
 element_name (element.Reals p w) = precision_word p ++ width_digit w
 element_name (element.Role r p) = role_word r ++ precision_letter p
 element_name (element.Matrix m) = matrix_word m
+
+-- the type that a word names
+abbrev pub find_element : List ElementType → List ℕ → Option ElementType
+find_element [] name = None
+find_element (e ∷ es) name = if pointwise ◌==◌ (element_name e) name then Some e else find_element es name
 
 -- a type as a layer writes it
 abbrev pub type_text : TypeName → List ℕ

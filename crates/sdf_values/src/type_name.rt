@@ -1,6 +1,6 @@
-ghost use Rattle.std.specs.Prelude.{◌≡◌, ◌≢◌, All, IfSome, IsNone, Some};
+ghost use Rattle.std.specs.Prelude.{◌≡◌, ◌≢◌, IfSome, IsNone, Some};
 ghost use Rattle.sdf_values.specs.Conforms.{one};
-ghost use Rattle.sdf_values.specs.TypeNames.{element_name};
+ghost use Rattle.sdf_values.specs.TypeNames.{element_name, find_element};
 ghost use Rattle.sdf_values.specs.declared.type_name.ElementType.{ElementType};
 ghost use Rattle.sdf_values.specs.declared.type_name.TypeName.{TypeName};
 
@@ -231,9 +231,9 @@ impl TypeName {
     }
 }
 
-fn find_element(elements: &[ElementType], name: &str) -> Option<ElementType>
-    ensures found { IfSome result (λ e. element_name e ≡ name.now) }
-    ensures none { IsNone result → All (λ e. element_name e ≢ name.now) elements.now }
+/// The first of the types of one element that has the name.
+pub fn find_element(elements: &[ElementType], name: &str) -> Option<ElementType>
+    ensures { result ≡ find_element elements.now name.now }
 {
     for element in elements {
         if element.name() == name {

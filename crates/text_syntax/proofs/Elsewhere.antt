@@ -2,6 +2,7 @@
 use Rattle.std.proofs.Common.{◌≡◌, ℕ, Bool, true, false, List, [], ◌∷◌, Option, Some, None, Result, Ok, Err, refl}
 use Rattle.std.specs.Prelude.{if◌then◌else◌}
 use Rattle.plain_data.specs.Ends.{last, front}
+use Rattle.sdf_values.specs.TypeNames.{find_element}
 use Rattle.sdf_values.specs.declared.refusal.RefusalKind.{RefusalKind}
 use Rattle.sdf_values.specs.declared.refusal.RefusalKind.TheVariants.{DuplicateSpec, TooDeep}
 use Rattle.std.specs.Prelude.{◌++◌, ◌||◌, ◌&&◌, ◌⊎◌, not, nat_lt, ◌==◌, nat_le, int_le, unsigned_abs, ℤ, pos, codes, is_some}
@@ -53,7 +54,6 @@ use Rattle.usda_statements.specs.Headings.{of_element}
 use Rattle.usda_statements.specs.PropertyDrafts.{joined, joined_to, is_attribute_of, with_meta, list_act, path_act, with_path as with_target}
 use Rattle.usda_statements.specs.declared.heading.Heading.{Heading}
 use Rattle.usda_statements.specs.declared.property.PropertyMarks.{PropertyMarks}
-use Rattle.usda_values.specs.Drafts.{find_element}
 use Rattle.text_syntax.proofs.Tokens.{act_is}
 use Rattle.usda_drafts.specs.Acts.{layers_act, prims_act, bodies_act}
 use Rattle.usda_drafts.specs.Bodies.{headed, type_act, after_variability_act, after_custom_act, after_edit_act, after_reorder_act, statement_act, body_act, brackets_act, with_name, name_act, default_begun, samples_begun, list_begun, tail_act, dot_act, sample_act}

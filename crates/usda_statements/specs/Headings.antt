@@ -2,13 +2,13 @@
 use Rattle.std.specs.Prelude.{ℕ, Bool, true, false, ◌==◌, List, Option, Some, None, Result, Ok, Err, codes}
 use Rattle.std.specs.Cmp.Lexicographic.{pointwise}
 pub use Rattle.sdf_values.specs.Conforms.{one as one_of}
+use Rattle.sdf_values.specs.TypeNames.{find_element}
 use Rattle.sdf_values.specs.declared.refusal.RefusalKind.{RefusalKind}
 use Rattle.sdf_values.specs.declared.refusal.RefusalKind.TheVariants.{UnknownType}
 use Rattle.sdf_values.specs.declared.type_name.ElementType.{ElementType}
 use Rattle.sdf_values.specs.declared.type_name.TheConstants.{ELEMENTS}
 use Rattle.sdf_values.specs.declared.type_name.TypeName.{TypeName}
 use Rattle.usda_lists.specs.declared.edit.ListEdit.{ListEdit}
-use Rattle.usda_values.specs.Drafts.{find_element}
 use Rattle.usda_statements.specs.declared.heading.Heading.{Heading}
 
 -- a statement that begins with this edit word, or with none

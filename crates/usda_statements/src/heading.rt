@@ -3,9 +3,9 @@ ghost use Rattle.std.specs.Prelude.{◌≡◌, Ok};
 ghost use Rattle.usda_lists.specs.Acts.{AsksNoMemory, Does};
 ghost use Rattle.usda_statements.specs.Headings.{begun, with_custom, with_variability, as_relationship, with_type, with_brackets};
 
-use sdf_values::{ELEMENTS, RefusalKind, TypeName};
+use sdf_values::{ELEMENTS, RefusalKind, TypeName, find_element};
 use usda_lists::ListEdit;
-use usda_values::{PartFault, find_element};
+use usda_values::PartFault;
 
 /// What the words before a property's name say.
 #[derive(Clone, Copy, Debug)]

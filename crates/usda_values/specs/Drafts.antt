@@ -2,7 +2,7 @@
 use Rattle.std.specs.Prelude.{ℕ, zero, suc, nat_le, Bool, true, false, ◌==◌, if◌then◌else◌, List, [], ◌∷◌, ◌++◌, length, Option, Some, None, Result, Ok, Err, codes}
 use Rattle.std.specs.Cmp.Lexicographic.{pointwise}
 use Rattle.plain_data.specs.Ends.{last, front}
-use Rattle.sdf_values.specs.TypeNames.{element_name}
+use Rattle.sdf_values.specs.TypeNames.{find_element}
 use Rattle.sdf_values.specs.declared.refusal.RefusalKind.{RefusalKind}
 use Rattle.sdf_values.specs.declared.refusal.RefusalKind.TheVariants.{Syntax, NotUtf8, UnknownType, ValueShape, DuplicateSpec, TooDeep}
 use Rattle.sdf_values.specs.declared.type_name.ElementType.{ElementType}
@@ -126,11 +126,6 @@ go_out (Some l) d = record { place = behind_value l.bracket; level = give (wrap_
 -- the mark that closes a level; a tuple with too few members is refused at it
 abbrev pub close_act : ValueDraft → Acted
 close_act d = if is_lacking d.level.room then Err ValueShape else Ok (go_out (last d.outer) d)
-
--- the type that a word names
-abbrev pub find_element : List ElementType → List ℕ → Option ElementType
-find_element [] name = None
-find_element (e ∷ es) name = if pointwise ◌==◌ (element_name e) name then Some e else find_element es name
 
 -- an entry of this type; a word that names no type is refused
 abbrev pub typed_entry : Option ElementType → ValueDraft → Acted

@@ -3,7 +3,7 @@ ghost use Rattle.std.specs.Prelude.{◌≡◌, Ok, OnOk};
 ghost use Rattle.plain_data.specs.Ends.{last};
 ghost use Rattle.usda_values.specs.Scalars.{token_value};
 ghost use Rattle.usda_values.specs.Shapes.{tuple_members, array_members, take_value};
-ghost use Rattle.usda_values.specs.Drafts.{draft_of, give_act, put_act, deeper, open_members, open_dict, new_level, close_act, go_out, find_element, type_act, key_act, act_value, act_value_or_end, act_behind_member, act_entry, act_key, act_behind_type, act_type_end, act_equals, act_behind_entry, act_dictionary, value_act, is_complete, value_of};
+ghost use Rattle.usda_values.specs.Drafts.{draft_of, give_act, put_act, deeper, open_members, open_dict, new_level, close_act, go_out, type_act, key_act, act_value, act_value_or_end, act_behind_member, act_entry, act_key, act_behind_type, act_type_end, act_equals, act_behind_entry, act_dictionary, value_act, is_complete, value_of};
 ghost use Rattle.usda_values.specs.Reads.{Does};
 ghost use Rattle.usda_lexer.specs.Meanings.{string_text};
 
@@ -14,7 +14,7 @@ use crate::level::{
 use crate::scalar::{take_value, token_value};
 use crate::shape::{Shape, array_members, entry_shape, takes_dictionary, tuple_members};
 use plain_data::{Items, Text};
-use sdf_values::{DictType, ELEMENTS, ElementType, RefusalKind, TypeName, Value};
+use sdf_values::{DictType, ELEMENTS, RefusalKind, TypeName, Value, find_element};
 use std::alloc::{AllocError, Global};
 use std::mem;
 use usda_lexer::{Mark, TokenKind, string_text};
@@ -361,16 +361,4 @@ impl ValueDraft {
             _ => Err(PartFault::Refused(RefusalKind::Syntax)),
         }
     }
-}
-
-/// The type of one element that the word names.
-pub fn find_element(elements: &[ElementType], name: &str) -> Option<ElementType>
-    ensures { result ≡ find_element elements.now name.now }
-{
-    for element in elements {
-        if element.name() == name {
-            return Some(*element);
-        }
-    }
-    None
 }

@@ -11,7 +11,7 @@ mod scalar;
 mod shape;
 mod shaping;
 
-pub use draft::{ValueDraft, find_element};
+pub use draft::ValueDraft;
 pub use entries::Entries;
 pub use fault::{PartFault, ValueFault};
 pub use level::{Bracket, Level, Place};

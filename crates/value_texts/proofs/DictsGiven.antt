@@ -5,8 +5,9 @@ use Rattle.std.specs.Str.{is_utf8}
 use Rattle.std.proofs.lemmas.Bool.Decides.{nat_tests}
 use Rattle.std.proofs.lemmas.Bool.{and_parts}
 use Rattle.usd_names.specs.Names.{is_name}
+use Rattle.sdf_values.proofs.Elements.{type_is_found}
 use Rattle.sdf_values.specs.Proper.{is_below, all_true, are_keys_behind, are_keys_in_order, all_proper, keys_of}
-use Rattle.sdf_values.specs.TypeNames.{element_name}
+use Rattle.sdf_values.specs.TypeNames.{element_name, find_element}
 use Rattle.sdf_values.specs.Print.{quoted}
 use Rattle.sdf_values.specs.declared.refusal.RefusalKind.TheVariants.{ValueShape, TooDeep, DuplicateSpec}
 use Rattle.sdf_values.specs.declared.type_name.ElementType.{ElementType}
@@ -29,14 +30,14 @@ use Rattle.usda_values.specs.declared.level.Level.{Level}
 use Rattle.usda_values.specs.declared.draft.ValueDraft.{ValueDraft}
 use Rattle.usda_values.specs.Entries.{Table, has_key, with_entry, items_of}
 use Rattle.usda_values.specs.Shapes.{entry_shape, takes_dictionary}
-use Rattle.usda_values.specs.Drafts.{new_level, give_act, close_act, closes, value_act, act_at, key_act, find_element, typed_entry, type_act, deeper, open_dict, is_full, is_statement}
+use Rattle.usda_values.specs.Drafts.{new_level, give_act, close_act, closes, value_act, act_at, key_act, typed_entry, type_act, deeper, open_dict, is_full, is_statement}
 use Rattle.value_texts.specs.Cuts.{Said}
 use Rattle.value_texts.specs.Acts.{acts}
 use Rattle.value_texts.specs.Writable.{is_writable, is_writable_item, writable_step, writable_item}
 use Rattle.value_texts.specs.ValueWords.{words_of_value, words_of_item, said_step, said_item, entries_said, type_said, dict_type_said, key_said, name_said, string_said, equals, open_brace, close_brace, open_bracket, close_bracket}
 use Rattle.value_texts.specs.Readable.{Reading, is_read_as, is_read_entry, reading_step, reading_item, depth, item_depth, depth_step, depth_item, deepest}
 use Rattle.value_texts.proofs.StringTokens.{string_means}
-use Rattle.value_texts.proofs.TypeTexts.{type_is_found, type_is_no_dictionary}
+use Rattle.value_texts.proofs.TypeTexts.{type_is_no_dictionary}
 use Rattle.sdf_values.proofs.Values as fold
 use Rattle.value_texts.proofs.Given.{acts_one, acts_then, first_token, went_out, closed, IsGiven}
 use Rattle.value_texts.proofs.KeysInOrder.{table_of, items_back, AllBelow, no_key, put_last, table_more, all_below_next}

@@ -5,6 +5,7 @@ use Rattle.std.specs.List.{list_all}
 use Rattle.std.specs.Cmp.Lexicographic.{pointwise, bytes_decides}
 use Rattle.std.proofs.lemmas.Bool.{and_parts}
 use Rattle.plain_data.specs.Ends.{last, front, last-push, front-push}
+use Rattle.sdf_values.specs.TypeNames.{find_element}
 use Rattle.sdf_values.specs.declared.refusal.RefusalKind.TheVariants.{Syntax, ValueShape, TooDeep, DuplicateSpec}
 use Rattle.sdf_values.specs.declared.type_name.ElementType.{ElementType}
 use Rattle.sdf_values.specs.declared.type_name.TheConstants.{ELEMENTS}
@@ -24,7 +25,7 @@ use Rattle.usda_lexer.specs.Meanings.{string_text, path_text}
 use Rattle.usda_lexer.specs.declared.token.Mark.TheVariants as mark
 use Rattle.usda_lexer.specs.declared.token.TokenKind.{TokenKind}
 use Rattle.usda_lexer.specs.declared.token.TokenKind.TheVariants as form
-use Rattle.usda_values.specs.Drafts.{Acted, value_act, act_at, act_value, act_entry, act_key, put_act, given, give, behind_value, is_full, is_lacking, is_statement, is_complete, is_complete_at, open_members, open_dict, deeper, close_act, go_out, wrap_as, new_level, type_act, typed_entry, find_element, key_act}
+use Rattle.usda_values.specs.Drafts.{Acted, value_act, act_at, act_value, act_entry, act_key, put_act, given, give, behind_value, is_full, is_lacking, is_statement, is_complete, is_complete_at, open_members, open_dict, deeper, close_act, go_out, wrap_as, new_level, type_act, typed_entry, key_act}
 use Rattle.usda_values.specs.Entries.{has_key}
 use Rattle.usda_values.specs.PathTexts.{is_path_text}
 use Rattle.usda_values.specs.Reads.{kind_of_fault}

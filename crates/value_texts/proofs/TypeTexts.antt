@@ -1,5 +1,5 @@
--- The names of types are names, and each names its type.
-use Rattle.std.proofs.Common.{◌≡◌, true, false, Some, refl}
+-- The names of types are names, and none of them is `dictionary`.
+use Rattle.std.proofs.Common.{◌≡◌, true, false, refl}
 use Rattle.std.specs.Prelude.{codes, ◌==◌}
 use Rattle.std.specs.Cmp.Lexicographic.{pointwise}
 use Rattle.std.specs.Str.{chars, is_utf8}
@@ -12,8 +12,6 @@ use Rattle.sdf_values.specs.declared.type_name.Role.TheVariants as role
 use Rattle.sdf_values.specs.declared.type_name.Matrix.TheVariants as matrix
 use Rattle.sdf_values.specs.declared.type_name.ElementType.{ElementType}
 use Rattle.sdf_values.specs.declared.type_name.ElementType.TheVariants as element
-use Rattle.sdf_values.specs.declared.type_name.TheConstants.{ELEMENTS}
-use Rattle.usda_values.specs.Drafts.{find_element}
 
 pub type_is_text : (e : ElementType) → is_utf8 (element_name e) ≡ true
 unfolding is_utf8 chars lib.Utf8.encode
@@ -181,61 +179,6 @@ type_is_word (element.Matrix matrix.Matrix2) = refl
 type_is_word (element.Matrix matrix.Matrix3) = refl
 type_is_word (element.Matrix matrix.Matrix4) = refl
 type_is_word (element.Matrix matrix.Frame4) = refl
-
-pub type_is_found : (e : ElementType) → find_element ELEMENTS (element_name e) ≡ Some e
-type_is_found element.Bool = refl
-type_is_found element.Uchar = refl
-type_is_found element.Int = refl
-type_is_found element.Uint = refl
-type_is_found element.Int64 = refl
-type_is_found element.Uint64 = refl
-type_is_found (element.Real precision.Half) = refl
-type_is_found (element.Real precision.Float) = refl
-type_is_found (element.Real precision.Double) = refl
-type_is_found element.Timecode = refl
-type_is_found element.String = refl
-type_is_found element.Token = refl
-type_is_found element.Asset = refl
-type_is_found (element.Ints width.Two) = refl
-type_is_found (element.Ints width.Three) = refl
-type_is_found (element.Ints width.Four) = refl
-type_is_found (element.Reals precision.Half width.Two) = refl
-type_is_found (element.Reals precision.Half width.Three) = refl
-type_is_found (element.Reals precision.Half width.Four) = refl
-type_is_found (element.Reals precision.Float width.Two) = refl
-type_is_found (element.Reals precision.Float width.Three) = refl
-type_is_found (element.Reals precision.Float width.Four) = refl
-type_is_found (element.Reals precision.Double width.Two) = refl
-type_is_found (element.Reals precision.Double width.Three) = refl
-type_is_found (element.Reals precision.Double width.Four) = refl
-type_is_found (element.Role role.Point3 precision.Half) = refl
-type_is_found (element.Role role.Point3 precision.Float) = refl
-type_is_found (element.Role role.Point3 precision.Double) = refl
-type_is_found (element.Role role.Vector3 precision.Half) = refl
-type_is_found (element.Role role.Vector3 precision.Float) = refl
-type_is_found (element.Role role.Vector3 precision.Double) = refl
-type_is_found (element.Role role.Normal3 precision.Half) = refl
-type_is_found (element.Role role.Normal3 precision.Float) = refl
-type_is_found (element.Role role.Normal3 precision.Double) = refl
-type_is_found (element.Role role.Color3 precision.Half) = refl
-type_is_found (element.Role role.Color3 precision.Float) = refl
-type_is_found (element.Role role.Color3 precision.Double) = refl
-type_is_found (element.Role role.Color4 precision.Half) = refl
-type_is_found (element.Role role.Color4 precision.Float) = refl
-type_is_found (element.Role role.Color4 precision.Double) = refl
-type_is_found (element.Role role.TexCoord2 precision.Half) = refl
-type_is_found (element.Role role.TexCoord2 precision.Float) = refl
-type_is_found (element.Role role.TexCoord2 precision.Double) = refl
-type_is_found (element.Role role.TexCoord3 precision.Half) = refl
-type_is_found (element.Role role.TexCoord3 precision.Float) = refl
-type_is_found (element.Role role.TexCoord3 precision.Double) = refl
-type_is_found (element.Role role.Quat precision.Half) = refl
-type_is_found (element.Role role.Quat precision.Float) = refl
-type_is_found (element.Role role.Quat precision.Double) = refl
-type_is_found (element.Matrix matrix.Matrix2) = refl
-type_is_found (element.Matrix matrix.Matrix3) = refl
-type_is_found (element.Matrix matrix.Matrix4) = refl
-type_is_found (element.Matrix matrix.Frame4) = refl
 
 pub type_is_no_dictionary : (e : ElementType) → pointwise ◌==◌ (element_name e) (codes "dictionary") ≡ false
 type_is_no_dictionary element.Bool = refl

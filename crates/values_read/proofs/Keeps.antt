@@ -4,6 +4,7 @@ use Rattle.std.specs.Prelude.{if◌then◌else◌}
 use Rattle.std.specs.Str.{is_utf8}
 use Rattle.std.proofs.lemmas.Bool.Decides.{nat_tests}
 use Rattle.plain_data.specs.Ends.{last}
+use Rattle.sdf_values.specs.TypeNames.{find_element}
 use Rattle.sdf_values.specs.Conforms.{one}
 use Rattle.sdf_values.specs.Proper.{are_keys_in_order}
 use Rattle.std.specs.Prelude.{codes, ◌==◌}
@@ -26,7 +27,7 @@ use Rattle.usda_values.specs.declared.level.Place.{Place}
 use Rattle.usda_values.specs.declared.level.Place.TheVariants as place
 use Rattle.usda_values.specs.declared.shape.Shape.{Shape}
 use Rattle.usda_values.specs.declared.shape.Shape.TheVariants.{Untyped, Metadata, Typed, Dictionary}
-use Rattle.usda_values.specs.Drafts.{Acted, new_level, is_full, is_lacking, is_statement, give_act, given, put_act, deeper, open_members, open_dict, go_out, close_act, closes, find_element, typed_entry, array_type, key_act, act_value, act_value_or_end, act_behind_member, act_entry, act_key, act_behind_type, act_type_end, act_equals, act_behind_entry, act_dictionary, act_at, value_act, is_complete_at, value_of_last, draft_of}
+use Rattle.usda_values.specs.Drafts.{Acted, new_level, is_full, is_lacking, is_statement, give_act, given, put_act, deeper, open_members, open_dict, go_out, close_act, closes, typed_entry, array_type, key_act, act_value, act_value_or_end, act_behind_member, act_entry, act_key, act_behind_type, act_type_end, act_equals, act_behind_entry, act_dictionary, act_at, value_act, is_complete_at, value_of_last, draft_of}
 use Rattle.usda_values.specs.Entries.{has_key}
 use Rattle.usda_values.specs.Scalars.{Taken, token_value}
 use Rattle.usda_values.specs.Shapes.{Members, entry_shape, tuple_members, array_members, takes_dictionary, take_value}
