@@ -27,5 +27,7 @@ pub use parse::{is_digit, is_mark, is_sign};
 pub use print::{print_value, push_asset, push_blanks, push_string, push_type, push_value};
 pub use refusal::RefusalKind;
 pub use time::{MAX_UNITS, TimeCode, TimeRange};
-pub use type_name::{ELEMENTS, ElementType, Matrix, Precision, Role, TypeName, Width, find_element};
+pub use type_name::{
+    ELEMENTS, ElementType, Matrix, Precision, Role, TypeName, Width, find_element,
+};
 pub use value::{DictItem, DictType, Value};
