@@ -1,5 +1,5 @@
 //! What the words before a property's name say.
-ghost use Rattle.std.specs.Prelude.{◌≡◌, Ok};
+ghost use Rattle.std.specs.Prelude.{◌≡◌, Ok, OnErr};
 ghost use Rattle.usda_lists.specs.Acts.{AsksNoMemory, Does};
 ghost use Rattle.usda_statements.specs.Headings.{begun, with_custom, with_variability, as_relationship, with_type, with_brackets};
 
@@ -54,9 +54,10 @@ impl Heading {
         self.ty = None;
     }
 
-    /// Takes the word of an attribute's type.
+    /// Takes the word of an attribute's type. After a refusal nothing is changed.
     pub fn set_type(&mut self, word: &str) -> Result<(), PartFault>
         ensures answer { Does result self.new (with_type word.now self.old) }
+        ensures kept { OnErr result (self.new ≡ self.old) }
         ensures sure { AsksNoMemory result }
     {
         match find_element(&ELEMENTS, word) {

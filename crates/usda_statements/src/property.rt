@@ -1,5 +1,5 @@
 //! A property to which statements add.
-ghost use Rattle.std.specs.Prelude.{◌≡◌, OnOk};
+ghost use Rattle.std.specs.Prelude.{◌≡◌, OnOk, OnErr};
 ghost use Rattle.usda_lists.specs.Acts.{AsksNoMemory, Does, Gives};
 ghost use Rattle.usda_statements.specs.PropertyDrafts.{no_marks, no_property, new_property, same_type, is_attribute_of, joined_to, joined, property_of, default_act, with_default, samples_act, with_sample, list_act, with_path, path_act, with_list_closed, meta_comment_act, meta_key_act, meta_act, is_in_hand};
 
@@ -238,9 +238,10 @@ impl PropertyDraft {
         }
     }
 
-    /// Takes the `=` of a default, which may stand once.
+    /// Takes the `=` of a default, which may stand once. After a refusal nothing is changed.
     pub fn start_default(&mut self) -> Result<(), PartFault>
         ensures answer { Does result self.new (default_act self.old) }
+        ensures kept { OnErr result (self.new ≡ self.old) }
         ensures sure { AsksNoMemory result }
     {
         if self.default.is_some() {
@@ -256,9 +257,10 @@ impl PropertyDraft {
         drop(mem::replace(&mut self.default, Some(value)));
     }
 
-    /// Takes the word `timeSamples`, which may stand once.
+    /// Takes the word `timeSamples`, which may stand once. After a refusal nothing is changed.
     pub fn start_samples(&mut self) -> Result<(), PartFault>
         ensures answer { Does result self.new (samples_act self.old) }
+        ensures kept { OnErr result (self.new ≡ self.old) }
         ensures sure { AsksNoMemory result }
     {
         if self.marks.sampled {
@@ -276,9 +278,10 @@ impl PropertyDraft {
         Ok(())
     }
 
-    /// Opens the list of targets or connections of the statement's edit word.
+    /// Opens the list of targets or connections of the statement's edit word. After a refusal nothing is changed.
     pub fn start_list(&mut self) -> Result<(), PartFault>
         ensures answer { Does result self.new (list_act self.old) }
+        ensures kept { OnErr result (self.new ≡ self.old) }
         ensures sure { AsksNoMemory result }
     {
         match self.marks.lists.give(self.edit) {
