@@ -9,6 +9,9 @@ use crate::{Composer, StageRefused};
 use plain_data::Items;
 use std::alloc::{AllocError, Global};
 
+/// The levels from the root place down to the deepest places.
+const LEVELS: u32 = 65;
+
 /// The entry of the item of this number, where one is named.
 fn entry_at<P, E>(items: &Items<(P, E)>, at: Option<usize>) -> Option<&E>
     ensures { option_copied result ≡ option_map second (option_and_then (slice_get items.now) at) }
@@ -74,7 +77,7 @@ pub fn stage_items_within<C: Composer>(
 {
     let mut items = Items::new(alloc);
     let root = composer.top()?;
-    push_walked(composer, world, None, root, 65, most, &mut items)?;
+    push_walked(composer, world, None, root, LEVELS, most, &mut items)?;
     if items.len() > most {
         return Err(StageRefused::Full);
     }
