@@ -15,7 +15,6 @@ use Rattle.layer_stack.specs.Meant.{defined_stack}
 use Rattle.layer_stack.specs.declared.stacks.LayerStack.{LayerStack}
 use Rattle.arc_expand.specs.Authoring.{IsStackOf, opinion_of, opinions_in, edit_of, edits, folded_items, authored_by, authored_in, authored, sets_in, variant_sets, selections, has_spec}
 use Rattle.arc_expand.specs.Authors.{author_in}
-use Rattle.arc_expand.specs.Outcomes.{HasTargets}
 use Rattle.arc_expand.proofs.Given.{folded_given}
 use Rattle.arc_expand.proofs.Noting.{author_is, author_there}
 use Rattle.arc_expand.proofs.Outcomes.{outcome_agrees}
@@ -37,15 +36,15 @@ authors_there es authors tells =
     (λ i given. ap (λ (a : Option Text). is_some a) (tells i) ∙ (author_there es i ∙ given))
     (strongest_folded same_item (map (λ e. e.1) es)) (folded_given same_item item_itself es)
 
-pub authored_is : (w : World) (s : StackName) (k : ArcKind) → HasTargets w → (os : List Opinion) (authors : Item → Option Text) → ((x : Item) → authors x ≡ author_in (edits k os) x)
+pub authored_is : (w : World) (s : StackName) (k : ArcKind) (os : List Opinion) (authors : Item → Option Text) → ((x : Item) → authors x ≡ author_in (edits k os) x)
     → map (authored_by w s authors) (folded_items (edits k os)) ≡ authored_in w s os k
 unfolding authored_in authored_by edit_of folded_items
-authored_is w s k has os authors tells =
+authored_is w s k os authors tells =
     ap (λ (f : Item → Authored). map f (strongest_folded same_item (map (λ e. e.1) (edits_of limits w k os))))
     (λ j. λ i. record {
       item = i;
       author = (ap (λ (a : Option Text). unwrap_or a []) (tells i) ∙ author_is w (edits_of limits w k os) i) j;
-      outcome = sym (outcome_agrees w has s i) j;
+      outcome = sym (outcome_agrees w s i) j;
     })
 
 pub sets_are : (os : List Opinion) → folded same_text (reverse (map (λ o. o.spec.arcs.variant_sets) os)) ≡ sets_in os

@@ -1,6 +1,5 @@
 pub mod Asking
 pub mod Authoring
-pub mod DefaultPrims
 pub mod Given
 pub mod Kept
 pub mod NoTargets

@@ -1,11 +1,10 @@
 -- What becomes of an item.
-use Rattle.std.specs.Prelude.{◌≡◌, nat_le, Bool, true, false, not, List, ◌∷◌, length, Option, Some, None}
+use Rattle.std.specs.Prelude.{nat_le, Bool, true, false, not, List, ◌∷◌, length, Option, Some, None}
 use Rattle.std.specs.List.{list_any}
-use Rattle.std.specs.Option.{ForSome}
 use Rattle.sdf_values.specs.Scales.{Offset, composed}
 use Rattle.composition.specs.Texts.{Text}
 use Rattle.composition.specs.Paths.{Path, limits, read_path}
-use Rattle.composition.specs.World.{World, LayerHead, Heading, headed, no_layer, refused, StackName, first_layer, in_range, stack_of, is_absolute, default_target}
+use Rattle.composition.specs.World.{World, LayerHead, Heading, headed, no_layer, refused, StackName, first_layer, in_range, stack_of, is_absolute}
 use Rattle.composition.specs.Arcs.{Source, own, named, unanchored, Item, Outcome, gives_no_arc, missing_layer, broken_layer, bad_target, outcome_at}
 
 -- the path that a text is read as; no path has a longer text
@@ -49,19 +48,3 @@ outcome_of w s i = outcome_by w s i i.source
 -- the offset with one of the layers of a stack leaves the range
 abbrev pub leaves_with : List (Text × Offset) → Offset → Bool
 leaves_with layers o = list_any (λ e. not (in_range (composed e.1 o))) layers
-
--- ---- default prims that are read as they are defined
-
--- the text names the prim that composition takes it to name
-abbrev pub IsDefaultPrim : Text → Type 0
-IsDefaultPrim text = default_target text ≡ target_of text
-
--- a layer that is there has no default prim, or one of such a text
-abbrev pub HasTarget : Heading → Type 0
-HasTarget (headed h) = ForSome h.default_prim IsDefaultPrim
-HasTarget no_layer = Unit {0}
-HasTarget (refused r) = Unit {0}
-
--- what a layer has as its default prim is an identifier, or the text of a path, whether the prim is there or not
-pub record HasTargets (w : World) : Type 0 where
-  pub each : (name : Text) → HasTarget (w.heading name)

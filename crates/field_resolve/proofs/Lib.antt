@@ -1,3 +1,4 @@
+pub mod Active
 pub mod Edits
 pub mod Folded
 pub mod Overlaid

@@ -6,8 +6,11 @@ ghost use Rattle.composition.specs.Names.{is_letter, is_letter_or_digit, is_asci
 ghost use Rattle.layer_set.specs.LookUps.{look_ups};
 ghost use Rattle.prim_opinions.specs.Gathering.{said_on};
 ghost use Rattle.spec_properties.specs.Properties.{property_names};
+ghost use Rattle.field_resolve.specs.Activity.{active_names};
 ghost use Rattle.field_resolve.specs.Folding.{children_edit, properties_edit, folded_texts, children_on, properties_on};
 
+use crate::activity::active_names;
+use crate::fields::meta_of;
 use crate::strings::{folded_texts, texts_once};
 use layer_set::World;
 use list_ops::ListOp;
@@ -167,17 +170,18 @@ pub fn property_names_of(alloc: Global, said: &[SaidAt]) -> Result<Items<Text>, 
     texts_once(alloc, folded_texts(alloc, edits)?)
 }
 
-/// The names of the children of a prim of these sites, each once, in their order. Those of an inactive prim and those too long for
-/// a path are among them; the caller leaves them out.
+/// The names of the children of a prim of these sites; none of a prim that is not active. Those too long for a path, which this call
+/// does not have, are among them.
 ///
 /// # Errors
 ///
 /// Memory ran out.
 pub fn child_names(alloc: Global, world: &World, sites: &[Site]) -> Result<Items<Text>, AllocError>
-    ensures { IfOk result (λ names. names ≡ children_on (said_on (look_ups world.now) sites.now)) }
+    ensures { IfOk result (λ names. names ≡ active_names (said_on (look_ups world.now) sites.now)) }
 {
     let said = opinions_on(alloc, world, sites)?;
-    child_names_of(alloc, said.as_slice())
+    let meta = meta_of(alloc, said.as_slice())?;
+    active_names(alloc, &meta, said.as_slice())
 }
 
 /// The names of the properties of a prim of these sites.

@@ -1,4 +1,3 @@
-pub mod Active
 pub mod Propertied
 pub mod Rooms
 pub mod Rooted

@@ -13,18 +13,18 @@ use Rattle.composition.specs.Texts.{Text}
 use Rattle.composition.specs.Values.{PropertySaid, counting, specs_of}
 use Rattle.composition.specs.Views.{PrimView, empty_view, property_view, property_faults, counting_of, view_from, view_by_index}
 use Rattle.composition.specs.World.{World}
+use Rattle.field_resolve.specs.Activity.{active_names, says_inactive, unless_inactive}
 use Rattle.field_resolve.specs.Folding.{specifier_on, type_on, schemas_on, clips_on, meta_on, children_on, properties_on}
 use Rattle.layer_set.specs.LookUps.{look_ups}
 use Rattle.layer_set.specs.Worlds.{WorldData}
 use Rattle.prim_index.specs.Answer.{index_at, sites_in, faults_in, is_none}
 use Rattle.prim_opinions.specs.Counting.{counted}
 use Rattle.prim_opinions.specs.Gathering.{said_on}
-use Rattle.prim_compose.specs.Activity.{says_inactive}
 use Rattle.prim_index.specs.Once.{faults_once}
-use Rattle.prim_compose.specs.Composed.{unless_inactive, property_views, faults_of_property, view_at, root_viewed}
+use Rattle.prim_compose.specs.Composed.{property_views, faults_of_property, view_at, root_viewed}
 use Rattle.prim_compose.specs.Listing.{entry_at}
 use Rattle.prim_compose.specs.Properties.{views_on, faults_on}
-use Rattle.prim_compose.specs.Viewed.{index_in, active_names, seen, seen_by}
+use Rattle.prim_compose.specs.Viewed.{index_in, seen, seen_by}
 
 -- ---- by an index and opinions
 

@@ -1,6 +1,6 @@
 -- The composed view of a path and its parts: the definitions of composition under names of their own.
 -- docs/COMPOSITION.md, 'The stage'.
-use Rattle.std.specs.Prelude.{Bool, true, false, List, [], ◌∷◌, map, Option, Some, None}
+use Rattle.std.specs.Prelude.{List, [], ◌∷◌, map, Option, Some, None}
 use Rattle.std.specs.List.{flat_map}
 use Rattle.prim_view.specs.declared.view.PrimView.{PrimView}
 use Rattle.prim_view.specs.declared.view.PropertyView.{PropertyView}
@@ -54,8 +54,3 @@ faults_of_property name ps = property_faults limits name ps
 -- the metadata of a property, merged over the specs that count
 unfoldable pub merged_metadata : List PropertySaid → MetaEntries
 merged_metadata ps = merged_all (map (λ p. property_meta p.property) ps)
-
--- the names of children, unless the prim is inactive
-abbrev pub unless_inactive : Bool → List Text → List Text
-unless_inactive true names = []
-unless_inactive false names = names

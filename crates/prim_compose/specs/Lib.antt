@@ -1,4 +1,3 @@
-pub mod Activity
 pub mod Composed
 pub mod Laws
 pub mod Listing

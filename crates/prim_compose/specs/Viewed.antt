@@ -5,23 +5,17 @@ use Rattle.composition.specs.Faults.{Fault, Index, child_too_long}
 use Rattle.composition.specs.Fields.{listed_children, unlisted_children}
 use Rattle.composition.specs.Opinions.{Said}
 use Rattle.composition.specs.Paths.{Path, limits}
-use Rattle.composition.specs.Texts.{Text}
 use Rattle.composition.specs.Views.{PrimView, view_by_index}
 use Rattle.composition.specs.World.{World}
-use Rattle.field_resolve.specs.Folding.{specifier_on, type_on, schemas_on, clips_on, meta_on, children_on}
+use Rattle.field_resolve.specs.Activity.{active_names}
+use Rattle.field_resolve.specs.Folding.{specifier_on, type_on, schemas_on, clips_on, meta_on}
 use Rattle.prim_index.specs.Answer.{sites_in, choices_in, faults_in}
-use Rattle.prim_compose.specs.Activity.{says_inactive}
 use Rattle.prim_index.specs.Once.{faults_once}
-use Rattle.prim_compose.specs.Composed.{unless_inactive}
 use Rattle.prim_compose.specs.Properties.{views_on, faults_on}
 
 -- what an index has; an overgrown one has no choices and no sites, and that fault alone
 abbrev pub index_in : Option Index → Index
 index_in i = record { choices = choices_in i; sites = sites_in i; faults = faults_in i }
-
--- the names of children that opinions give; none of a prim that is not active
-abbrev pub active_names : List Said → List Text
-active_names said = unless_inactive (says_inactive (meta_on said)) (children_on said)
 
 -- the faults of a prim, each text once: of its index, its properties, and the children whose paths pass a limit
 abbrev pub all_faults : Path → List Fault → List Said → List Fault

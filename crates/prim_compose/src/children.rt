@@ -1,22 +1,15 @@
 //! The names of children: those that a path can have, and those whose paths would pass a limit.
-ghost use Rattle.std.specs.Prelude.{◌≡◌, true, false, map, Some, IfOk, OnOk};
+ghost use Rattle.std.specs.Prelude.{◌≡◌, true, map, IfOk, OnOk};
 ghost use Rattle.std.specs.List.{list_all};
 ghost use Rattle.composition.specs.Faults.{child_too_long};
-ghost use Rattle.composition.specs.Fields.{listed_children, unlisted_children, is_false};
+ghost use Rattle.composition.specs.Fields.{listed_children, unlisted_children};
 ghost use Rattle.composition.specs.Paths.{limits};
-ghost use Rattle.field_resolve.specs.Folding.{meta_on};
 ghost use Rattle.sdf_paths.specs.Paths.{is_prim_name, IsPath};
-ghost use Rattle.prim_compose.specs.Activity.{active_key, says_inactive};
-ghost use Rattle.prim_compose.specs.Viewed.{active_names};
 ghost use Rattle.prim_compose.specs.Room.{bytes_left, room_of, has_room, listed_in, too_long_in};
 
-use field_resolve::child_names_of;
 use plain_data::{Items, Text, copy};
-use prim_opinions::SaidAt;
 use prim_view::PrimFault;
 use sdf_paths::{MAX_BYTES, MAX_NAMES, Path};
-use sdf_values::Value;
-use spec_properties::Meta;
 use std::alloc::{AllocError, Global};
 
 /// The children that a place lists, and a fault for each whose path would pass a limit.
@@ -97,49 +90,4 @@ pub fn children_below(alloc: Global, place: &Path, names: &[Text]) -> Result<Chi
         names: listed_in(alloc, room, names)?,
         faults: too_long_in(alloc, room, names)?,
     })
-}
-
-/// Whether a value is `false`.
-fn is_false(value: &Value) -> bool
-    ensures { result ≡ is_false (Some value.now) }
-{
-    match value {
-        Value::Bool(value) => !*value,
-        _ => false,
-    }
-}
-
-/// The key of what says whether a prim is active.
-#[tactic(auto, unfolding(crate::specs::Activity::active_key))]
-fn active_key(alloc: Global) -> Result<Text, AllocError>
-    ensures { IfOk result (λ key. key ≡ active_key) }
-{
-    Text::of(alloc, "active")
-}
-
-/// Whether metadata says that its prim is not active.
-fn is_inactive(alloc: Global, meta: &Meta) -> Result<bool, AllocError>
-    ensures { IfOk result (λ inactive. inactive ≡ says_inactive meta.now) }
-{
-    let key = active_key(alloc)?;
-    match meta.get(&key) {
-        Some(value) => Ok(is_false(value)),
-        None => Ok(false),
-    }
-}
-
-/// The names of the children that opinions give, each once, in their order; none of a prim that is not active.
-pub fn active_names(
-    alloc: Global,
-    meta: &Meta,
-    said: &[SaidAt<'_, '_>],
-) -> Result<Items<Text>, AllocError>
-    requires { meta.now ≡ meta_on said.now }
-    ensures { IfOk result (λ names. names ≡ active_names said.now) }
-{
-    let inactive = is_inactive(alloc, meta)?;
-    if inactive {
-        return Ok(Items::new(alloc));
-    }
-    child_names_of(alloc, said)
 }

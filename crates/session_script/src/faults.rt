@@ -1,6 +1,7 @@
 //! Why a script is not read on.
 
 use std::alloc::AllocError;
+use thiserror::Error;
 
 /// What is wrong with a line.
 #[derive(Clone, Copy, Debug, PartialEq, Eq)]
@@ -14,9 +15,10 @@ pub enum ScriptKind {
 }
 
 /// Why a script gave no step.
-#[derive(Clone, Copy, Debug, PartialEq, Eq)]
+#[derive(Clone, Copy, Debug, PartialEq, Eq, Error)]
 pub enum ScriptFault {
     /// This line, counted from 1, is refused, and no line behind it is taken.
+    #[error("line {line}: {kind:?}")]
     Refused {
         /// The line's number. Where the script ends too early, it is that after the last line.
         line: u64,
@@ -24,8 +26,10 @@ pub enum ScriptFault {
         kind: ScriptKind,
     },
     /// The source failed.
+    #[error("reading failed")]
     ReadFault,
     /// Memory ran out.
+    #[error("out of memory")]
     NoMemory,
 }
 

@@ -11,7 +11,6 @@ use Rattle.arc_expand.specs.Authors.{author_in}
 use Rattle.arc_expand.specs.ItemOrder.{item_cmp}
 use Rattle.arc_expand.specs.Authoring.{authored_by, edits, folded_items}
 use Rattle.arc_expand.proofs.Authoring.{authors_there, authored_is}
-use Rattle.arc_expand.proofs.DefaultPrims.{all_have_targets}
 use Rattle.arc_expand.proofs.authored.authored_in.Goals as goal
 
 pub authored_items-requires-clause-authors : goal.authored_items-requires-clause-authors
@@ -23,7 +22,6 @@ authored_items-requires-clause-authors c =
 
 pub returns : goal.returns
 returns c =
-    let has = all_have_targets (look_ups c.args.world.now) in
     let own : c.as_slice-2.result.now ≡ edits c.args.kind c.args.opinions.now = c.as_slice-2.ensures ∙ c.in_ok-edits.ensures in
     let items : c.as_slice-3.result.now ≡ folded_items (edits c.args.kind c.args.opinions.now) =
     c.as_slice-3.ensures ∙ (c.in_ok-items.ensures ∙ ap (λ (es : List (Text × ListOp Item)). folded_items es) (c.as_slice.ensures ∙ (sym c.as_slice-2.ensures ∙ own))) in
@@ -31,6 +29,6 @@ returns c =
     (λ all is.
     is
     ∙ (ap (λ (is : List Item). map (authored_by (look_ups c.args.world.now) c.args.stack.now.name (get item_cmp c.in_ok-authors.authors)) is) items
-    ∙ authored_is (look_ups c.args.world.now) c.args.stack.now.name c.args.kind has c.args.opinions.now (get item_cmp c.in_ok-authors.authors)
+    ∙ authored_is (look_ups c.args.world.now) c.args.stack.now.name c.args.kind c.args.opinions.now (get item_cmp c.in_ok-authors.authors)
     (λ x. c.in_ok-authors.ensures x ∙ ap (λ (es : List (Text × ListOp Item)). author_in es x) own)))
     c.authored_items.ensures

@@ -6,7 +6,7 @@ use Rattle.spec_properties.specs.Entries.{MetaEntries}
 use Rattle.spec_tables.specs.Tables.{at_key}
 use Rattle.composition.specs.Fields.{is_false}
 use Rattle.composition.specs.Texts.{Text}
-use Rattle.prim_compose.specs.Activity.{active_key, says_inactive}
+use Rattle.field_resolve.specs.Activity.{active_key, says_inactive}
 
 pub by_value : (meta : MetaEntries) (key : Text) (o : Option Value) → key ≡ active_key → at_key text_cmp key meta ≡ o → is_false o ≡ says_inactive meta
 unfolding active_key says_inactive
