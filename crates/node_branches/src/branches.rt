@@ -7,7 +7,7 @@ ghost use Rattle.prim_trees.specs.Meant.{trees_of};
 ghost use Rattle.node_branches.specs.Branches.{class_branch, lifted_of, lifted_kind};
 
 use crate::follow::refusal;
-use crate::levels::has_selections;
+use crate::level::has_selections;
 use class_arcs::{Class, class_list_from, is_class_of, same_kind};
 use path_maps::ArcKind;
 use plain_data::{Items, copy};

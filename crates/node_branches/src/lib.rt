@@ -4,9 +4,9 @@
 mod branches;
 mod children;
 mod follow;
-mod levels;
+mod level;
 
 pub use branches::{lifted_branches, own_branches};
 pub use children::{above_target, arc_child, chosen_child, node_at, node_in_round, with_first};
 pub use follow::{child_path, refusal};
-pub use levels::{front, levels};
+pub use level::{front, levels};
