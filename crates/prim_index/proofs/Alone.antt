@@ -1,5 +1,5 @@
 -- Paths of names of prims alone: neither properties nor paths with variant selections.
-use Rattle.std.proofs.Common.{◌≡◌, refl, absurd, true, false, [], ◌∷◌}
+use Rattle.std.proofs.Common.{◌≡◌, refl, true, false, [], ◌∷◌}
 use Rattle.std.specs.List.{list_all}
 use Rattle.composition.specs.Paths.{Path}
 use Rattle.sdf_paths.specs.Paths.{is_plain, is_property, is_prim_name}
