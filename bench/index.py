@@ -83,6 +83,13 @@ def chosen(count):
     return {"root": text + "".join(f'variantSet "s{i}" = {{ "v" {{}} }}\n' for i in range(count)) + "}\n"}
 
 
+def unchosen(count):
+    """A prim with so many variant sets, of each of which it chooses the empty variant, so that no variant is met."""
+    choices = "".join(f'string s{i} = ""\n' for i in range(count))
+    names = listed(f'"s{i}"' for i in range(count))
+    return {"root": f'def "A" (variants = {{ {choices} }} variantSets = {names}) {{}}\n'}
+
+
 def deep(depth):
     return {"root": nested(depth)}
 
@@ -103,6 +110,7 @@ CASES = [
     Case("classes", "classes in chains of 30, overgrown", (50, 200), classes(30), no_lines),
     Case("sets", "variant sets, one a round", (7, 30), sets, no_lines),
     Case("chosen", "variant sets, all chosen at once", (500, 2_000), chosen, no_lines),
+    Case("unchosen", "variant sets, each the empty variant", (4_000, 16_000, 64_000), unchosen, no_lines),
     Case("nested", "nested prims, opened", (16, 32, 63), deep, no_lines),
     Case("below", "nested prims below a reference", (16, 32, 63), below_reference, no_lines),
 ]

@@ -5,7 +5,8 @@
 
 Each case is made in a temporary folder, once and four times as large. Seconds are the processor's. What is not measured, as the reading
 of the same layers, is run alone and taken off: a prim that is not active keeps what it holds from being composed, and its layers are
-still opened. Peak memory is that of the whole run.
+still opened. Of layers that say nothing of a prim (`overs`) the same layers without a word of it are taken off. Peak memory is that of the
+whole run.
 """
 from measure import Case, listed, main, nested, path_in_tree, tree, unasked
 
@@ -46,6 +47,22 @@ def children(count):
         own = "".join(f'def "c{i}_{k}" {{}}\n' for k in range(count // 10 - count // 100))
         return f'def "A" {{ {shared}{own} }}\n'
     return ten_layers(layer)
+
+
+def overs(weakest):
+    """So many layers that say nothing of a prim but that it is there, over one that says this of it."""
+    def made(count):
+        names = [f"s{i}" for i in range(count)]
+        layers = {name: 'over "A" {}\n' for name in names}
+        layers["root"] = f'(subLayers = {listed(f"@{name}.usda@" for name in names + ["w"])})\n'
+        layers["w"] = f'def "A" {{ {weakest} }}\n'
+        return layers
+    return made
+
+
+def silent(layers, script):
+    """The same layers, of which the weakest alone speaks of the prim."""
+    return {name: "" if text.startswith("over") else text for name, text in layers.items()}, script
 
 
 def dictionaries(count):
@@ -101,6 +118,8 @@ CASES = [
     Case("properties", "properties at 1,000 sites", (50, 200), properties, None, unseen),
     Case("samples", "samples below an offset", (250_000, 1_000_000), samples, None, unseen),
     Case("children", "children in ten layers", (50_000, 200_000), children, None, unseen),
+    Case("overs", "layers that say nothing of 4,000 properties", (64, 256), overs("".join(f"int p{i}\n" for i in range(4000))), None, silent),
+    Case("overs", "layers that say nothing of 2,000 children", (64, 256), overs("".join(f'def "c{i}" {{}}\n' for i in range(2000))), None, silent),
     Case("dictionaries", "keys of dictionaries in ten layers", (2_500, 10_000), dictionaries, None, unseen),
     Case("tree", "prims in a tree, composed", (32_768, 131_072), a_tree, None, unseen),
     Case("nested", "nested prims, composed", (16, 63), a_nest, None, unseen),

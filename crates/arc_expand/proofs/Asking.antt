@@ -10,7 +10,7 @@ use Rattle.composition.specs.World.{World, Heading, headed, no_layer, refused, S
 use Rattle.composition.specs.Arcs.{Source, own, named, unanchored, Authored}
 use Rattle.composition.specs.Keys.{asked_by_source, asked_if_present}
 use Rattle.layer_stack.specs.Meant.{noted, each_once, defined_stack}
-use Rattle.layer_stack.proofs.Noting.{noted_new, noted_old, has, noted_there, noted_kept}
+use Rattle.layer_stack.proofs.Noting.{noted_new, noted_old, has, noted_there, noted_kept, each_once_noted}
 use Rattle.arc_expand.specs.Arcs.{asked_below, asked_by, asked_in_turn, asked_for}
 use Rattle.composition.proofs.Same.{same_text_same}
 
@@ -42,7 +42,7 @@ once_again names ts [] = refl
 once_again names ts (y ∷ ys) = once_again names (noted ts y) ys ∙ ap (λ (r : List Text). more r ys) (one_step names ts y)
 
 once_first : (names ys : List Text) → more names (each_once ys) ≡ more names ys
-once_first names ys = once_again names [] ys
+once_first names ys = ap (more names) (each_once_noted ys) ∙ once_again names [] ys
 
 agree : {X : Type 0} (f g : X → List Text) → ((names : List Text) (x : X) → more names (f x) ≡ more names (g x)) → (names : List Text) (xs : List X)
     → more names (flat_map f xs) ≡ more names (flat_map g xs)
@@ -65,7 +65,10 @@ module _ (w : World) where
   source_agrees names (unanchored asset) = refl
 
   items_agree : (all : List Authored) → each_once (flat_map (λ a. asked_by w a.item.source) all) ≡ each_once (flat_map (λ a. asked_by_source limits w a.item.source) all)
-  items_agree all = agree (λ (a : Authored). asked_by w a.item.source) (λ (a : Authored). asked_by_source limits w a.item.source) (λ names a. source_agrees names a.item.source) [] all
+  items_agree all =
+      each_once_noted (flat_map (λ a. asked_by w a.item.source) all)
+      ∙ (agree (λ (a : Authored). asked_by w a.item.source) (λ (a : Authored). asked_by_source limits w a.item.source) (λ names a. source_agrees names a.item.source) [] all
+      ∙ sym (each_once_noted (flat_map (λ a. asked_by_source limits w a.item.source) all)))
 
   pub asked_agree : (k : ArcKind) (all : List Authored) → each_once (asked_in_turn w k all) ≡ each_once (asked_for w k all)
   asked_agree Reference all = items_agree all

@@ -4,10 +4,10 @@ use Rattle.sdf_values.specs.Scales.{Offset}
 use Rattle.composition.specs.Texts.{Text}
 use Rattle.composition.specs.Assets.{anchor}
 use Rattle.composition.specs.Paths.{Path, limits}
-use Rattle.composition.specs.World.{World, LayerHead, Heading, headed, no_layer, refused, StackName, in_range, first_layer, stack_of, default_target}
-use Rattle.composition.specs.Arcs.{Source, own, named, unanchored, Item, Outcome, leads, gives_no_arc, no_default_prim, bad_target, offset_range, is_no_target, leaves_range, or_default, source_of, outcome_at, outcome_in, outcome_from}
+use Rattle.composition.specs.World.{World, Heading, headed, no_layer, refused, StackName, in_range, first_layer, stack_of}
+use Rattle.composition.specs.Arcs.{Source, own, named, unanchored, Item, Outcome, leads, gives_no_arc, no_default_prim, bad_target, offset_range, is_no_target, leaves_range, source_of, outcome_in, outcome_from}
 use Rattle.layer_stack.specs.Meant.{defined_stack}
-use Rattle.arc_expand.specs.Outcomes.{path_of, target_of, default_of, target_in, outcome_of, outcome_by, outcome_within, outcome_to, leaves_with}
+use Rattle.arc_expand.specs.Outcomes.{outcome_of, outcome_by, outcome_within, outcome_to, leaves_with}
 
 module _ (w : World) (s : StackName) (i : Item) where
   pub own_outcome : i.source ≡ own → outcome_within w s i (w.heading (first_layer w s)) ≡ outcome_of w s i
@@ -65,23 +65,14 @@ module _ (w : World) (s : StackName) (o : Offset) where
         → leads (record { stack = s; target = t; offset = o }) ≡ outcome_to w s o (Some t)
     leads_there is within stays = sym (decided ∙ (ap by_target is ∙ ap by_leaving (within_range within ∙ stays)))
 
--- ---- what default prims name
+-- ---- where an item leads
 
 module _ (w : World) where
-  default_agrees : (d : Option Text) → (elim d as (λ _. Option Path) [ Some text ↦ default_target text | None ↦ None ]) ≡ default_of d
-  unfolding path_of target_of
-  default_agrees (Some text) = refl
-  default_agrees None = refl
-
-  target_agrees : (path : Option Path) (h : LayerHead) → or_default path h ≡ target_in path h
-  target_agrees (Some path) h = refl
-  target_agrees None h = default_agrees h.default_prim
-
   within_agrees : (s : StackName) (i : Item) (h : Heading) → outcome_in limits w s i h ≡ outcome_within w s i h
   unfolding outcome_to
   within_agrees s i no_layer = refl
   within_agrees s i (refused r) = refl
-  within_agrees s i (headed h) = ap (λ (t : Option Path). outcome_at limits w s i.offset t) (target_agrees i.path h)
+  within_agrees s i (headed h) = refl
 
   source_agrees : (s : StackName) (i : Item) (source : Source) → outcome_from limits w s i source ≡ outcome_by w s i source
   source_agrees s i own = within_agrees s i (w.heading (first_layer w s))

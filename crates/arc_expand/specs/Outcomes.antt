@@ -1,29 +1,11 @@
 -- What becomes of an item.
-use Rattle.std.specs.Prelude.{nat_le, Bool, true, false, not, List, ◌∷◌, length, Option, Some, None}
+use Rattle.std.specs.Prelude.{Bool, not, List, Option}
 use Rattle.std.specs.List.{list_any}
 use Rattle.sdf_values.specs.Scales.{Offset, composed}
 use Rattle.composition.specs.Texts.{Text}
-use Rattle.composition.specs.Paths.{Path, limits, read_path}
-use Rattle.composition.specs.World.{World, LayerHead, Heading, headed, no_layer, refused, StackName, first_layer, in_range, stack_of, is_absolute}
-use Rattle.composition.specs.Arcs.{Source, own, named, unanchored, Item, Outcome, gives_no_arc, missing_layer, broken_layer, bad_target, outcome_at}
-
--- the path that a text is read as; no path has a longer text
-unfoldable pub path_of : Text → Option Path
-path_of text = elim (nat_le (length text) 4096) [ true ↦ read_path text | false ↦ None ]
-
--- the path that a default prim's text names, from the root down or from `/`
-unfoldable pub target_of : Text → Option Path
-target_of text = elim (is_absolute text) [ true ↦ path_of text | false ↦ path_of (47 ∷ text) ]
-
--- the path that a default prim names, if there is one and it names a path
-abbrev pub default_of : Option Text → Option Path
-default_of (Some text) = target_of text
-default_of None = None
-
--- the path, or else what the layer's default prim names
-abbrev pub target_in : Option Path → LayerHead → Option Path
-target_in (Some path) h = Some path
-target_in None h = default_of h.default_prim
+use Rattle.composition.specs.Paths.{Path, limits}
+use Rattle.composition.specs.World.{World, Heading, headed, no_layer, refused, StackName, first_layer, in_range, stack_of}
+use Rattle.composition.specs.Arcs.{Source, own, named, unanchored, Item, Outcome, gives_no_arc, missing_layer, broken_layer, bad_target, or_default, outcome_at}
 
 -- what becomes of an item of this offset and target, in a layer that is there
 unfoldable pub outcome_to : World → StackName → Offset → Option Path → Outcome
@@ -33,7 +15,7 @@ outcome_to w s o target = outcome_at limits w s o target
 abbrev pub outcome_within : World → StackName → Item → Heading → Outcome
 outcome_within w s i no_layer = gives_no_arc missing_layer
 outcome_within w s i (refused r) = gives_no_arc (broken_layer r)
-outcome_within w s i (headed h) = outcome_to w s i.offset (target_in i.path h)
+outcome_within w s i (headed h) = outcome_to w s i.offset (or_default i.path h)
 
 -- what becomes of an item by where it leads; what cannot be anchored is `BadTarget`
 abbrev pub outcome_by : World → StackName → Item → Source → Outcome

@@ -4,7 +4,8 @@ ghost use Rattle.std.specs.Option.{is_some};
 ghost use Rattle.std.specs.BTreeMap.{get};
 ghost use Rattle.list_ops.specs.ListEdits.{contains};
 ghost use Rattle.composition.specs.Arcs.{Item, gives};
-ghost use Rattle.arc_expand.specs.Authors.{first_some, only, author_in};
+ghost use Rattle.composition.specs.Fields.{or_else};
+ghost use Rattle.arc_expand.specs.Authors.{only, author_in};
 ghost use Rattle.arc_expand.specs.ItemOrder.{item_cmp};
 
 use crate::ordered::OrderedItem;
@@ -35,7 +36,7 @@ fn note_all<K: ExactEq + ExactOrd + ExactClone + Drop, V: ExactClone + Drop>(
     keys: &[K],
     value: &V,
 ) -> Result<(), AllocError>
-    ensures { OnOk result ((q : K) → get K.cmp table.new q ≡ first_some (get K.cmp table.old q) (only (contains K.eq keys.now q) value.now)) }
+    ensures { OnOk result ((q : K) → get K.cmp table.new q ≡ or_else (get K.cmp table.old q) (only (contains K.eq keys.now q) value.now)) }
 {
     for key in keys {
         note(table, key, value)?;
@@ -49,7 +50,7 @@ fn note_edit<K: ExactEq + ExactOrd + ExactClone + Drop, V: ExactClone + Drop>(
     edit: &ListOp<K>,
     value: &V,
 ) -> Result<(), AllocError>
-    ensures { OnOk result ((q : K) → get K.cmp table.new q ≡ first_some (get K.cmp table.old q) (only (gives K.eq edit.now q) value.now)) }
+    ensures { OnOk result ((q : K) → get K.cmp table.new q ≡ or_else (get K.cmp table.old q) (only (gives K.eq edit.now q) value.now)) }
 {
     match &edit.explicit {
         Some(items) => note_all(table, items.as_slice(), value),

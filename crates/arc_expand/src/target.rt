@@ -1,13 +1,12 @@
 //! Targets of items.
 ghost use Rattle.std.specs.Prelude.{◌≡◌, ◌∷◌, IfOk};
 ghost use Rattle.composition.specs.Paths.{has_selections};
-ghost use Rattle.composition.specs.World.{is_absolute};
-ghost use Rattle.composition.specs.Arcs.{is_no_target};
+ghost use Rattle.composition.specs.World.{is_absolute, default_target};
+ghost use Rattle.composition.specs.Arcs.{is_no_target, or_default};
 ghost use Rattle.layer_set.specs.LookUps.{layer_head};
-ghost use Rattle.arc_expand.specs.Outcomes.{path_of, target_of, target_in};
 
 use plain_data::{Text, copy};
-use sdf_paths::{Path, PathFault};
+use sdf_paths::{Path, path_of};
 use sdf_specs::Head;
 use std::alloc::{AllocError, Global};
 
@@ -31,17 +30,6 @@ pub fn is_no_target(path: &Path) -> bool
     path.is_property()
 }
 
-/// The path that a text is read as; nothing where it is none or passes a limit.
-fn path_of(alloc: Global, text: &str) -> Result<Option<Path>, AllocError>
-    ensures { IfOk result (λ path. path ≡ path_of text.now) }
-{
-    match Path::parse(alloc, text) {
-        Ok(path) => Ok(Some(path)),
-        Err(PathFault::Bad { at: _ }) => Ok(None),
-        Err(PathFault::NoMemory) => Err(AllocError),
-    }
-}
-
 /// Whether a text begins with `/`.
 fn is_absolute(text: &str) -> bool
     ensures { result ≡ is_absolute text.now }
@@ -63,7 +51,7 @@ fn from_root(alloc: Global, text: &str) -> Result<Text, AllocError>
 
 /// The target that a layer's default prim names.
 fn default_target(alloc: Global, text: &str) -> Result<Option<Path>, AllocError>
-    ensures { IfOk result (λ target. target ≡ target_of text.now) }
+    ensures { IfOk result (λ target. target ≡ default_target text.now) }
 {
     if is_absolute(text) {
         path_of(alloc, text)
@@ -74,7 +62,7 @@ fn default_target(alloc: Global, text: &str) -> Result<Option<Path>, AllocError>
 
 /// The path, or else the target of the layer's default prim.
 pub fn target(alloc: Global, path: &Option<Path>, head: &Head) -> Result<Option<Path>, AllocError>
-    ensures { IfOk result (λ target. target ≡ target_in path.now (layer_head head.now)) }
+    ensures { IfOk result (λ target. target ≡ or_default path.now (layer_head head.now)) }
 {
     if let Some(path) = path {
         return Ok(Some(copy(path)?));

@@ -1,4 +1,4 @@
--- The choices in the index of a prim of the stage are those of its frame.
+-- The choices in the index at a plain prim path are those of its frame.
 use Rattle.std.proofs.Common.{◌≡◌, ℕ, zero, suc, Bool, true, false, ◌∷◌, map, flat_map, length, take, Option, Some, None, refl, sym, ap, ◌∙◌}
 use Rattle.std.proofs.Math.Seq.{take-length}
 use Rattle.sdf_paths.specs.declared.element.Element.{Element}

@@ -30,7 +30,7 @@ pub record ChoosesByRounds : Type 0 where
   pub on_the_way : (l : Limits) → l.rounds ≡ round_limit → (tree : Node → Tree) (loaded : Path → Bool) (n : Node) (k : ℕ)
       → (nth_frame (frames_along l tree loaded n (suc k)) 0).choices
       ≡ choices (met_in l tree (record n { path = take (suc k) n.path }) (frames_along l tree loaded n k) (record bare { loaded = loaded (take (suc k) n.path) }))
-  -- and so are the choices in the index of a prim of the stage, wherever it has one
+  -- and so are the choices in the index at each path below `/`, plain prim paths among them, wherever it has one
   pub on_the_stage : (l : Limits) → l.rounds ≡ round_limit → (w : World) (e : Element) (p : Path) (i : Index) → index l w (e ∷ p) ≡ Some i
       → i.choices ≡ choices (met_on_stage l w (e ∷ p))
   -- nothing hangs on telling each set once with its first opinion: a round decides the same where the sets are told node by node, with

@@ -45,11 +45,11 @@ module _ (l : Limits) where
   told_in tree n above f cs = told_of (tree_in_round l tree n above (record f { choices = cs }))
 
 module _ (l : Limits) (w : World) where
-  -- the frames of the prims above a prim of the stage, that of its parent first
+  -- the frames of the stage's node at the paths above a plain prim path, that of its parent first
   abbrev pub frames_above : Path → List Frame
   frames_above [] = []
   frames_above (e ∷ p) = frames_along l (tree_of l (here l w)) (is_loaded w) (bare_node Root (e ∷ p) [] l.depth identity) (length p)
 
-  -- what is met at a prim of the stage with these choices
+  -- what is met at a plain prim path with these choices
   abbrev pub met_on_stage : Path → Choices → List Met
   met_on_stage p = met_in l (tree_of l (here l w)) (bare_node Root p [] l.depth identity) (frames_above p) (record bare { loaded = is_loaded w p })

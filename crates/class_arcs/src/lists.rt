@@ -7,13 +7,12 @@ ghost use Rattle.prim_trees.specs.Meant.{meant, trees_of};
 
 use crate::class::{Class, same_kind};
 use crate::lift::push_lifted;
-use list_ops::ListOp;
+use list_ops::firsts_ordered;
 use path_maps::ArcKind;
 use plain_data::{Items, copy};
 use prim_nodes::Node;
 use prim_trees::{Child, Tree};
 use std::alloc::{AllocError, Global};
-use std::mem;
 
 /// The classes of a node, of one kind: those of its own arcs, each followed by the classes of what it leads to, and then those that
 /// its other arcs hand up. Each class stands once.
@@ -111,18 +110,5 @@ fn first_of_each(all: Items<Class>) -> Result<Items<Class>, AllocError>
     if all.is_empty() {
         return Ok(all);
     }
-    let alloc = all.allocator();
-    let mut list = ListOp::new(alloc);
-    drop(mem::replace(&mut list.explicit, Some(all)));
-    let mut kept = Vec::new(alloc);
-    match list.apply_ordered(&mut kept) {
-        Ok(()) => {
-            drop(list);
-            Ok(Items::from_vec(kept))
-        }
-        Err(error) => {
-            drop((list, kept));
-            Err(error)
-        }
-    }
+    firsts_ordered(all.allocator(), all.as_slice())
 }

@@ -1,4 +1,4 @@
--- Choices by rounds, the meanings by depth, and what composition gives at a prim of the stage.
+-- Choices by rounds, the meanings by depth, and what composition gives at a path of the stage.
 -- docs/COMPOSITION.md, 'Variant choices'; what is overgrown stands in 'Strength'.
 use Rattle.std.specs.Prelude.{ℕ, zero, suc, ◌==◌, ◌||◌, Bool, true, false, List, [], ◌∷◌, ◌++◌, map, flat_map, take, length, Option, filter_map, option_map}
 use Rattle.std.specs.List.{list_any}

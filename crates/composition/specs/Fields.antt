@@ -2,6 +2,7 @@
 -- docs/COMPOSITION.md, 'Names and fields'.
 use Rattle.std.specs.Prelude.{Bool, false, not, List, [], ◌∷◌, ◌++◌, map, filter, Option, Some, None}
 use Rattle.list_ops.specs.ListEdits.{firsts}
+use Rattle.list_ops.specs.Opinions.{is_opinion}
 use Rattle.list_ops.specs.declared.op.ListOp.{ListOp}
 use Rattle.sdf_paths.specs.Order.{text_cmp}
 use Rattle.sdf_paths.specs.declared.element.Element.TheVariants.{Prim}
@@ -17,7 +18,7 @@ use Rattle.composition.specs.Names.{is_name}
 use Rattle.composition.specs.Texts.{Text, same_text, first_of}
 use Rattle.composition.specs.Paths.{Path, Limits, fits}
 use Rattle.composition.specs.Arcs.{strongest_folded}
-use Rattle.composition.specs.Opinions.{Said, is_opinion}
+use Rattle.composition.specs.Opinions.{Said}
 use Rattle.composition.specs.Merging.{merged_all}
 
 -- names that a spec adds, and its reorder of all names so far

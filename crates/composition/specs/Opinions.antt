@@ -1,9 +1,8 @@
 -- What the layers say of a prim: its opinions, by site and then by layer, the strongest first.
 -- docs/COMPOSITION.md, 'Names and fields'.
 pub use Rattle.prim_view.specs.declared.site.Site.{Site}
-use Rattle.std.specs.Prelude.{Bool, true, false, not, List, ◌++◌, map, flat_map, Some, None}
+use Rattle.std.specs.Prelude.{Bool, true, false, List, map, flat_map}
 use Rattle.std.specs.List.{list_any}
-use Rattle.list_ops.specs.declared.op.ListOp.{ListOp}
 use Rattle.path_maps.specs.declared.kind.ArcKind.TheVariants.{Inherits, Specializes}
 use Rattle.spec_parts.specs.declared.spec.Spec.{Spec}
 use Rattle.sdf_values.specs.Scales.{Offset, composed}
@@ -11,7 +10,7 @@ use Rattle.composition.specs.Texts.{Text}
 use Rattle.composition.specs.Paths.{Limits}
 use Rattle.composition.specs.World.{World}
 use Rattle.composition.specs.Stacks.{stack}
-use Rattle.composition.specs.Arcs.{opinions_at, same_kind, is_empty}
+use Rattle.composition.specs.Arcs.{opinions_at, same_kind}
 use Rattle.composition.specs.Nodes.{ArcMap}
 
 -- what one layer says of a prim at one of its sites; the offset leads from the layer's times to the stage's
@@ -37,11 +36,3 @@ is_class_map m = elim (same_kind Inherits m.kind) [ true ↦ true | false ↦ sa
 -- an inherits or specializes arc is on the way from the site to the stage
 abbrev pub is_by_class : List ArcMap → Bool
 is_by_class maps = list_any is_class_map maps
-
--- some edit has items
-abbrev pub has_edits : {T : Type 0} → ListOp T → Bool
-has_edits op = not (is_empty (op.deleted ++ op.added ++ op.prepended ++ op.appended ++ op.ordered))
-
--- an opinion on a list: an explicit list, also an empty one, or some edit
-abbrev pub is_opinion : {T : Type 0} → ListOp T → Bool
-is_opinion op = elim op.explicit [ Some xs ↦ true | None ↦ has_edits op ]

@@ -1,12 +1,10 @@
 -- Paths, their levels and their limits.
 -- docs/COMPOSITION.md, 'Nodes, and which arcs are followed'.
-use Rattle.std.specs.Prelude.{ℕ, zero, suc, ◌-◌, nat_le, Bool, true, false, List, [], ◌∷◌, ◌++◌, length, take, drop, Option}
+use Rattle.std.specs.Prelude.{ℕ, zero, suc, ◌-◌, nat_le, Bool, true, false, List, [], ◌∷◌, ◌++◌, length, take, drop}
 use Rattle.std.specs.List.{list_any}
-use Rattle.std.specs.Str.{chars}
 use Rattle.sdf_paths.specs.Paths.{same_element, is_selection, depth, printed}
-use Rattle.sdf_paths.specs.Reader.{after, finished}
 use Rattle.sdf_paths.specs.declared.element.Element.{Element}
-use Rattle.composition.specs.Texts.{Text, same_list, both}
+use Rattle.composition.specs.Texts.{same_list, both}
 
 -- from the root down; `/` is []
 abbrev pub Path : Type 0
@@ -66,7 +64,3 @@ limits = record { names = 64; bytes = 4096; depth = 64; nodes = 4096; rounds = 1
 -- the path is within the limits of paths
 abbrev pub fits : Limits → Path → Bool
 fits l p = both (nat_le (depth p) l.names) (nat_le (length (printed p)) l.bytes)
-
--- the path that a text is read as; none where it is no path's text
-abbrev pub read_path : Text → Option Path
-read_path text = finished (after (chars text))

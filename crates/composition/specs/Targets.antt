@@ -2,6 +2,7 @@
 -- docs/COMPOSITION.md, 'Targets and connections'.
 pub use Rattle.prim_view.specs.declared.fault.TargetFault.{TargetFault}
 use Rattle.std.specs.Prelude.{true, false, List, [], ◌∷◌, ◌++◌, map, flat_map, filter, filter_map, option_map, Option, Some, None}
+use Rattle.list_ops.specs.Opinions.{is_opinion}
 use Rattle.list_ops.specs.declared.op.ListOp.{ListOp}
 use Rattle.path_maps.specs.Maps.{translated}
 use Rattle.spec_properties.specs.declared.property.Property.{Property}
@@ -10,7 +11,7 @@ use Rattle.composition.specs.Texts.{Text}
 use Rattle.composition.specs.Paths.{Path, Limits, fits, same_path}
 use Rattle.composition.specs.Arcs.{strongest_folded}
 use Rattle.composition.specs.Nodes.{ArcMap}
-use Rattle.composition.specs.Opinions.{Said, is_opinion}
+use Rattle.composition.specs.Opinions.{Said}
 use Rattle.composition.specs.Values.{PropertySaid}
 
 module _ (l : Limits) where

@@ -2,15 +2,16 @@
 -- docs/COMPOSITION.md, 'The world'.
 pub use Rattle.prim_view.specs.declared.stack_name.StackName.{StackName}
 pub use Rattle.prim_view.specs.declared.stack_name.StackName.TheVariants.{Root, Asset}
-use Rattle.std.specs.Prelude.{◌==◌, nat_le, length, ℤ, pos, negsuc, int_le, Bool, true, false, List, [], ◌∷◌, Option, Some, None}
+use Rattle.std.specs.Prelude.{◌==◌, ℤ, pos, negsuc, int_le, Bool, true, false, List, [], ◌∷◌, Option, Some, None}
 use Rattle.spec_properties.specs.Entries.{MetaEntries}
 use Rattle.spec_parts.specs.declared.items.Refusal.{Refusal}
 use Rattle.spec_parts.specs.declared.items.SubLayer.{SubLayer}
 use Rattle.spec_parts.specs.declared.spec.Spec.{Spec}
+use Rattle.sdf_paths.specs.Reader.{path_of}
 use Rattle.sdf_values.specs.Scales.{Offset}
 pub use Rattle.sdf_values.specs.Scales.{identity}
 use Rattle.composition.specs.Texts.{Text, same_text, first_of, both}
-use Rattle.composition.specs.Paths.{Path, up, levels_of, read_path}
+use Rattle.composition.specs.Paths.{Path, up, levels_of}
 
 -- a scale from 1 to a million, an offset within a thousand million of 0
 abbrev pub in_range : Offset → Bool
@@ -79,10 +80,6 @@ rule_or_loaded None = true
 abbrev pub is_loaded : World → Path → Bool
 is_loaded w p = rule_or_loaded (first_of (λ j. w.rule (up p j)) (levels_of p))
 
--- the path that a text is read as; no path has more than 4,096 bytes
-abbrev pub path_within : Text → Option Path
-path_within text = elim (nat_le (length text) 4096) [ true ↦ read_path text | false ↦ None ]
-
 -- the text begins with `/`
 abbrev pub is_absolute : Text → Bool
 is_absolute [] = false
@@ -90,4 +87,4 @@ is_absolute (c ∷ t) = c == 47
 
 -- what a default prim's text names: an absolute path, or a root prim by its name
 abbrev pub default_target : Text → Option Path
-default_target text = elim (is_absolute text) [ true ↦ path_within text | false ↦ path_within (47 ∷ text) ]
+default_target text = elim (is_absolute text) [ true ↦ path_of text | false ↦ path_of (47 ∷ text) ]

@@ -94,7 +94,7 @@ impl<T: Drop> From<AllocFailed<T>> for OpRefused {
 #[derive(Clone, Copy, Debug, PartialEq, Eq, Error)]
 pub enum EditRefused {
     /// An operation is refused; those before it are not.
-    #[error("operation {op}: {fault:?}")]
+    #[error("operation {op}: {fault}")]
     Op {
         /// The number of the operation in the batch, counted from 1.
         op: u32,

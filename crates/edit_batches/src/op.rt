@@ -173,17 +173,17 @@ pub enum Op {
         /// The sublayers, the strongest first.
         sublayers: Items<WrittenSubLayer>,
     },
-    /// Loads a prim of the stage and what stands below it.
+    /// Loads the prim at a plain prim path and what stands below it, whether or not the stage has a prim there.
     Load {
         /// The path of the prim.
         path: Path,
     },
-    /// Unloads a prim of the stage and what stands below it.
+    /// Unloads the prim at a plain prim path and what stands below it, whether or not the stage has a prim there.
     Unload {
         /// The path of the prim.
         path: Path,
     },
-    /// Takes the load rule of a prim of the stage away.
+    /// Takes the load rule at a plain prim path away.
     Unrule {
         /// The path of the prim.
         path: Path,

@@ -21,7 +21,7 @@ pub record WorldsAreTold : Type 0 where
   pub unloaded : edited (op.Unload a_k) (world start) ≡ Ok (record (world start) { rules = (a_k, false) ∷ [] })
   pub loaded : edited (op.Load a_k) (record (world start) { rules = (a_k, false) ∷ [] }) ≡ Ok (record (world start) { rules = (a_k, true) ∷ [] })
   pub unruled : edited (op.Unrule a_k) (record (world start) { rules = (a, false) ∷ (a_k, true) ∷ [] }) ≡ Ok (record (world start) { rules = (a, false) ∷ [] })
-  -- `load /` and `load /A{s=v}`: rules are on prims of the stage
+  -- `load /` and `load /A{s=v}`: rules are at plain prim paths
   pub root_rule : Fails (op.Load []) start WrongPath
   pub variant_rule : Fails (op.Load a_chosen) start WrongPath
 

@@ -4,7 +4,8 @@ use Rattle.list_ops.specs.ListEdits.{firsts}
 use Rattle.list_ops.specs.declared.op.ListOp.{ListOp}
 use Rattle.composition.specs.Arcs.{strongest_folded}
 use Rattle.composition.specs.Fields.{Naming, naming_edit, children_naming}
-use Rattle.composition.specs.Opinions.{Said, is_opinion}
+use Rattle.composition.specs.Opinions.{Said}
+use Rattle.list_ops.specs.Opinions.{is_opinion}
 use Rattle.composition.specs.Texts.{Text, same_text}
 use Rattle.spec_properties.specs.Properties.{property_names}
 use Rattle.field_resolve.specs.Folding.{children_edit, properties_edit, folded_texts, texts_once, if_any, children_on, properties_on, schemas_on, clips_on}

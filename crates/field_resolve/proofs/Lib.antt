@@ -1,4 +1,3 @@
 pub mod Active
-pub mod Edits
 pub mod Folded
 pub mod Overlaid

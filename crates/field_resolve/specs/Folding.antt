@@ -1,5 +1,5 @@
 -- Names and lists of strings of a prim, as they are folded.
-use Rattle.std.specs.Prelude.{Bool, true, false, ◌||◌, List, [], ◌∷◌, Option, Some, None}
+use Rattle.std.specs.Prelude.{List, [], ◌∷◌, Option, Some, None}
 use Rattle.list_ops.specs.ListEdits.{firsts}
 use Rattle.list_ops.specs.declared.op.ListOp.{ListOp}
 use Rattle.spec_parts.specs.declared.spec.BodyPart.{BodyPart}
@@ -22,15 +22,6 @@ properties_edit b = naming_edit (record { names = property_names b.properties; o
 -- what edits, given from the strongest to the weakest, make of the empty list
 unfoldable pub folded_texts : List (ListOp Text) → List Text
 folded_texts edits = strongest_folded same_text edits
-
--- the list has an item
-abbrev pub has_items : List Text → Bool
-has_items [] = false
-has_items (t ∷ ts) = true
-
--- some list of edits has an item
-abbrev pub has_any : ListOp Text → Bool
-has_any op = (((has_items op.deleted || has_items op.added) || has_items op.prepended) || has_items op.appended) || has_items op.ordered
 
 -- each text once
 unfoldable pub texts_once : List Text → List Text

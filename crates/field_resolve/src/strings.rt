@@ -2,14 +2,13 @@
 ghost use Rattle.std.specs.Prelude.{◌≡◌, map, filter, reverse, IfOk};
 ghost use Rattle.std.specs.Str.{bytes_eq};
 ghost use Rattle.list_ops.specs.ListEdits.{folded, firsts};
-ghost use Rattle.composition.specs.Opinions.{has_edits, is_opinion};
-ghost use Rattle.field_resolve.specs.Folding.{folded_texts, texts_once, has_items, has_any, if_any, schemas_on, clips_on};
+ghost use Rattle.list_ops.specs.Opinions.{is_opinion};
+ghost use Rattle.field_resolve.specs.Folding.{folded_texts, texts_once, if_any, schemas_on, clips_on};
 
-use list_ops::{ListOp, fold_ordered};
+use list_ops::{ListOp, firsts_ordered, fold_ordered};
 use plain_data::{Items, Text, copy};
 use prim_opinions::SaidAt;
 use std::alloc::{AllocError, Global};
-use std::mem;
 
 /// What opinions make of the empty list, the strongest given first.
 fn strongest_folded(alloc: Global, edits: Vec<ListOp<Text>>) -> Result<Items<Text>, AllocError>
@@ -31,18 +30,7 @@ pub fn folded_texts(alloc: Global, edits: Vec<ListOp<Text>>) -> Result<Items<Tex
 fn firsts(alloc: Global, texts: Items<Text>) -> Result<Items<Text>, AllocError>
     ensures { IfOk result (λ once. once ≡ firsts bytes_eq texts) }
 {
-    let mut op = ListOp::new(alloc);
-    drop(mem::replace(&mut op.explicit, Some(texts)));
-    let mut once = Vec::new(alloc);
-    let applied = op.apply_ordered(&mut once);
-    drop(op);
-    match applied {
-        Ok(()) => Ok(Items::from_vec(once)),
-        Err(error) => {
-            drop(once);
-            Err(error)
-        }
-    }
+    firsts_ordered(alloc, texts.as_slice())
 }
 
 /// Each text once.
@@ -52,44 +40,6 @@ pub fn texts_once(alloc: Global, texts: Items<Text>) -> Result<Items<Text>, Allo
     firsts(alloc, texts)
 }
 
-/// Whether there is an item.
-fn has_items(items: &[Text]) -> bool
-    ensures { result ≡ has_items items.now }
-{
-    match items.first() {
-        Some(_) => true,
-        None => false,
-    }
-}
-
-/// Whether one of the lists of edits has an item.
-fn has_any(op: &ListOp<Text>) -> bool
-    ensures { result ≡ has_any op.now }
-{
-    has_items(op.deleted.as_slice())
-        || has_items(op.added.as_slice())
-        || has_items(op.prepended.as_slice())
-        || has_items(op.appended.as_slice())
-        || has_items(op.ordered.as_slice())
-}
-
-/// Whether there is some edit.
-fn has_edits(op: &ListOp<Text>) -> bool
-    ensures { result ≡ has_edits op.now }
-{
-    has_any(op)
-}
-
-/// Whether it is an opinion on the list: an explicit list, also an empty one, or some edit.
-fn is_opinion(op: &ListOp<Text>) -> bool
-    ensures { result ≡ is_opinion op.now }
-{
-    match &op.explicit {
-        Some(_) => true,
-        None => has_edits(op),
-    }
-}
-
 /// The opinions on the applied schemas.
 fn schema_opinions(alloc: Global, said: &[SaidAt]) -> Result<Vec<ListOp<Text>>, AllocError>
     ensures { IfOk result (λ ops. ops.items ≡ filter is_opinion (map (λ s. s.spec.body.api_schemas) said.now)) }
@@ -97,7 +47,7 @@ fn schema_opinions(alloc: Global, said: &[SaidAt]) -> Result<Vec<ListOp<Text>>, 
     let mut opinions = Vec::new(alloc);
     for opinion in said {
         let op = &opinion.spec().body.api_schemas;
-        if is_opinion(op) {
+        if op.is_opinion() {
             opinions.push(copy(op)?)?;
         }
     }
@@ -111,7 +61,7 @@ fn clip_opinions(alloc: Global, said: &[SaidAt]) -> Result<Vec<ListOp<Text>>, Al
     let mut opinions = Vec::new(alloc);
     for opinion in said {
         let op = &opinion.spec().body.clip_sets;
-        if is_opinion(op) {
+        if op.is_opinion() {
             opinions.push(copy(op)?)?;
         }
     }

@@ -8,11 +8,11 @@ use Rattle.spec_properties.specs.Properties.{same_name}
 use Rattle.usda_reader.specs.Reading.{read}
 use Rattle.layer_set.specs.Named.{at_name}
 use Rattle.layer_set.specs.Rules.{with_rule}
-use Rattle.layer_set.specs.Worlds.{WorldData, held_at, present_layer, with_held}
+use Rattle.layer_set.specs.Worlds.{WorldData, is_present, held_at, present_layer, with_held}
 use Rattle.layer_set.specs.declared.held.Held.{Held}
-use Rattle.layer_set.specs.declared.held.Held.TheVariants.{Present, Absent, Broken}
+use Rattle.layer_set.specs.declared.held.Held.TheVariants.{Present}
 use Rattle.layer_edit.specs.Outcomes.{Made, passing, given}
-use Rattle.layer_edit.specs.Places.{is_stage_prim}
+use Rattle.layer_edit.specs.Places.{is_plain_prim}
 use Rattle.layer_edit.specs.Prims.{prim_added, variant_added, removed}
 use Rattle.layer_edit.specs.Properties.{attribute_added, relationship_added, default_set, default_cleared, sample_set, sample_cleared}
 use Rattle.layer_edit.specs.Metadata.{meta_set, meta_cleared}
@@ -34,12 +34,6 @@ unfoldable pub in_layer : List ℕ → (LayerTable → Made LayerTable) → Worl
 in_layer name change w = given NoLayer (present_layer (held_at w name)) (λ layer. put_back name (change layer) w)
 
 -- ---- whole layers
-
--- a layer stands there: it is neither absent nor refused
-abbrev pub is_present : Held → Bool
-is_present (Present layer) = true
-is_present Absent = false
-is_present (Broken refusal) = false
 
 -- the name would be one too many
 abbrev pub is_over : List ℕ → WorldData → Bool
@@ -84,7 +78,7 @@ layer_put name held w =
 
 -- a load rule at a path of a prim without selections, or none any more; whether a prim is there is not asked
 unfoldable pub rule_set : List Element → Option Bool → WorldData → Made WorldData
-rule_set path rule w = passing ((not (is_stage_prim path), WrongPath) ∷ []) (Ok (record w { rules = with_rule path rule w.rules }))
+rule_set path rule w = passing ((not (is_plain_prim path), WrongPath) ∷ []) (Ok (record w { rules = with_rule path rule w.rules }))
 
 -- ---- operations
 

@@ -3,36 +3,26 @@ ghost use Rattle.std.specs.Prelude.{◌≡◌, Some, true, OnOk};
 ghost use Rattle.layer_set.specs.Worlds.{with_held};
 ghost use Rattle.layer_set.specs.declared.held.Held.TheVariants.{Present};
 ghost use Rattle.layer_edit.specs.Outcomes.{Gives};
-ghost use Rattle.layer_apply.specs.Edits.{is_present, is_over, layer_or_fault, new_layer, layer_added, is_named, is_root_name, layer_put, rule_set};
+ghost use Rattle.layer_apply.specs.Edits.{is_over, layer_or_fault, new_layer, layer_added, is_named, is_root_name, layer_put, rule_set};
 ghost use Rattle.layer_apply.specs.Parts.{world_edited};
 ghost use Rattle.layer_apply.specs.Answers.{DoesOne};
 ghost use Rattle.usda_reader.specs.Reading.{read};
 
 use asset_names::AssetId;
 use edit_batches::{EditFault, Op, OpRefused};
-use layer_edit::is_stage_prim;
-use layer_set::{Held, World};
+use layer_edit::is_plain_prim;
+use layer_set::{Held, MAX_LAYER_NAMES, World};
 use plain_data::{Text, copy};
 use sdf_paths::Path;
 use sdf_specs::Layer;
 use std::alloc::{AllocError, Global};
 use usda_reader::{LayerFault, read_layer};
 
-fn is_present(held: &Held) -> bool
-    ensures { result ≡ is_present held.now }
-{
-    match held {
-        Held::Present(_) => true,
-        Held::Absent => false,
-        Held::Broken(_) => false,
-    }
-}
-
 /// Whether a name would be one too many.
 fn is_over(world: &World, name: &AssetId) -> bool
     ensures { result ≡ is_over name.now world.now }
 {
-    !world.has(name) && world.names() >= 4096
+    !world.has(name) && world.names() >= MAX_LAYER_NAMES
 }
 
 fn read_text(alloc: Global, text: &Text) -> Result<Layer, OpRefused>
@@ -80,7 +70,7 @@ fn add_layer(
 ) -> Result<(), OpRefused>
     ensures { DoesOne result world.new (layer_added name.now text.now world.old) }
 {
-    if is_present(world.held(name)) {
+    if world.held(name).is_present() {
         return Err(OpRefused::Fault(EditFault::LayerThere));
     }
     if is_over(world, name) {
@@ -111,7 +101,7 @@ fn is_root_name(world: &World, name: &AssetId) -> bool
 fn put_layer(world: &mut World, name: &AssetId, held: &Held) -> Result<(), OpRefused>
     ensures { DoesOne result world.new (layer_put name.now held.now world.old) }
 {
-    if is_root_name(world, name) && !is_present(held) {
+    if is_root_name(world, name) && !held.is_present() {
         return Err(OpRefused::Fault(EditFault::RootLayer));
     }
     if is_over(world, name) {
@@ -121,12 +111,12 @@ fn put_layer(world: &mut World, name: &AssetId, held: &Held) -> Result<(), OpRef
     Ok(())
 }
 
-/// Puts a load rule on a prim of the stage, or takes it away.
+/// Puts a load rule at a plain prim path, or takes it away.
 #[tactic(auto, unfolding(crate::specs::Edits::rule_set, layer_edit::specs::Outcomes::passing))]
 fn set_rule(world: &mut World, path: &Path, rule: Option<bool>) -> Result<(), OpRefused>
     ensures { DoesOne result world.new (rule_set path.now rule world.old) }
 {
-    if !is_stage_prim(path) {
+    if !is_plain_prim(path) {
         return Err(OpRefused::Fault(EditFault::WrongPath));
     }
     world.set_load(path, rule)?;

@@ -6,7 +6,7 @@ use Rattle.spec_parts.specs.declared.items.RefItem.{RefItem}
 use Rattle.spec_parts.specs.declared.items.SubLayer.{SubLayer}
 use Rattle.usda_lists.specs.Offsets.{whole_number}
 use Rattle.composition.specs.Assets.{anchor}
-use Rattle.layer_edit.specs.Places.{is_stage_prim}
+use Rattle.layer_edit.specs.Places.{is_plain_prim}
 use Rattle.edit_batches.specs.declared.written.WrittenOffset.{WrittenOffset}
 use Rattle.edit_batches.specs.declared.written.WrittenReference.{WrittenReference}
 use Rattle.edit_batches.specs.declared.written.WrittenSubLayer.{WrittenSubLayer}
@@ -65,7 +65,7 @@ sublayers_of sublayers = all_of sublayer_of sublayers
 
 -- a class, or the target of a reference, has to be the path of a prim without selections
 abbrev pub is_bad_target : List Element → Bool
-is_bad_target path = not (is_stage_prim path)
+is_bad_target path = not (is_plain_prim path)
 
 -- an item without a path leads to a default prim, and that is no bad target
 abbrev pub is_bad_path : Option (List Element) → Bool

@@ -56,9 +56,9 @@ is_spec_path path = ends_in_spec (last_element path)
 abbrev pub is_property_path : List Element → Bool
 is_property_path path = ends_in_property (last_element path)
 
--- the path of a prim of the stage: without selections
-abbrev pub is_stage_prim : List Element → Bool
-is_stage_prim path = not (is_empty path) && (not (is_property path) && is_plain path)
+-- a plain prim path: neither `/` nor a property's, without selections
+abbrev pub is_plain_prim : List Element → Bool
+is_plain_prim path = not (is_empty path) && (not (is_property path) && is_plain path)
 
 -- ---- what stands there
 

@@ -1,7 +1,7 @@
 //! Kinds of paths.
 ghost use Rattle.std.specs.Prelude.{◌≡◌};
 ghost use Rattle.sdf_paths.specs.Paths.{IsPath};
-ghost use Rattle.layer_edit.specs.Places.{is_prim_path, is_variant_path, is_spec_path, is_property_path, is_stage_prim};
+ghost use Rattle.layer_edit.specs.Places.{is_prim_path, is_variant_path, is_spec_path, is_property_path, is_plain_prim};
 
 use sdf_paths::{Element, Path};
 
@@ -53,9 +53,9 @@ pub fn is_property_path(path: &Path) -> bool
     }
 }
 
-/// Whether a path is that of a prim of the stage.
-pub fn is_stage_prim(path: &Path) -> bool
-    ensures { result ≡ is_stage_prim path.now }
+/// Whether a path is a plain prim path: neither `/` nor a property's, without selections.
+pub fn is_plain_prim(path: &Path) -> bool
+    ensures { result ≡ is_plain_prim path.now }
 {
     !path.is_root() && !path.is_property() && path.is_plain()
 }

@@ -19,7 +19,7 @@ mod spec_changes;
 mod typing;
 
 pub use fields::{set_list, set_order, set_selection, set_sublayers};
-pub use kinds::is_stage_prim;
+pub use kinds::is_plain_prim;
 pub use metadata::{clear_meta, set_meta};
 pub use places::above;
 pub use prims::{add_prim, add_variant, remove};

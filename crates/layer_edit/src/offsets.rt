@@ -4,7 +4,7 @@ ghost use Rattle.std.specs.List.{list_any};
 ghost use Rattle.usda_lists.specs.Offsets.{whole_number};
 ghost use Rattle.layer_edit.specs.Offsets.{in_bounds, offset_of_wholes, offset_of, item_of, items_of, sublayer_of, sublayers_of, is_bad_target, is_bad_path, is_bad_asset, is_bad_item};
 
-use crate::kinds::is_stage_prim;
+use crate::kinds::is_plain_prim;
 use asset_names::AssetId;
 use edit_batches::{WrittenOffset, WrittenReference, WrittenSubLayer};
 use layer_set::anchored;
@@ -110,7 +110,7 @@ pub fn sublayers_of(
 pub fn is_bad_target(path: &Path) -> bool
     ensures { result ≡ is_bad_target path.now }
 {
-    !is_stage_prim(path)
+    !is_plain_prim(path)
 }
 
 /// Whether one of the classes is no prim, or selects a variant.

@@ -12,5 +12,5 @@ mod walk;
 
 pub use fault::LoadFault;
 pub use laws::files_have_one_reading;
-pub use load::{Loaded, MAX_LAYER_NAMES, load_world};
+pub use load::{Loaded, load_world};
 pub use one::{MAX_FETCHED, load_one};

@@ -9,11 +9,8 @@ use crate::fault::LoadFault;
 use crate::opening::{begin, finished, finished_within, name_at, take_turn};
 use asset_names::AssetId;
 use io_edges::LayerFiles;
-use layer_set::World;
+use layer_set::{MAX_LAYER_NAMES, World};
 use std::alloc::Global;
-
-/// The most names of layers that have their turn when a world is opened.
-pub const MAX_LAYER_NAMES: usize = 4096;
 
 /// A world that was opened.
 #[derive(Drop)]

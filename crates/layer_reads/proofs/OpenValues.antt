@@ -14,7 +14,7 @@ use Rattle.usda_machine.specs.Reading.{run, after_step, after_act}
 use Rattle.usda_values.specs.declared.draft.ValueDraft.{ValueDraft}
 use Rattle.usda_values.specs.declared.level.Place.TheVariants as place
 use Rattle.usda_values.specs.Drafts.{Acted, value_act, is_complete, value_of, draft_of, give_act}
-use Rattle.usda_words.specs.Words.{Word}
+use Rattle.usda_words.specs.Words.{Word, word_kind}
 use Rattle.usda_statements.specs.OpenValues.{no_value, is_open, given, given_in, given_path, with_draft}
 use Rattle.usda_drafts.specs.Acts.{act, bodies_act}
 use Rattle.usda_drafts.specs.Refusals.{refused}
@@ -32,7 +32,7 @@ use Rattle.value_texts.proofs.ValueReads.{after_complete}
 use Rattle.value_texts.proofs.Given.{Then}
 use Rattle.layer_reads.specs.Fixed.{IsFixedAs, IsFixed, AreFixed}
 use Rattle.layer_reads.specs.Membered.{is_membered, kinds_of}
-use Rattle.layer_reads.specs.Taking.{word_kind, AreTaken}
+use Rattle.layer_reads.specs.Taking.{AreTaken}
 use Rattle.layer_reads.proofs.ValueSteps.{value_stepped}
 
 -- a draft with another draft of the value that is going

@@ -3,12 +3,12 @@ use Rattle.std.proofs.Common.{◌≡◌, ◌∙◌, List, [], ◌∷◌, ◌++�
 use Rattle.usda_grammar.specs.declared.symbols.Symbol.{Symbol}
 use Rattle.usda_grammar.specs.Machine.{step}
 use Rattle.usda_machine.specs.Reading.{run, after_step, after_act}
-use Rattle.usda_words.specs.Words.{Word}
+use Rattle.usda_words.specs.Words.{Word, word_kind}
 use Rattle.usda_drafts.specs.Acts.{act}
 use Rattle.usda_drafts.specs.declared.draft.Draft.{Draft}
 use Rattle.value_texts.specs.Cuts.{Said}
 use Rattle.value_texts.specs.Words.{Told, told_of, as_word}
-use Rattle.layer_reads.specs.Taking.{word_kind, Lead, AreTaken}
+use Rattle.layer_reads.specs.Taking.{Lead, AreTaken}
 
 -- words that say two parts
 pub record Split (ws : List Word) (a b : List Said) : Type 0 where

@@ -6,12 +6,12 @@ use Rattle.usda_grammar.specs.Machine.{step, choose}
 use Rattle.usda_grammar.specs.Table.{starts, may_be_absent}
 use Rattle.usda_machine.specs.Reading.{run, after_step}
 use Rattle.usda_statements.specs.OpenValues.{is_open}
-use Rattle.usda_words.specs.Words.{Word}
+use Rattle.usda_words.specs.Words.{Word, word_kind}
 use Rattle.usda_drafts.specs.Acts.{act, bodies_act}
 use Rattle.usda_drafts.specs.declared.draft.Draft.{Draft}
 use Rattle.value_texts.specs.Cuts.{Said}
 use Rattle.value_texts.specs.Words.{Told, told_of, as_word}
-use Rattle.layer_reads.specs.Taking.{word_kind, Lead, AreTaken}
+use Rattle.layer_reads.specs.Taking.{Lead, AreTaken}
 use Rattle.layer_reads.proofs.FieldLists.{plain_act}
 use Rattle.layer_reads.proofs.Taking.{taken_one, together}
 

@@ -1,17 +1,13 @@
 -- Words of a text that are taken one behind the other, whatever symbols stand below and whatever words follow.
 use Rattle.std.specs.Prelude.{◌≡◌, List, ◌++◌, map, Option}
 use Rattle.usda_grammar.specs.declared.symbols.Symbol.{Symbol}
-use Rattle.usda_grammar.specs.declared.kinds.WordKind.{WordKind}
 use Rattle.usda_machine.specs.Reading.{run}
-use Rattle.usda_words.specs.Words.{Word}
+use Rattle.usda_words.specs.Words.{Word, word_kind}
 use Rattle.usda_drafts.specs.Acts.{act}
 use Rattle.usda_drafts.specs.declared.draft.Draft.{Draft}
 use Rattle.usda_drafts.specs.declared.fault.Refused.{Refused}
 use Rattle.value_texts.specs.Cuts.{Said}
 use Rattle.value_texts.specs.Words.{told_of, as_word}
-
-abbrev pub word_kind : Word → WordKind
-word_kind w = w.kind
 
 -- these words lead from symbols and a draft to others
 pub record Lead (from : List Symbol) (d : Draft) (ws : List Word) (to : List Symbol) (next : Draft) : Type 0 where

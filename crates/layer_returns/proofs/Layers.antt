@@ -14,7 +14,7 @@ use Rattle.usda_grammar.specs.declared.kinds.WordKind.TheVariants as token
 use Rattle.usda_grammar.specs.declared.symbols.Symbol.{Symbol}
 use Rattle.usda_grammar.specs.declared.symbols.Symbol.TheVariants as symbol
 use Rattle.usda_machine.specs.Reading.{run, at_end}
-use Rattle.usda_words.specs.Words.{Word, words_of}
+use Rattle.usda_words.specs.Words.{Word, words_of, word_kind}
 use Rattle.usda_writer.specs.Canonical.{canonical, with_default_prim}
 use Rattle.usda_drafts.specs.Acts.{act, bodies_act, prims_act, layers_act}
 use Rattle.usda_drafts.specs.Drafts.{blank, layer_by, layer_of}
@@ -28,7 +28,7 @@ use Rattle.value_texts.specs.Each.{AreAll}
 use Rattle.layer_texts.specs.FieldWords.{block_words, meta_words, sublayers_words}
 use Rattle.layer_texts.specs.LayerWords.{head_words, order_words, children_words, body_words, layer_words}
 use Rattle.layer_texts.proofs.Layers.{all_told, layer_spelled}
-use Rattle.layer_reads.specs.Taking.{word_kind, AreTaken}
+use Rattle.layer_reads.specs.Taking.{AreTaken}
 use Rattle.layer_reads.proofs.Taking.{taken_nothing, together, above}
 use Rattle.layer_reads.specs.Items.{begins_item, IsLeft, Left, AreItems}
 use Rattle.layer_reads.specs.Standing.{Standing, saying, IsAt}

@@ -8,7 +8,7 @@ use Rattle.usda_fields.specs.Owners.{owner_at, with_meta}
 use Rattle.usda_fields.specs.declared.owner.OrderWord.TheVariants.{NameChildren}
 use Rattle.usda_grammar.specs.Table as grammar
 use Rattle.usda_machine.specs.Reading.{run}
-use Rattle.usda_words.specs.Words.{Word, words_of}
+use Rattle.usda_words.specs.Words.{Word, words_of, word_kind}
 use Rattle.usda_writer.specs.Canonical.{canonical, with_default_prim}
 use Rattle.usda_drafts.specs.Acts.{act}
 use Rattle.usda_drafts.specs.Drafts.{blank, head_from, layer_of}
@@ -20,7 +20,6 @@ use Rattle.value_texts.specs.Each.{AreAll}
 use Rattle.layer_texts.specs.LayerWords.{layer_words}
 use Rattle.layer_texts.specs.Writable.{is_writable_layer}
 use Rattle.layer_reads.specs.Keys.{is_plain_head_key}
-use Rattle.layer_reads.specs.Taking.{word_kind}
 use Rattle.layer_reads.specs.Kept.{has_items}
 use Rattle.layer_reads.specs.Meta.{IsMetaKept}
 use Rattle.layer_reads.specs.Standing.{Standing, saying, IsAt}

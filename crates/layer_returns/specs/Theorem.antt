@@ -7,14 +7,13 @@ use Rattle.spec_parts.specs.declared.spec.Spec.{Spec}
 use Rattle.spec_tables.specs.Tables.{at_key}
 use Rattle.usda_grammar.specs.Table as grammar
 use Rattle.usda_machine.specs.Reading.{run}
-use Rattle.usda_words.specs.Words.{Word, words_of}
+use Rattle.usda_words.specs.Words.{Word, words_of, word_kind}
 use Rattle.usda_writer.specs.Canonical.{canonical}
 use Rattle.usda_drafts.specs.Acts.{act}
 use Rattle.usda_drafts.specs.Drafts.{blank, layer_of}
 use Rattle.usda_drafts.specs.declared.draft.Draft.{Draft}
 use Rattle.usda_drafts.specs.declared.fault.Refused.{Refused}
 use Rattle.layer_texts.specs.Writable.{is_writable_layer}
-use Rattle.layer_reads.specs.Taking.{word_kind}
 use Rattle.layer_returns.specs.Layers.{IsLayerKept}
 use Rattle.layer_returns.specs.Reached.{IsFromChildren, IsReached}
 use Rattle.layer_returns.specs.Whole.{AreChildrenWhole, IsWhole}

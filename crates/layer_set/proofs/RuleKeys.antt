@@ -8,7 +8,7 @@ use Rattle.std.specs.declared.cmp.Ordering.{Ordering}
 use Rattle.std.specs.declared.cmp.Ordering.TheVariants.{Less, Equal, Greater}
 use Rattle.sdf_paths.specs.Order.{path_cmp}
 use Rattle.sdf_paths.specs.declared.element.Element.{Element}
-use Rattle.layer_set.specs.Rules.{RuleEntries, IsStagePrim, AreRules, with_rule}
+use Rattle.layer_set.specs.Rules.{RuleEntries, IsPlainPrim, AreRules, with_rule}
 
 module _ {K V : Type 0} (P : K → Type 0) where
   with_entry : (R : K → K → Ordering) (k : K) (v : V) (es : List (K × V)) → P k → AllByRecursion P (keys_of es) → AllByRecursion P (keys_of (insert_entry R es k v))
@@ -28,6 +28,6 @@ module _ {K V : Type 0} (P : K → Type 0) where
         | false ↦ (rest.0, without_entry test es rest.1)
       ]
 
-pub still_rules : (path : List Element) (rule : Option Bool) (rules : RuleEntries) → IsStagePrim path → AreRules rules → AreRules (with_rule path rule rules)
-still_rules path (Some rule) rules prim all = with_entry IsStagePrim path_cmp path rule rules prim all
-still_rules path None rules prim all = without_entry IsStagePrim (λ p. is_eq (path_cmp path p)) rules all
+pub still_rules : (path : List Element) (rule : Option Bool) (rules : RuleEntries) → IsPlainPrim path → AreRules rules → AreRules (with_rule path rule rules)
+still_rules path (Some rule) rules prim all = with_entry IsPlainPrim path_cmp path rule rules prim all
+still_rules path None rules prim all = without_entry IsPlainPrim (λ p. is_eq (path_cmp path p)) rules all

@@ -2,6 +2,8 @@
 use Rattle.std.specs.Prelude.{◌≡◌, ◌≢◌, Bool, true, false, List, [], Option, Some, None, length}
 use Rattle.std.specs.List.{AllByRecursion}
 use Rattle.std.specs.Map.{keys_of}
+use Rattle.std.specs.declared.alloc.Global.{Global}
+use Rattle.std.specs.declared.sync.Arc.{Arc}
 use Rattle.sdf_paths.specs.Order.{path_cmp}
 use Rattle.sdf_paths.specs.Paths.{is_plain, is_property}
 use Rattle.sdf_paths.specs.declared.element.Element.{Element}
@@ -14,15 +16,20 @@ use Rattle.composition.specs.World.{rule_or_loaded}
 abbrev pub RuleEntries : Type 0
 RuleEntries = List (List Element × Bool)
 
--- the path of a prim of the stage: neither `/` nor a property's, without selections
-pub record IsStagePrim (path : List Element) : Type 0 where
+-- the rules behind a pointer; none where there is no pointer
+abbrev pub shared_entries : Option (Arc RuleEntries Global) → RuleEntries
+shared_entries None = []
+shared_entries (Some rules) = rules.value
+
+-- a plain prim path: neither `/` nor a property's, without selections
+pub record IsPlainPrim (path : List Element) : Type 0 where
   pub below : path ≢ []
   pub prim : is_property path ≡ false
   pub plain : is_plain path ≡ true
 
--- rules on prims of the stage alone
+-- rules at plain prim paths alone
 abbrev pub AreRules : RuleEntries → Type 0
-AreRules rules = AllByRecursion IsStagePrim (keys_of rules)
+AreRules rules = AllByRecursion IsPlainPrim (keys_of rules)
 
 -- the rule at a path
 abbrev pub rule_at : List Element → RuleEntries → Option Bool

@@ -1,5 +1,5 @@
 -- Worlds as plain data.
-use Rattle.std.specs.Prelude.{ℕ, List, Option, Some, None}
+use Rattle.std.specs.Prelude.{ℕ, Bool, true, false, List, Option, Some, None}
 use Rattle.sdf_paths.specs.declared.element.Element.{Element}
 use Rattle.sdf_specs.specs.Layers.{LayerTable, spec_at}
 use Rattle.spec_parts.specs.declared.spec.Spec.{Spec}
@@ -15,6 +15,12 @@ pub record WorldData : Type 0 where
   pub session : Option (List ℕ)
   pub layers : List (List ℕ × Held)
   pub rules : RuleEntries
+
+-- a layer stands there: it is neither absent nor refused
+abbrev pub is_present : Held → Bool
+is_present (Present layer) = true
+is_present Absent = false
+is_present (Broken refusal) = false
 
 -- a name that is not in the map is absent
 abbrev pub held_or_absent : Option Held → Held

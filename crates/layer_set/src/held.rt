@@ -13,6 +13,22 @@ pub enum Held {
     Broken(Refusal),
 }
 
+impl Held {
+    ghost use Rattle.std.specs.Prelude.{◌≡◌};
+    ghost use Rattle.layer_set.specs.Worlds.{is_present};
+
+    /// Whether a layer stands there: neither nothing nor what is refused.
+    pub fn is_present(&self) -> bool
+        ensures { result ≡ is_present self.now }
+    {
+        match self {
+            Held::Present(_) => true,
+            Held::Absent => false,
+            Held::Broken(_) => false,
+        }
+    }
+}
+
 impl Clone for Held {
     ghost use Rattle.std.specs.Prelude.{◌≡◌};
 

@@ -8,9 +8,10 @@ mod named;
 mod rules;
 mod same;
 mod shared;
+mod shared_rules;
 mod world;
 
 pub use assets::anchored;
 pub use held::Held;
 pub use key::Key;
-pub use world::World;
+pub use world::{MAX_LAYER_NAMES, World};

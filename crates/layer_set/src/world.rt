@@ -12,9 +12,9 @@ ghost use Rattle.layer_set.specs.declared.held.Held.{Held};
 use crate::held::Held;
 use crate::key::Key;
 use crate::named;
-use crate::rules::Rules;
 use crate::same::{arcs_of, body_of, same_heading, same_part, same_roots};
 use crate::shared::Shared;
+use crate::shared_rules::SharedRules;
 use asset_names::AssetId;
 use plain_data::{copy_two, same};
 use sdf_paths::Path;
@@ -23,8 +23,11 @@ use spec_tables::OrderedTable;
 use std::alloc::{AllocError, Global};
 use std::marker::Model;
 
+/// How many names of layers a world has at most, where it was opened from files or made by batches of edits.
+pub const MAX_LAYER_NAMES: usize = 4096;
+
 /// A world: what every answer of composition is a function of. It has the names of the root and the session layer, what stands at
-/// names of layers, and load rules by path. Copies share the layers.
+/// names of layers, and load rules by path. Copies share the layers and the rules.
 ///
 /// Contracts see it as plain data.
 #[derive(Drop)]
@@ -32,7 +35,7 @@ pub struct World {
     root: AssetId,
     session: Option<AssetId>,
     layers: OrderedTable<AssetId, Shared<Held>>,
-    rules: Rules,
+    rules: SharedRules,
     /// What is lent for a name that has nothing.
     absent: Held,
     alloc: Global,
@@ -75,7 +78,7 @@ impl World {
             root,
             session,
             layers: OrderedTable::new(alloc),
-            rules: Rules::new(alloc),
+            rules: SharedRules::new(alloc),
             absent: Held::Absent,
             alloc,
         })
@@ -181,7 +184,8 @@ impl World {
         }
     }
 
-    /// Puts a load rule at the path of a prim of the stage, or takes it away. After want of memory the world is as before.
+    /// Puts a load rule at a plain prim path, or takes it away. Rules that another world shares are copied first. After want of memory
+    /// the world is as before.
     pub fn set_load(&mut self, p: &Path, rule: Option<bool>) -> Result<(), AllocError>
         requires plain { is_plain p.now ≡ true }
         requires prim { is_property p.now ≡ false }
@@ -192,7 +196,7 @@ impl World {
         self.rules.set(p, rule)
     }
 
-    /// A copy that shares the layers: it costs the number of names and rules.
+    /// A copy that shares the layers and the rules: it costs the number of names.
     pub fn copy(&self) -> Result<World, AllocError>
         ensures { IfOk result (λ w. w ≡ self.now) }
     {

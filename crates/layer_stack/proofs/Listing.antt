@@ -1,11 +1,21 @@
 -- A layer with all that stands below it, from the first step to the last.
-use Rattle.std.proofs.Common.{◌≡◌, ◌∙◌, sym, ap, arith, ℕ, ◌-◌, Bool, true, false, List, [], ◌∷◌, length, Some, None}
+use Rattle.std.proofs.Common.{◌≡◌, ◌∙◌, sym, ap, refl, arith, ℕ, ◌-◌, Bool, true, false, List, [], ◌∷◌, length, Some, None}
 use Rattle.sdf_values.specs.Scales.{Offset}
 use Rattle.composition.specs.Texts.{Text}
 use Rattle.composition.specs.World.{World, Heading, headed, no_layer, refused, identity}
 use Rattle.composition.specs.Stacks.{LayerStack, with_asked, not_held, listed}
+use Rattle.layer_set.specs.LookUps.{heading_of}
+use Rattle.layer_set.specs.Worlds.{is_present as is_layer}
+use Rattle.layer_set.specs.declared.held.Held.{Held}
+use Rattle.layer_set.specs.declared.held.Held.TheVariants.{Present, Absent, Broken}
 use Rattle.layer_stack.specs.Meant.{with_stack}
 use Rattle.layer_stack.specs.Visiting.{OpenLayer, is_present, chain_of, visited, Opens}
+
+-- a layer stands at a name where its heading is that of one
+pub present_heading : (held : Held) → is_layer held ≡ is_present (heading_of held)
+present_heading (Present layer) = refl
+present_heading Absent = refl
+present_heading (Broken refusal) = refl
 
 module _ (w : World) (most : ℕ) (name : Text) (s : LayerStack) where
   below : LayerStack

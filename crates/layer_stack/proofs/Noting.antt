@@ -1,25 +1,16 @@
--- Names that are noted each once, with a table beside them.
-use Rattle.std.proofs.Common.{◌≡◌, ◌∙◌, sym, ap, refl, ℕ, ◌+◌, ◌<◌, length, take, get_or, Bool, true, false, cond, ◌||◌, List, [], ◌∷◌, ◌++◌, Option, Some, append-nil, ◌⊎◌, inl, inr}
+-- Names that are noted each once.
+use Rattle.std.proofs.Common.{◌≡◌, ◌∙◌, sym, ap, refl, Bool, true, false, cond, ◌||◌, List, [], ◌∷◌, ◌++◌, append-nil, ◌⊎◌, inl, inr}
+use Rattle.std.specs.Prelude.{fold}
 use Rattle.std.specs.List.{list_any}
-use Rattle.std.specs.Option.{is_some}
 use Rattle.std.proofs.lemmas.Bool.{or_cases, or_left, or_right}
 use Rattle.std.proofs.lemmas.List.Folds.{list_any-append}
-use Rattle.std.proofs.lemmas.List.Sums.{fold-append}
-use Rattle.std.proofs.lemmas.List.{take_more}
 use Rattle.std.proofs.Math.Bool.{or-false}
 use Rattle.composition.specs.Texts.{Text, same_text}
-use Rattle.layer_set.specs.Named.{at_name, with_name}
+use Rattle.list_ops.specs.ListEdits.{contains, without, firsts}
+use Rattle.list_ops.proofs.EditLemmas.{without_none, first_step}
 use Rattle.layer_stack.specs.Meant.{noted, each_once}
-use Rattle.layer_stack.proofs.Names.{at_with}
 use Rattle.composition.proofs.Same.{same_text_same, same_itself}
 use Rattle.composition.proofs.Tests.{by_test}
-
--- the table has the names of the list
-abbrev pub Tells : List (Text × Bool) → List Text → Type 0
-Tells met once = (q : Text) → is_some (at_name q met) ≡ list_any (same_text q) once
-
-pub one_more : (names : List Text) (name : Text) → each_once (names ++ name ∷ []) ≡ noted (each_once names) name
-one_more names name = fold-append noted [] names (name ∷ [])
 
 pub noted_new : (once : List Text) (name : Text) → list_any (same_text name) once ≡ false → noted once name ≡ once ++ name ∷ []
 noted_new once name h = ap (λ (b : Bool). elim b as (λ _. List Text) [ true ↦ once | false ↦ once ++ name ∷ [] ]) h
@@ -57,28 +48,47 @@ noted_back names n q h = by_test (has n names) (λ on. inl (sym (ap (has q) (not
 pub noted_kept : (names : List Text) (n q : Text) → has q names ≡ true → has q (noted names n) ≡ true
 noted_kept names n q h = let m = noted_more names n in ap (has q) m.1 ∙ has_front q names m.0 h
 
-either : (t b : Bool) (o : Option Bool) → is_some o ≡ b → is_some (cond t (Some true) o) ≡ (b || (t || false))
-either true true o h = refl
-either true false o h = refl
-either false true o h = h
-either false false o h = h
+-- ---- names that are noted one by one are the first of each
 
-pub still_tells : (met : List (Text × Bool)) (once : List Text) (name : Text) → Tells met once → Tells (with_name name true met) (once ++ name ∷ [])
-still_tells met once name tells q =
-    ap (λ (o : Option Bool). is_some o) (at_with q name true met)
-    ∙ (either (same_text q name) (list_any (same_text q) once) (at_name q met) (tells q)
-    ∙ sym (list_any-append (same_text q) once (name ∷ [])))
+same_either_way : (a b : Text) → same_text a b ≡ same_text b a
+same_either_way a b = by_test (same_text a b)
+    (λ yes. yes ∙ sym (ap (λ (t : Text). same_text b t) (same_text_same a b yes) ∙ same_itself b))
+    (λ no. by_test (same_text b a)
+    (λ back. absurd (cc (no, ap (λ (t : Text). same_text a t) (same_text_same b a back) ∙ same_itself a)))
+    (λ apart. no ∙ sym apart))
 
-module _ (names : List Text) (i : ℕ) (name : Text) (once : List Text) (within : i < length names) (item : name ≡ get_or names i name) (before : once ≡ each_once (take i names)) where
-  next : each_once (take (i + 1) names) ≡ noted once name
-  next =
-      ap each_once (take_more names i name within)
-      ∙ (one_more (take i names) (get_or names i name)
-      ∙ (ap (λ (n : Text). noted (each_once (take i names)) n) (sym item)
-      ∙ ap (λ (o : List Text). noted o name) (sym before)))
+-- the two lists have the same names
+abbrev Covers : List Text → List Text → Type 0
+Covers once seen = (q : Text) → contains same_text seen q ≡ has q once
 
-  pub step_new : (has : Bool) → has ≡ false → has ≡ list_any (same_text name) once → once ++ name ∷ [] ≡ each_once (take (i + 1) names)
-  step_new has not_there is = sym (next ∙ noted_new once name (sym is ∙ not_there))
+inside : (once : List Text) (n q : Text) → has n once ≡ true → (has q once || (same_text n q || false)) ≡ has q once
+inside once n q on = by_test (same_text n q)
+    (λ is.
+    let there : has q once ≡ true = sym (ap (λ (t : Text). has t once) (same_text_same n q is)) ∙ on in
+    or_left (has q once) (same_text n q || false) there ∙ sym there)
+    (λ other. ap (λ (b : Bool). has q once || (b || false)) other ∙ or-false (has q once))
 
-  pub step_old : (has : Bool) → has ≡ true → has ≡ list_any (same_text name) once → once ≡ each_once (take (i + 1) names)
-  step_old has there is = sym (next ∙ noted_old once name (sym is ∙ there))
+covers_more : (once seen : List Text) (n : Text) → Covers once seen → Covers (noted once n) (seen ++ n ∷ [])
+covers_more once seen n covers q =
+    list_any-append (λ (y : Text). same_text y q) seen (n ∷ [])
+    ∙ (ap (λ (b : Bool). b || (same_text n q || false)) (covers q)
+    ∙ by_test (has n once)
+    (λ on. inside once n q on ∙ sym (ap (has q) (noted_old once n on)))
+    (λ off.
+    ap (λ (b : Bool). has q once || (b || false)) (same_either_way n q)
+    ∙ (sym (list_any-append (same_text q) once (n ∷ [])) ∙ sym (ap (has q) (noted_new once n off)))))
+
+noted_if_new : (once seen : List Text) (n : Text) → Covers once seen → noted once n ≡ cond (contains same_text seen n) once (once ++ n ∷ [])
+noted_if_new once seen n covers = by_test (has n once)
+    (λ on. noted_old once n on ∙ sym (ap (λ (b : Bool). cond b once (once ++ n ∷ [])) (covers n ∙ on)))
+    (λ off. noted_new once n off ∙ sym (ap (λ (b : Bool). cond b once (once ++ n ∷ [])) (covers n ∙ off)))
+
+noted_behind : (once seen names : List Text) → Covers once seen → fold noted once names ≡ once ++ without same_text (firsts same_text names) seen
+noted_behind once seen [] covers = sym (append-nil once)
+noted_behind once seen (n ∷ ns) covers =
+    noted_behind (noted once n) (seen ++ n ∷ []) ns (covers_more once seen n covers)
+    ∙ (ap (λ (l : List Text). l ++ without same_text (firsts same_text ns) (seen ++ n ∷ [])) (noted_if_new once seen n covers)
+    ∙ sym (first_step same_text once ns seen n (contains same_text seen n) refl))
+
+pub each_once_noted : (names : List Text) → each_once names ≡ fold noted [] names
+each_once_noted names = sym (noted_behind [] [] names (λ q. refl) ∙ without_none same_text (firsts same_text names))

@@ -1,6 +1,7 @@
 -- What a layer stack answers, and names each once.
-use Rattle.std.specs.Prelude.{ℕ, Bool, true, false, Some, None, List, [], ◌∷◌, ◌++◌, fold}
+use Rattle.std.specs.Prelude.{ℕ, Bool, true, false, Some, None, List, [], ◌∷◌, ◌++◌}
 use Rattle.std.specs.List.{list_any}
+use Rattle.list_ops.specs.ListEdits.{firsts}
 use Rattle.composition.specs.Texts.{Text, same_text}
 use Rattle.composition.specs.Paths.{Limits, limits}
 use Rattle.composition.specs.World.{World, StackName, Root, Asset, stack_of}
@@ -37,4 +38,4 @@ noted names name = elim (list_any (same_text name) names) [ true ↦ names | fal
 
 -- names each once, in the order in which they are first met
 abbrev pub each_once : List Text → List Text
-each_once names = fold noted [] names
+each_once names = firsts same_text names

@@ -12,4 +12,4 @@ mod walk;
 pub use laws::{a_meant_name_has_the_same_stack, no_stack_is_cut};
 pub use once::each_once;
 pub use prim_view::StackName;
-pub use stacks::{LayerStack, MAX_LAYERS, stack};
+pub use stacks::{LayerStack, stack};

@@ -8,15 +8,11 @@ use crate::draft::StackDraft;
 use crate::once::each_once;
 use crate::walk::Walk;
 use asset_names::AssetId;
-use layer_set::World;
+use layer_set::{MAX_LAYER_NAMES, World};
 use plain_data::{Items, copy, same};
 use prim_view::{PrimFault, StackName, SublayerFault};
 use sdf_values::LayerOffset;
 use std::alloc::{AllocError, Global};
-
-/// How many layers a chain of sublayers has at most: as many as a world that was opened or edited may have names. In a world with
-/// more, what lies deeper on a chain is left out without a fault.
-pub const MAX_LAYERS: usize = 4096;
 
 /// The layers of a stack.
 #[derive(Debug, Drop)]
@@ -130,7 +126,8 @@ fn stack_within(
 }
 
 /// The layer stack of a name: its layers with their offsets, the faults of sublayers that are not followed, and the names that were
-/// asked.
+/// asked. In a world of more than `MAX_LAYER_NAMES` names, what lies deeper on a chain of sublayers than so many layers is left out
+/// without a fault.
 ///
 /// # Errors
 ///
@@ -142,7 +139,7 @@ pub fn stack(alloc: Global, world: &World, name: &StackName) -> Result<LayerStac
     ensures asked { IfOk result (λ s. s.asked ≡ each_once (defined_stack (look_ups world.now) name.now).asked) }
 {
     let meant = meant(world, name)?;
-    let draft = stack_within(alloc, world, MAX_LAYERS, name)?;
+    let draft = stack_within(alloc, world, MAX_LAYER_NAMES, name)?;
     let faults = prim_faults(alloc, draft.faults())?;
     let asked = each_once(alloc, draft.asked())?;
     Ok(LayerStack {

@@ -4,7 +4,7 @@ ghost use Rattle.composition.specs.Stacks.{nothing_listed, sublayers_of};
 ghost use Rattle.layer_set.specs.LookUps.{look_ups, heading_of};
 ghost use Rattle.layer_stack.specs.Listing.{looked, next_of};
 ghost use Rattle.layer_stack.specs.Meant.{with_stack};
-ghost use Rattle.layer_stack.specs.Visiting.{is_above, is_present, chain_of, Marked, Opens, Visits};
+ghost use Rattle.layer_stack.specs.Visiting.{is_above, chain_of, Marked, Opens, Visits};
 
 use crate::draft::StackDraft;
 use crate::frames::{Frame, Frames};
@@ -56,17 +56,6 @@ fn look(
             draft.add_fault(reason, layer, Text::of(alloc, name.text())?)?;
             Ok(None)
         }
-    }
-}
-
-/// Whether a layer stands at a name.
-fn is_present(held: &Held) -> bool
-    ensures { result ≡ is_present (heading_of held.now) }
-{
-    match held {
-        Held::Present(_) => true,
-        Held::Absent => false,
-        Held::Broken(_) => false,
     }
 }
 
@@ -187,7 +176,7 @@ impl<'w> Walk<'w> {
         ensures frames { OnOk result (self.new.frames ≡ []) }
     {
         self.draft.add_asked(name)?;
-        if !is_present(world.held(name)) {
+        if !world.held(name).is_present() {
             return Ok(());
         }
         self.open(world, most, copy(name)?, LayerOffset::identity())?;

@@ -86,7 +86,7 @@ without_twice same (y ∷ ys) out x = elim (cases_Bool (same x y)) [
   ]
 ]
 
-first_step : {T : Type 0} (same : T → T → Bool) (kept rest seen : List T) (x : T) (b : Bool) → contains same seen x ≡ b
+pub first_step : {T : Type 0} (same : T → T → Bool) (kept rest seen : List T) (x : T) (b : Bool) → contains same seen x ≡ b
     → kept ++ without same (firsts same (x ∷ rest)) seen ≡ cond b kept (kept ++ x ∷ []) ++ without same (firsts same rest) (seen ++ x ∷ [])
 first_step same kept rest seen x true h = rw h (ap (λ l. kept ++ l) (without_twice same (firsts same rest) seen x))
 first_step same kept rest seen x false h =

@@ -1,3 +1,4 @@
 pub mod Blank
 pub mod ListEdits
+pub mod Opinions
 pub mod SameEdits

@@ -8,7 +8,8 @@ use crate::places::Places;
 use plain_data::{ExactClone, Items, copy};
 use std::alloc::{AllocError, Global};
 
-/// What the opinions, the weakest first, make of the empty list.
+/// What the opinions, the weakest first, make of the empty list. What is no opinion is passed over, once a list is known to have no
+/// repeats.
 pub fn fold<P: Places<T>, T: Eq + ExactClone + Drop>(
     alloc: Global,
     ops: &[ListOp<T>],
@@ -16,8 +17,13 @@ pub fn fold<P: Places<T>, T: Eq + ExactClone + Drop>(
     ensures { IfOk result (λ list. list ≡ folded T.eq ops.now) }
 {
     let mut list = Items::new(alloc);
+    let mut is_once = true;
     for op in ops {
-        list = applied::<P, T>(alloc, op, list.as_slice())?;
+        let is_opinion = op.is_opinion();
+        if is_opinion || !is_once {
+            list = applied::<P, T>(alloc, op, list.as_slice())?;
+            is_once = !is_opinion;
+        }
     }
     Ok(list)
 }

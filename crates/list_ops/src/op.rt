@@ -1,5 +1,6 @@
 ghost use Rattle.std.specs.Prelude.{◌≡◌, IfOk, OnOk, OnErr};
 ghost use Rattle.list_ops.specs.ListEdits.{firsts, folded, reordered};
+ghost use Rattle.list_ops.specs.Opinions.{has_items};
 
 use crate::edits;
 use crate::places::{Scanned, Sorted};
@@ -26,6 +27,7 @@ pub struct ListOp<T> {
 
 impl<T> ListOp<T> {
     ghost use Rattle.list_ops.specs.Blank.{no_edits};
+    ghost use Rattle.list_ops.specs.Opinions.{has_edits, is_opinion};
 
     /// The opinion that edits nothing. Takes no memory.
     pub fn new(alloc: Global) -> ListOp<T>
@@ -38,6 +40,27 @@ impl<T> ListOp<T> {
             prepended: Items::new(alloc),
             appended: Items::new(alloc),
             ordered: Items::new(alloc),
+        }
+    }
+
+    /// Whether some edit has items, whatever the explicit list is.
+    pub fn has_edits(&self) -> bool
+        ensures { result ≡ has_edits self.now }
+    {
+        has_items(self.deleted.as_slice())
+            || has_items(self.added.as_slice())
+            || has_items(self.prepended.as_slice())
+            || has_items(self.appended.as_slice())
+            || has_items(self.ordered.as_slice())
+    }
+
+    /// Whether it is an opinion on the list: an explicit list, also an empty one, or some edit.
+    pub fn is_opinion(&self) -> bool
+        ensures { result ≡ is_opinion self.now }
+    {
+        match &self.explicit {
+            Some(_) => true,
+            None => self.has_edits(),
         }
     }
 }
@@ -68,6 +91,16 @@ impl<T: ExactEq + ExactOrd + ExactClone + Drop> ListOp<T> {
         let next = edits::applied::<Sorted<T>, T>(*list.allocator(), self, list.as_slice())?;
         *list = next.into_vec();
         Ok(())
+    }
+}
+
+/// Whether there is an item.
+fn has_items<T>(items: &[T]) -> bool
+    ensures { result ≡ has_items items.now }
+{
+    match items {
+        [] => false,
+        [_, ..] => true,
     }
 }
 

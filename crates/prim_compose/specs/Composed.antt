@@ -22,7 +22,7 @@ use Rattle.composition.specs.Views.{view, view_from, root_view, root_meta, prope
 unfoldable pub view_at : World → Path → PrimView
 view_at w p = view limits w p
 
--- that of a prim of the stage, by its index and its opinions
+-- that of a plain prim path, by its index and its opinions
 unfoldable pub viewed : World → Path → Index → List Said → PrimView
 viewed w p i said = view_from limits w p i said
 

@@ -1,4 +1,4 @@
--- The view of a prim of the stage, by its index and the opinions on it.
+-- The view at a plain prim path, by its index and the opinions on it.
 -- docs/COMPOSITION.md, 'The stage'.
 use Rattle.std.specs.Prelude.{List, ◌++◌, map, Option}
 use Rattle.composition.specs.Faults.{Fault, Index, child_too_long}

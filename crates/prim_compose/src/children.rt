@@ -79,7 +79,7 @@ fn too_long_in(alloc: Global, room: usize, names: &[Text]) -> Result<Items<PrimF
     Ok(faults)
 }
 
-/// The children of these names below a prim of the stage or `/`.
+/// The children of these names below a plain prim path or `/`.
 pub fn children_below(alloc: Global, place: &Path, names: &[Text]) -> Result<Children, AllocError>
     requires { list_all is_prim_name place.now ≡ true }
     ensures names { IfOk result (λ children. children.names ≡ listed_children limits place.now names.now) }

@@ -1,4 +1,4 @@
-//! The composed view of a prim: what layers make of a path of the stage.
+//! The composed view of a path: what layers make of it, whether or not the stage has a prim there.
 #![tactic(auto)]
 
 mod children;

@@ -158,7 +158,7 @@ fn chosen(alloc: Global, index: &PrimIndex) -> Result<(Choices, Items<Site>), Al
     }
 }
 
-/// The view of a prim of the stage, by its index and the opinions on it.
+/// The view at a plain prim path, by its index and the opinions on it.
 fn view_from(
     alloc: Global,
     place: &Path,
@@ -187,7 +187,7 @@ fn view_from(
     }
 }
 
-/// The view of a prim of the stage, by its index.
+/// The view at a plain prim path, by its index.
 fn view_by(
     alloc: Global,
     world: &World,
@@ -205,7 +205,7 @@ fn view_by(
     view_from(alloc, place, index, said.as_slice())
 }
 
-/// The view of a prim of the stage.
+/// The view at a plain prim path.
 fn prim_view(alloc: Global, world: &World, place: &Path) -> Result<PrimView, AllocError>
     requires { list_all is_prim_name place.now ≡ true }
     ensures { IfOk result (λ view. view ≡ seen_by (look_ups world.now) place.now (index_at limits (look_ups world.now) place.now)) }
@@ -214,10 +214,10 @@ fn prim_view(alloc: Global, world: &World, place: &Path) -> Result<PrimView, All
     view_by(alloc, world, place, &index)
 }
 
-/// The composed view of a path: the fields, properties and children of the prim that stands there, the sites and choices that it is
-/// composed of, and the faults that were found, each once. `/` has the metadata of the session and the root layer, the root prims,
-/// and the faults of the root's sublayers. A path of no prim of the stage, as that of a property or one with variant selections, has
-/// nothing.
+/// The composed view of a path, whether or not the stage has a prim there: the fields, properties and children of the prim, the sites
+/// and choices that it is composed of, and the faults that were found, each once. `/` has the metadata of the session and the root
+/// layer, the root prims, and the faults of the root's sublayers. What is neither a plain prim path nor `/`, as the path of a property
+/// or one with variant selections, has nothing.
 ///
 /// # Errors
 ///

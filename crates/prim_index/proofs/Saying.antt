@@ -1,6 +1,7 @@
 -- What the layers say at a node, part by part.
 use Rattle.std.proofs.Common.{◌≡◌, ◌∙◌, sym, ap, refl, arith, ℕ, zero, suc, ◌+◌, ◌-◌, Bool, true, false, IsTrue, ◌↔◌, List, [], ◌∷◌, ◌++◌, append-nil, length, take, map, flat_map, Option, Some, None, Result, Ok, Err, IfOk, add-one}
 use Rattle.std.specs.Prelude.{slice_get, not}
+use Rattle.std.specs.BTreeMap.{BTreeMap}
 use Rattle.std.specs.List.{filter_map}
 use Rattle.std.proofs.lemmas.List.{length-take, map-append, take-take}
 use Rattle.path_maps.specs.declared.kind.ArcKind.{ArcKind}
@@ -17,7 +18,8 @@ use Rattle.layer_stack.specs.Meant.{defined_stack}
 use Rattle.layer_stack.specs.declared.stacks.LayerStack.{LayerStack}
 use Rattle.arc_expand.specs.Authoring.{IsStackOf, opinions_in, opinions, authored_in, sets_in}
 use Rattle.arc_expand.proofs.Authoring as authoring
-use Rattle.prim_index.specs.Reading.{said, said_levels, sublayers_said, sublayer_faults, tried_of, looked_at, tried_level, tried_kind, tried_all, variant_at, chosen_for, chosen_of, chosen_level, chosen_all, parts}
+use Rattle.site_order.specs.ChoiceTables.{noted_for, Tells}
+use Rattle.prim_index.specs.Reading.{said, said_levels, sublayers_said, sublayer_faults, tried_of, looked_at, tried_level, tried_kind, tried_all, variant_at, chosen_for, chosen_by, chosen_of, chosen_level, chosen_all, parts}
 
 -- ---- faults of sublayers
 
@@ -90,6 +92,12 @@ nothing_chosen n j (s ∷ sets) = nothing_chosen n j sets
 pub chosen_unseen : (n : Node) (j : ℕ) (os : List Opinion) → frame_at n j ≡ bare → chosen_level n (j, os) ≡ []
 unfolding chosen_level
 chosen_unseen n j os is = ap (λ (f : Frame). chosen_of n j f.choices (sets_in os)) is ∙ nothing_chosen n j (sets_in os)
+
+-- a table of choices decides for sets what the choices decide
+pub chosen_by_table : (n : Node) (j : ℕ) (choices : Choices) (table : BTreeMap Text Text) (sets : List Text) → Tells table (λ q. find_at same_text q choices)
+    → chosen_by n j (noted_for table) sets ≡ chosen_of n j choices sets
+unfolding chosen_by chosen_of
+chosen_by_table n j choices table sets tells = λ i. filter_map (λ set. chosen_for n j set (tells set i)) sets
 
 -- ---- frames
 

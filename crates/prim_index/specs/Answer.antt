@@ -9,7 +9,7 @@ use Rattle.composition.specs.Faults.{Index, index, index_of, Fault, overgrown}
 use Rattle.composition.specs.Compose.{stage_node}
 use Rattle.prim_index.specs.Reading.{said}
 
--- the index of a prim of the stage; none where a listing was overgrown
+-- the index at a plain prim path, or at `/`; none where a listing was overgrown
 unfoldable pub index_at : Limits → World → Path → Option Index
 index_at l w p = index l w p
 
@@ -17,11 +17,11 @@ index_at l w p = index l w p
 unfoldable pub indexed_of : Limits → Tree → Option Index
 indexed_of l t = index_of l t
 
--- the node of a prim of the stage
+-- the stage's node at such a path
 unfoldable pub stage_node_at : Limits → World → Path → Node
 stage_node_at l w p = stage_node l (said l w) (is_loaded w) p
 
--- the index of what is no prim of the stage
+-- the index at any other path
 abbrev pub nothing_there : Index
 nothing_there = record { choices = []; sites = []; faults = [] }
 

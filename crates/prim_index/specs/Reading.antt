@@ -84,6 +84,10 @@ abbrev pub chosen_for : Node → ℕ → Text → Option Text → Option Chosen
 chosen_for n j set None = None
 chosen_for n j set (Some v) = variant_at n j set v
 
+-- the variants for sets, of which each is decided by this
+unfoldable pub chosen_by : Node → ℕ → (Text → Option Text) → List Text → List Chosen
+chosen_by n j decided sets = filter_map (λ set. chosen_for n j set (decided set)) sets
+
 -- the variants that choices decide for sets
 unfoldable pub chosen_of : Node → ℕ → Choices → List Text → List Chosen
 chosen_of n j choices sets = filter_map (λ set. chosen_for n j set (find_at same_text set choices)) sets

@@ -20,7 +20,7 @@ use site_order::{arc_faults, is_overgrown_on_the_way, sites};
 use std::alloc::{AllocError, Global};
 use std::marker::Model;
 
-/// What composition makes of a prim of the stage before it looks at values.
+/// What composition makes of a prim before it looks at values.
 ///
 /// Contracts see it as the index of composition's definitions, or as none where a listing was overgrown.
 #[derive(Debug, Drop)]
@@ -73,7 +73,7 @@ impl PrimIndex {
     }
 }
 
-/// The index of what is no prim of the stage.
+/// The index at what is neither a plain prim path nor `/`.
 fn nothing_there(alloc: Global) -> PrimIndex
     ensures { result ≡ Some nothing_there }
 {
@@ -145,7 +145,7 @@ fn index_of(alloc: Global, tree: &Tree) -> Result<PrimIndex, AllocError>
     Ok(told(choices, found, faults))
 }
 
-/// The index of a prim of the stage.
+/// The index at a plain prim path, or at `/`.
 fn index_of_prim(alloc: Global, world: &World, place: &Path) -> Result<PrimIndex, AllocError>
     ensures { IfOk result (λ i. i ≡ index_at limits (look_ups world.now) place.now) }
 {
@@ -153,7 +153,7 @@ fn index_of_prim(alloc: Global, world: &World, place: &Path) -> Result<PrimIndex
     index_of(alloc, &tree)
 }
 
-/// Whether a path has names of prims alone, as `/` and the paths of the stage's prims have.
+/// Whether a path has names of prims alone, as `/` and plain prim paths have.
 pub fn has_prims_alone(path: &Path) -> bool
     ensures { result ≡ list_all is_prim_name path.now }
 {
@@ -163,8 +163,8 @@ pub fn has_prims_alone(path: &Path) -> bool
     path.is_plain()
 }
 
-/// The index of a prim, as composition is defined; that of `/` has the root of the stage as its one site. A path of no prim of the
-/// stage (that of a property, one with variant selections) has no site, choice or fault.
+/// The index at a path, as composition is defined: at a plain prim path, whether or not the stage has a prim there, and at `/`, whose
+/// one site is the root of the stage. At any other path (a property's, one with variant selections) there is no site, choice or fault.
 ///
 /// # Errors
 ///

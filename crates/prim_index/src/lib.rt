@@ -1,4 +1,5 @@
-//! The index of a prim of the stage: its sites from strong to weak, the variants that are chosen for it, and the faults of its arcs.
+//! The index at a plain prim path, whether or not the stage has a prim there, and at `/`: the sites from strong to weak, the variants
+//! that are chosen there, and the faults of the arcs.
 #![tactic(auto)]
 
 mod faults;

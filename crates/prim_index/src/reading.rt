@@ -1,11 +1,13 @@
 //! What the layers of a node's stack say at it.
 ghost use Rattle.std.specs.Prelude.{◌≡◌, ◌++◌, ◌∷◌, [], IfOk, OnOk, map, not};
+ghost use Rattle.std.specs.Option.{option_copied};
 ghost use Rattle.composition.specs.Paths.{limits};
 ghost use Rattle.composition.specs.Arcs.{is_empty, selections_of};
 ghost use Rattle.composition.specs.Nodes.{fault_of, frame_at};
 ghost use Rattle.layer_set.specs.LookUps.{look_ups};
 ghost use Rattle.arc_expand.specs.Authoring.{IsStackOf, opinions as opinions_there, sets_in};
-ghost use Rattle.prim_index.specs.Reading.{said, said_levels, sublayers_said, sublayer_faults, looked_at, tried_of, tried_level, tried_kind, tried_all, chosen_if_fits, variant_at, chosen_of, chosen_level, chosen_all, parts};
+ghost use Rattle.site_order.specs.ChoiceTables.{noted_for};
+ghost use Rattle.prim_index.specs.Reading.{said, said_levels, sublayers_said, sublayer_faults, looked_at, tried_of, tried_level, tried_kind, tried_all, chosen_if_fits, variant_at, chosen_for, chosen_by, chosen_of, chosen_level, chosen_all, parts};
 
 use arc_expand::{LayerOpinion, authored_in, opinions, selections_in, variant_sets_in};
 use class_arcs::path_above;
@@ -17,7 +19,7 @@ use plain_data::{Items, Text, copy};
 use prim_nodes::{Authored, Chosen, Frame, Here, Node, Outcome, Tried};
 use prim_view::{ArcReason, PrimFault, SublayerFault};
 use sdf_paths::{Path, PathFault};
-use site_order::find_choice;
+use site_order::{ChoiceTable, choice_table, find_choice};
 use std::alloc::{AllocError, Global};
 
 /// The faults of sublayers among these.
@@ -227,8 +229,23 @@ fn push_chosen(
     }
 }
 
-/// Appends the variants that a frame decides for sets.
-#[tactic(auto, unfolding(crate::specs::Reading::chosen_of))]
+/// Where the variant that is decided for a set leads, if one is decided and may be followed.
+fn chosen_for(
+    node: &Node,
+    level: usize,
+    set: &Text,
+    decided: Option<&Text>,
+) -> Result<Option<Chosen>, AllocError>
+    ensures { IfOk result (λ chosen. chosen ≡ chosen_for node.now level set.now (option_copied decided.entry)) }
+{
+    match decided {
+        Some(name) => variant(node, level, set, name),
+        None => Ok(None),
+    }
+}
+
+/// Appends the variants that a frame decides for sets: of one set by a scan of its choices, of several by a table of them, made once.
+#[tactic(auto, using(crate::proofs::Saying::chosen_by_table), unfolding(crate::specs::Reading::chosen_of))]
 fn push_variants(
     out: &mut Items<Chosen>,
     node: &Node,
@@ -238,11 +255,49 @@ fn push_variants(
 ) -> Result<(), AllocError>
     ensures { OnOk result (out.new ≡ out.old ++ chosen_of node.now level frame.now.choices sets.now) }
 {
+    match sets {
+        [] => Ok(()),
+        [set] => push_variant(out, node, level, frame, set),
+        _ => {
+            let table = choice_table(out.allocator(), frame.choices.as_slice())?;
+            push_noted_variants(out, node, level, &table, sets)?;
+            Ok(())
+        }
+    }
+}
+
+/// Appends the variant that a frame decides for a set, if it decides one.
+#[tactic(auto, unfolding(crate::specs::Reading::chosen_of))]
+fn push_variant(
+    out: &mut Items<Chosen>,
+    node: &Node,
+    level: usize,
+    frame: &Frame,
+    set: &Text,
+) -> Result<(), AllocError>
+    ensures { OnOk result (out.new ≡ out.old ++ chosen_of node.now level frame.now.choices (set.now ∷ [])) }
+{
+    let decided = find_choice(frame.choices.as_slice(), set);
+    if let Some(chosen) = chosen_for(node, level, set, decided)? {
+        out.push(chosen)?;
+    }
+    Ok(())
+}
+
+/// Appends the variants that a table of choices decides for sets.
+#[tactic(auto, unfolding(crate::specs::Reading::chosen_by))]
+fn push_noted_variants(
+    out: &mut Items<Chosen>,
+    node: &Node,
+    level: usize,
+    table: &ChoiceTable,
+    sets: &[Text],
+) -> Result<(), AllocError>
+    ensures { OnOk result (out.new ≡ out.old ++ chosen_by node.now level (noted_for table.now) sets.now) }
+{
     for set in sets {
-        if let Some(name) = find_choice(frame.choices.as_slice(), set) {
-            if let Some(chosen) = variant(node, level, set, name)? {
-                out.push(chosen)?;
-            }
+        if let Some(chosen) = chosen_for(node, level, set, table.get(set))? {
+            out.push(chosen)?;
         }
     }
     Ok(())

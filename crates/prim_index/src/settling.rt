@@ -1,4 +1,4 @@
-//! The tree of a prim of the stage. The last round of its choices makes it, unless the rounds rest on an overgrown listing.
+//! The tree at a plain prim path. The last round of its choices makes it, unless the rounds rest on an overgrown listing.
 ghost use Rattle.std.specs.Prelude.{◌≡◌, [], IfOk};
 ghost use Rattle.std.specs.Option.{IfSome};
 ghost use Rattle.composition.specs.Paths.{limits};
@@ -82,7 +82,7 @@ fn round_tree(
     Ok(tree)
 }
 
-/// The frame of a prim of the stage after so many further rounds of choices, with the tree that it gives where the last round made it:
+/// The frame at a plain prim path after so many further rounds of choices, with the tree that it gives where the last round made it:
 /// after a round that decides nothing another would be the same, and so would be the tree.
 fn settled_at(
     alloc: Global,
@@ -150,7 +150,7 @@ fn tree_with(
     }
 }
 
-/// The tree of a prim of the stage.
+/// The tree at a plain prim path, or at `/`.
 pub fn stage_tree(alloc: Global, world: &World, place: &Path) -> Result<Tree, AllocError>
     ensures { IfOk result (λ tree. meant tree ≡ tree_below limits (said limits (look_ups world.now)) 64 4096 4096 (stage_node_at limits (look_ups world.now) place.now)) }
 {

@@ -8,10 +8,10 @@ use crate::printing::{
 use crate::words::path_of;
 use layer_set::World;
 use plain_data::{Items, Text, copy};
-use prim_compose::compose_prim;
 use prim_view::{PrimView, PropertyView};
 use sdf_paths::Path;
 use sdf_values::{TypeName, Value, push_value};
+use stage_composer::compose_prim;
 use std::alloc::{AllocError, Global};
 
 fn push_flag(out: &mut String, flag: bool, word: &str) -> Result<(), AllocError> {

@@ -71,7 +71,8 @@ fn all_hold(ty: TypeName, values: &[Value]) -> bool
     true
 }
 
-fn is_between(element: ElementType, n: i128) -> bool
+/// Whether a whole number is one that the type holds; false for a type that holds other values.
+pub fn is_between(element: ElementType, n: i128) -> bool
     ensures { result ≡ is_between (whole_bounds element) n }
 {
     match whole_bounds(element) {

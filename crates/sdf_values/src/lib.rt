@@ -18,7 +18,7 @@ mod time;
 mod type_name;
 mod value;
 
-pub use conform::{conforms, members_of};
+pub use conform::{conforms, is_between, members_of};
 pub use decimal::{Decimal, Num, NumberFault, with_sign};
 pub use numeral::push_time;
 pub use offset::{LayerOffset, OffsetRange};

@@ -7,10 +7,8 @@ use Rattle.layer_apply.specs.Edits.{in_layer, edit}
 use Rattle.layer_edit.specs.Outcomes.{passing, given}
 use Rattle.layer_edit.specs.Places.{has_spec, changed_spec}
 use Rattle.layer_edit.specs.Prims.{with_new_spec, prim_added, removed}
-use Rattle.prim_compose.specs.Composed.{view_at}
-use Rattle.prim_compose.specs.Listing.{entry_at}
 use Rattle.stage_questions.specs.Replies.{refused_word}
-use Rattle.stage_session.specs.Sessions.{stage_after}
+use Rattle.stage_session.specs.Sessions.{stage_after, view_at, entry_at}
 use Rattle.session_examples.specs.Sessions.{BatchesAreTold, PublishesAreTold, AreTold}
 
 -- what has to be unfolded for batches and stages to compute

@@ -15,7 +15,8 @@ use Rattle.prim_trees.specs.Meant.{meant}
 use Rattle.prim_trees.specs.Unfolded.{here_is}
 use Rattle.site_order.specs.Said.{sets_of, selected_at}
 
-text_test : (a b : Text) → pointwise ◌==◌ a b ≡ same_text a b
+-- the derived equality of texts is the test of them
+pub text_test : (a b : Text) → pointwise ◌==◌ a b ≡ same_text a b
 text_test [] [] = refl
 text_test [] (y ∷ b) = refl
 text_test (x ∷ a) [] = refl

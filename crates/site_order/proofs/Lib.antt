@@ -1,4 +1,5 @@
 pub mod Choosing
+pub mod Noting
 pub mod Counting
 pub mod Kept
 pub mod Parts

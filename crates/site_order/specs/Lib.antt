@@ -1,4 +1,5 @@
 pub mod Best
+pub mod ChoiceTables
 pub mod Entries
 pub mod Groups
 pub mod Places

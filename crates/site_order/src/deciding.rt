@@ -1,24 +1,25 @@
 //! What a round of variant choices decides, from the tree that was made with the choices so far.
-ghost use Rattle.std.specs.Prelude.{◌≡◌, ◌++◌, IfOk, OnOk, map, flat_map, not};
-ghost use Rattle.std.specs.List.{list_any, filter_map};
-ghost use Rattle.std.specs.Option.{option_copied};
+ghost use Rattle.std.specs.Prelude.{◌≡◌, [], ◌∷◌, ◌++◌, IfOk, OnOk, map, filter, flat_map, not};
+ghost use Rattle.std.specs.List.{filter_map};
+ghost use Rattle.std.specs.Option.{is_some, option_copied, option_map};
 ghost use Rattle.composition.specs.Texts.{same_text, find_at, first_of};
 ghost use Rattle.composition.specs.Paths.{limits};
 ghost use Rattle.composition.specs.Compose.{sets_met, first_selection, decided};
-ghost use Rattle.list_ops.specs.ListEdits.{contains, firsts, without};
+ghost use Rattle.list_ops.specs.ListEdits.{firsts, without};
 ghost use Rattle.prim_trees.specs.Meant.{meant};
+ghost use Rattle.site_order.specs.ChoiceTables.{noted_for};
 ghost use Rattle.site_order.specs.Places.{trees_shown};
 ghost use Rattle.site_order.specs.Said.{sets_of, selected_at};
 
 use crate::keeping::places;
 use crate::order::listing;
 use crate::sizes::is_overgrown;
-use list_ops::{ListOp, push_all};
+use crate::tables::{ChoiceTable, choice_table, opinion_table};
+use list_ops::{firsts_ordered, push_all};
 use plain_data::{Items, Text, copy, same};
 use prim_trees::Tree;
 use prim_view::Choices;
 use std::alloc::{AllocError, Global};
-use std::mem;
 
 /// What a round decides beside the choices so far: for each variant set that is met in the tree and has no choice yet, in the order
 /// in which they are met, the first opinion of its sites.
@@ -50,7 +51,7 @@ fn sets_met(alloc: Global, tree: &Tree) -> Result<Items<Text>, AllocError>
 {
     let nodes = listing(alloc, tree)?;
     let all = all_sets(alloc, nodes.as_slice())?;
-    first_of_each(all)
+    first_of_each(alloc, all.as_slice())
 }
 
 fn all_sets(alloc: Global, nodes: &[&Tree]) -> Result<Items<Text>, AllocError>
@@ -73,26 +74,13 @@ fn push_sets(out: &mut Items<Text>, node: &Tree) -> Result<(), AllocError>
 
 /// The first of each text.
 #[tactic(auto, using(crate::proofs::Choosing::firsts_are))]
-fn first_of_each(all: Items<Text>) -> Result<Items<Text>, AllocError>
-    ensures { IfOk result (λ kept. kept ≡ firsts same_text all) }
+fn first_of_each(alloc: Global, all: &[Text]) -> Result<Items<Text>, AllocError>
+    ensures { IfOk result (λ kept. kept ≡ firsts same_text all.now) }
 {
-    let alloc = all.allocator();
-    let mut list = ListOp::new(alloc);
-    drop(mem::replace(&mut list.explicit, Some(all)));
-    let mut kept = Vec::new(alloc);
-    match list.apply_ordered(&mut kept) {
-        Ok(()) => {
-            drop(list);
-            Ok(Items::from_vec(kept))
-        }
-        Err(error) => {
-            drop((list, kept));
-            Err(error)
-        }
-    }
+    firsts_ordered(alloc, all)
 }
 
-/// The sets that have no choice.
+/// The sets that have no choice. Choices are looked up in a table, made once.
 fn without_choices(
     alloc: Global,
     sets: &[Text],
@@ -100,30 +88,22 @@ fn without_choices(
 ) -> Result<Items<Text>, AllocError>
     ensures { IfOk result (λ left. left ≡ without same_text sets.now (map (λ c. c.0) choices.now)) }
 {
+    let table = choice_table(alloc, choices)?;
+    let left = not_noted(alloc, &table, sets)?;
+    Ok(left)
+}
+
+/// The sets of which a table says nothing.
+fn not_noted(alloc: Global, table: &ChoiceTable, sets: &[Text]) -> Result<Items<Text>, AllocError>
+    ensures { IfOk result (λ left. left ≡ filter (λ set. not (is_some (noted_for table.now set))) sets.now) }
+{
     let mut left = Items::new(alloc);
     for set in sets {
-        if is_undecided(choices, set) {
+        if !table.contains_key(set) {
             left.push(copy(set)?)?;
         }
     }
     Ok(left)
-}
-
-fn is_undecided(choices: &[(Text, Text)], set: &Text) -> bool
-    ensures { result ≡ not (contains same_text (map (λ c. c.0) choices.now) set.now) }
-{
-    !is_chosen(choices, set)
-}
-
-fn is_chosen(choices: &[(Text, Text)], set: &Text) -> bool
-    ensures { result ≡ list_any (λ y. same_text y set.now) (map (λ c. c.0) choices.now) }
-{
-    for choice in choices {
-        if same_text(&choice.0, set) {
-            return true;
-        }
-    }
-    false
 }
 
 fn same_text(a: &Text, b: &Text) -> bool
@@ -132,23 +112,55 @@ fn same_text(a: &Text, b: &Text) -> bool
     same(a, b)
 }
 
-/// The first selection of each set, where there is one.
+/// The first selection of each set, where there is one: of one set by a scan of the sites, of several by a table, made once.
+#[tactic(auto, using(crate::proofs::Noting::selected_are))]
 fn selections(alloc: Global, sites: &[&Tree], sets: &[Text]) -> Result<Choices, AllocError>
     ensures { IfOk result (λ more. more ≡ filter_map (first_selection limits (trees_shown sites.now)) sets.now) }
 {
+    match sets {
+        [] => Ok(Items::new(alloc)),
+        [set] => one_selection(alloc, sites, set),
+        _ => {
+            let table = opinion_table(alloc, sites)?;
+            let more = noted_selections(alloc, &table, sets)?;
+            Ok(more)
+        }
+    }
+}
+
+/// The first selection of a set, where there is one.
+fn one_selection(alloc: Global, sites: &[&Tree], set: &Text) -> Result<Choices, AllocError>
+    ensures { IfOk result (λ more. more ≡ filter_map (first_selection limits (trees_shown sites.now)) (set.now ∷ [])) }
+{
+    let mut more = Items::new(alloc);
+    if let Some(choice) = selection(set, first_opinion(sites, set))? {
+        more.push(choice)?;
+    }
+    Ok(more)
+}
+
+/// What a table says of each set, where it says something.
+fn noted_selections(
+    alloc: Global,
+    table: &ChoiceTable,
+    sets: &[Text],
+) -> Result<Choices, AllocError>
+    ensures { IfOk result (λ more. more ≡ filter_map (λ set. option_map (λ v. (set, v)) (noted_for table.now set)) sets.now) }
+{
     let mut more = Items::new(alloc);
     for set in sets {
-        if let Some(choice) = selection(sites, set)? {
+        if let Some(choice) = selection(set, table.get(set))? {
             more.push(choice)?;
         }
     }
     Ok(more)
 }
 
-fn selection(sites: &[&Tree], set: &Text) -> Result<Option<(Text, Text)>, AllocError>
-    ensures { IfOk result (λ choice. choice ≡ first_selection limits (trees_shown sites.now) set.now) }
+/// A set with the variant that is selected for it, where one is.
+fn selection(set: &Text, variant: Option<&Text>) -> Result<Option<(Text, Text)>, AllocError>
+    ensures { IfOk result (λ choice. choice ≡ option_map (λ v. (set.now, v)) (option_copied variant.entry)) }
 {
-    match first_opinion(sites, set) {
+    match variant {
         Some(variant) => Ok(Some((copy(set)?, copy(variant)?))),
         None => Ok(None),
     }

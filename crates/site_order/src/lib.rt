@@ -9,8 +9,10 @@ mod keeping;
 mod order;
 mod ranks;
 mod sizes;
+mod tables;
 
 pub use deciding::{decided, find_choice};
 pub use faults::arc_faults;
 pub use keeping::sites;
 pub use sizes::{is_overgrown_on_the_way, size};
+pub use tables::{ChoiceTable, choice_table};

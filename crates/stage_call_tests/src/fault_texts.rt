@@ -27,8 +27,11 @@ fn faults_of_batches_say_why(rt: HostRuntime) -> Result<(), Fail> {
     let fault = EditFault::BadArc;
     let refused = EditRefused::Op { op: 2, fault };
     assert!(rt;
-        says(rt.alloc(), &refused, "operation 2: BadArc")?
-            && says(rt.alloc(), &EditRefused::NoMemory, "out of memory")?
+        says(
+            rt.alloc(),
+            &refused,
+            "operation 2: the arc leads to no prim"
+        )? && says(rt.alloc(), &EditRefused::NoMemory, "out of memory")?
     );
     Ok(())
 }

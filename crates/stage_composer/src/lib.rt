@@ -4,3 +4,4 @@
 mod composer;
 
 pub use composer::UsdComposer;
+pub use prim_compose::compose_prim;

@@ -14,7 +14,8 @@ use Rattle.edit_batches.specs.declared.op.Op.TheVariants.{PutLayer}
 use Rattle.layer_set.specs.Worlds.{WorldData}
 use Rattle.layer_set.specs.declared.held.Held.{Held}
 use Rattle.composition.specs.Texts.{Text}
-use Rattle.prim_compose.specs.Listing.{entry_at, listed_below}
+use Rattle.stage_composer.specs.Composed.{listed_below}
+unfoldable pub use Rattle.stage_composer.specs.Composed.{view_at, entry_at}
 use Rattle.stage_query.specs.Answers.{Stage}
 use Rattle.stage_questions.specs.Answers.{answer_line}
 use Rattle.stage_questions.specs.Replies.{edit_text, published_text}

@@ -8,7 +8,8 @@ use Rattle.prim_view.specs.declared.fault.TargetFault.{TargetFault}
 use Rattle.prim_view.specs.declared.fault.PrimFault.{PrimFault}
 use Rattle.prim_view.specs.declared.fault.PrimFault.TheVariants.{TargetOutside}
 use Rattle.composition.specs.Nodes.{ArcMap}
-use Rattle.composition.specs.Opinions.{Said, is_opinion}
+use Rattle.composition.specs.Opinions.{Said}
+use Rattle.list_ops.specs.Opinions.{is_opinion}
 use Rattle.composition.specs.Paths.{Path, limits}
 use Rattle.composition.specs.Targets.{translated_op, translated_ops, target_fault, target_faults}
 use Rattle.composition.specs.Texts.{Text}

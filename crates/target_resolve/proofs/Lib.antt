@@ -2,4 +2,3 @@ pub mod Fitting
 pub mod Folded
 pub mod Gathered
 pub mod Moved
-pub mod Opinions

@@ -1,9 +1,9 @@
 -- The targets of a property by its specs, within the limits of this project.
 use Rattle.std.specs.Prelude.{List, [], ◌∷◌, ◌++◌, cond, map, Option}
+use Rattle.list_ops.specs.Opinions.{is_opinion}
 use Rattle.list_ops.specs.declared.op.ListOp.{ListOp}
 use Rattle.prim_view.specs.declared.fault.PrimFault.{PrimFault}
 use Rattle.prim_view.specs.declared.fault.PrimFault.TheVariants.{TargetOutside}
-use Rattle.composition.specs.Opinions.{is_opinion}
 use Rattle.composition.specs.Paths.{Path, limits}
 use Rattle.composition.specs.Targets.{translated_ops, target_faults, targets_of}
 use Rattle.composition.specs.Texts.{Text}

@@ -1,8 +1,5 @@
 //! The edits of an opinion on the stage.
 ghost use Rattle.std.specs.Prelude.{◌≡◌, ◌++◌, filter, filter_map, IfOk, OnOk};
-ghost use Rattle.composition.specs.Arcs.{is_empty};
-ghost use Rattle.composition.specs.Opinions.{has_edits, is_opinion};
-ghost use Rattle.composition.specs.Texts.{both};
 ghost use Rattle.target_resolve.specs.Translating.{is_lost, on_stage, op_on_stage, folded_paths, if_any, tried};
 
 use crate::translate::{Moved, translated_paths};
@@ -20,35 +17,6 @@ pub struct Edited {
     pub op: ListOp<Path>,
     /// The items that have no translation, as they are written; a delete is not told.
     pub lost: Items<Path>,
-}
-
-/// Whether `before` holds, and a list is empty.
-fn and_empty(before: bool, items: &Items<Path>) -> bool
-    ensures { result ≡ both before (is_empty items.now) }
-{
-    before && items.len() == 0
-}
-
-/// Whether there is some edit.
-fn has_edits(op: &ListOp<Path>) -> bool
-    ensures { result ≡ has_edits op.now }
-{
-    let deleted = and_empty(true, &op.deleted);
-    let added = and_empty(deleted, &op.added);
-    let prepended = and_empty(added, &op.prepended);
-    let appended = and_empty(prepended, &op.appended);
-    let none = and_empty(appended, &op.ordered);
-    !none
-}
-
-/// Whether it is an opinion on the list: an explicit list, also an empty one, or some edit.
-pub fn is_opinion(op: &ListOp<Path>) -> bool
-    ensures { result ≡ is_opinion op.now }
-{
-    match &op.explicit {
-        Some(_) => true,
-        None => has_edits(op),
-    }
 }
 
 /// Appends the items of another list.

@@ -5,7 +5,7 @@ ghost use Rattle.prim_opinions.specs.Gathering.{said_on};
 ghost use Rattle.target_resolve.specs.Translating.{outside, edits_of};
 ghost use Rattle.target_resolve.specs.Resolving.{with_op, ops_by, targets_by, faults_by};
 
-use crate::edits::{if_any, is_opinion, translated_edits};
+use crate::edits::{if_any, translated_edits};
 use layer_set::World;
 use list_ops::ListOp;
 use plain_data::{Items, Text, copy};
@@ -69,7 +69,7 @@ fn push_op(
 ) -> Result<(), AllocError>
     ensures { OnOk result (ops.new ≡ with_op ops.old edits.now translated) }
 {
-    if is_opinion(edits) {
+    if edits.is_opinion() {
         ops.push(translated)?;
     } else {
         drop(translated);

@@ -1,5 +1,5 @@
 -- The words of a text, by the ways in which the grammar takes them.
-use Rattle.std.proofs.Common.{◌≡◌, ◌∙◌, ℕ, Bool, true, false, ◌&&◌, List, [], ◌∷◌, ◌++◌, Option, Some, None, ap, sym, refl, subst}
+use Rattle.std.proofs.Common.{◌≡◌, ◌∙◌, ℕ, List, [], ◌∷◌, ◌++◌, Option, Some, ap, subst}
 use Rattle.sdf_values.specs.declared.refusal.RefusalKind.TheVariants.{Syntax}
 use Rattle.usda_drafts.specs.Acts.{act}
 use Rattle.usda_drafts.specs.Drafts.{blank}
@@ -10,30 +10,21 @@ use Rattle.usda_grammar.specs.Machine.{step, choose}
 use Rattle.usda_grammar.specs.Table.{layer, starts, may_be_absent}
 use Rattle.usda_grammar.specs.declared.kinds.WordKind.{WordKind}
 use Rattle.usda_grammar.specs.declared.symbols.Symbol.{Symbol}
-use Rattle.usda_grammar.proofs.Clear.{IsClear, is_good-at, clear-after, clear-layer}
-use Rattle.usda_grammar.proofs.Follow.{may_follow}
+use Rattle.usda_grammar.proofs.Clear.{IsClear, clear-after, clear-layer}
 use Rattle.usda_machine.specs.Texts.{Makes, HasRead, IsRefusedAct}
-use Rattle.usda_words.specs.Words.{Word, words_of}
+use Rattle.usda_machine.proofs.Running.{below_it}
+use Rattle.usda_words.specs.Words.{Word, words_of, word_kind}
 use Rattle.value_texts.specs.Following.{IsOfToken, AreOfTokens}
 use Rattle.value_texts.proofs.Following.{followed as values_followed}
-use Rattle.text_syntax.specs.Open.{Follows, IsOfValue, IsNoPathFrom, kind_in, OpenValuesFollow}
+use Rattle.text_syntax.specs.Open.{Follows, IsOfValue, IsNoPathFrom, OpenValuesFollow}
 use Rattle.text_syntax.proofs.Tokens.{kept, refused, begins}
-
--- a symbol that may be absent does not hide what takes the token below it
-below_it : (s : Symbol) (stack : List Symbol) (k : WordKind) (next : Symbol × List Symbol) → IsClear (s ∷ stack) → may_be_absent s ≡ true → step stack k ≡ Some next → step (s ∷ stack) k ≡ Some next
-below_it s stack k next clear absent took = from (starts s k) (may_follow s k) refl refl
-  where
-    from : (o : Option (List Symbol)) (b : Bool) → starts s k ≡ o → may_follow s k ≡ b → step (s ∷ stack) k ≡ Some next
-    from o false at follow = let none = clear.0 k follow in absurd (let f : None ≡ Some next = sym none ∙ took in cc)
-    from None true at follow = rw (at, absent) took
-    from (Some after) true at follow = let g : (may_be_absent s && may_follow s k) ≡ false = (is_good-at s k after at).unlike in absurd (let f : (true && true) ≡ false = rw (absent, follow) at g in cc)
 
 -- symbols from which the machine gets to the word, and which the draft goes with
 abbrev Reached : Symbol → List Symbol → Draft → WordKind → Type 0
 Reached s after d k = (stack : List Symbol) × Follows stack d × (step stack k ≡ Some (s, after))
 
 reach : (refused_as : Option Word → Refused) (t : Derivation) (origin stack : List Symbol) (d : Draft) (front : List Word) (s : Symbol) (below : List Symbol) (out : Draft) (k : WordKind) (after : List Symbol) → IsClear stack → Follows origin d
-    → ((j : WordKind) (next : Symbol × List Symbol) → step stack j ≡ Some next → step origin j ≡ Some next) → AreOfTokens front → Makes kind_in act refused_as t stack d front (s ∷ below) out → starts s k ≡ Some after
+    → ((j : WordKind) (next : Symbol × List Symbol) → step stack j ≡ Some next → step origin j ≡ Some next) → AreOfTokens front → Makes word_kind act refused_as t stack d front (s ∷ below) out → starts s k ≡ Some after
     → Reached s (after ++ below) out k
 reach refused_as ends origin stack d [] s below out k after clear follows up words h at =
     (origin, subst (Follows origin) h.1 follows, up k (s, after ++ below) (ap (λ (x : List Symbol). step x k) h.0 ∙ ap (λ o. choose s below o (may_be_absent s) (step below k)) at))
@@ -52,10 +43,10 @@ parts [] w rest h = (tt, h.0)
 parts (v ∷ front) w rest h = let p = parts front w rest h.1 in ((h.0, p.0), p.1)
 
 pub first : (refused_as : Option Word → Refused) (bytes : List ℕ) (front : List Word) (w : Word) (rest : List Word) (stack : List Symbol) (d : Draft) (r : Refused) → words_of bytes ≡ front ++ w ∷ rest
-    → HasRead kind_in act refused_as blank front stack d → (is : IsRefusedAct kind_in act refused_as blank stack d w r) → IsOfValue is.symbol d → r.kind ≡ Syntax → IsNoPathFrom d.owner.said.base w.token w.text
+    → HasRead word_kind act refused_as blank front stack d → (is : IsRefusedAct word_kind act refused_as blank stack d w r) → IsOfValue is.symbol d → r.kind ≡ Syntax → IsNoPathFrom d.owner.said.base w.token w.text
 first refused_as bytes front w rest stack d r split read is of syntax =
     let words : AreOfTokens front × IsOfToken w = parts front w rest (subst AreOfTokens split (values_followed.words bytes)) in
-    let made : Makes kind_in act refused_as read.by layer blank front (is.symbol ∷ is.below) d = subst (λ (x : List Symbol). Makes kind_in act refused_as read.by layer blank front x d) is.top read.made in
+    let made : Makes word_kind act refused_as read.by layer blank front (is.symbol ∷ is.below) d = subst (λ (x : List Symbol). Makes word_kind act refused_as read.by layer blank front x d) is.top read.made in
     let at : Reached is.symbol (is.after ++ is.below) d w.kind =
     reach refused_as read.by layer layer blank front is.symbol is.below d w.kind is.after clear-layer begins (λ j n e. e) words.0 made is.starts_it in
     refused at.0 d w is.symbol (is.after ++ is.below) r words.1 at.1 at.2 of is.refused syntax

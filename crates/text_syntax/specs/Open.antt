@@ -8,7 +8,6 @@ use Rattle.usda_drafts.specs.declared.draft.Draft.{Draft}
 use Rattle.usda_drafts.specs.declared.fault.Refused.{Refused}
 use Rattle.usda_grammar.specs.Machine.{step}
 use Rattle.usda_grammar.specs.Table.{layer}
-use Rattle.usda_grammar.specs.declared.kinds.WordKind.{WordKind}
 use Rattle.usda_grammar.specs.declared.symbols.Symbol.{Symbol}
 use Rattle.usda_grammar.specs.declared.symbols.Symbol.TheVariants as symbol
 use Rattle.usda_lexer.specs.Meanings.{path_text}
@@ -19,7 +18,7 @@ use Rattle.usda_machine.specs.Texts.{HasRead, IsRefusedAct}
 use Rattle.usda_statements.specs.OpenValues.{is_open}
 use Rattle.usda_values.specs.PathTexts.{is_path_text}
 use Rattle.usda_values.specs.declared.draft.ValueDraft.{ValueDraft}
-use Rattle.usda_words.specs.Words.{Word, words_of}
+use Rattle.usda_words.specs.Words.{Word, words_of, word_kind}
 use Rattle.value_texts.specs.Following.{awaited, is_formed, IsOfToken}
 
 -- the symbols are those that stand for what is open of a value, above others
@@ -49,9 +48,6 @@ IsNone (Some token) = is_path_text (path_text token) ≡ false
 abbrev pub IsNoPathFrom : List Element → TokenKind → List ℕ → Type 0
 IsNoPathFrom base f text = (f ≡ form.Path) × IsNone (absolute_from base (path_text text))
 
-abbrev pub kind_in : Word → WordKind
-kind_in w = w.kind
-
 -- Of each text: where a value is open behind some of its words, what the grammar goes on with is what the draft of the value awaits. So
 -- a word of a value is refused as `Syntax` only where no text goes on with it, or for a path that is none.
 pub record OpenValuesFollow : Type 0 where
@@ -63,4 +59,4 @@ pub record OpenValuesFollow : Type 0 where
       → r.kind ≡ Syntax → IsNoPathFrom d.owner.said.base w.token w.text
   -- a word of a text that is refused for what it means, where texts of the grammar go on with it
   pub first : (refused_as : Option Word → Refused) (bytes : List ℕ) (front : List Word) (w : Word) (rest : List Word) (stack : List Symbol) (d : Draft) (r : Refused) → words_of bytes ≡ front ++ w ∷ rest
-      → HasRead kind_in act refused_as blank front stack d → (is : IsRefusedAct kind_in act refused_as blank stack d w r) → IsOfValue is.symbol d → r.kind ≡ Syntax → IsNoPathFrom d.owner.said.base w.token w.text
+      → HasRead word_kind act refused_as blank front stack d → (is : IsRefusedAct word_kind act refused_as blank stack d w r) → IsOfValue is.symbol d → r.kind ≡ Syntax → IsNoPathFrom d.owner.said.base w.token w.text

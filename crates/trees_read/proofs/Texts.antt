@@ -5,7 +5,7 @@ use Rattle.std.specs.List.Sorted.{IsStrictlySortedBy}
 use Rattle.std.proofs.lemmas.Bool.{false_from_ne_true}
 use Rattle.sdf_paths.specs.declared.element.Element.{Element}
 use Rattle.text_syntax.proofs.Texts.{followed as values}
-use Rattle.text_syntax.specs.Open.{IsAwaited, kind_in}
+use Rattle.text_syntax.specs.Open.{IsAwaited}
 use Rattle.usda_drafts.specs.Acts.{act}
 use Rattle.usda_drafts.specs.Drafts.{blank, layer_by, layer_of, head_from, head_with}
 use Rattle.usda_drafts.specs.Owners.{owner_of, spec_of}
@@ -20,7 +20,7 @@ use Rattle.usda_productions.specs.Texts.{MakeBy}
 use Rattle.usda_statements.specs.OpenValues.{is_open}
 use Rattle.usda_statements.specs.PropertyDrafts.{is_in_hand}
 use Rattle.usda_values.specs.Drafts.{is_complete_at}
-use Rattle.usda_words.specs.Words.{Word, words_of}
+use Rattle.usda_words.specs.Words.{Word, words_of, word_kind}
 use Rattle.value_texts.specs.Following.{awaited, IsOfToken}
 use Rattle.trees_read.specs.Drafts.{frames, tree_of, frame_of, IsNested, Follows, IsOver}
 use Rattle.trees_read.specs.Laws.{IsReadToEnd, TreesAreRead}
@@ -103,7 +103,7 @@ kept_all stack d w s after next word follows took acted = kept stack d w s after
 begins_so : Follows layer blank
 begins_so = record { value = values.begins; nested = blank_nested; sound = blank_sound }
 
-read_so : (bytes : List ℕ) (d : Draft) → MakeBy kind_in act layer_forms blank (words_of bytes) d → IsReadToEnd d
+read_so : (bytes : List ℕ) (d : Draft) → MakeBy word_kind act layer_forms blank (words_of bytes) d → IsReadToEnd d
 read_so bytes d made = let e : IsAtEnd Follows d = holds_behind Follows kept_all bytes d begins_so made in ends_so e.stack d e.holds e.done
 
 pub read_trees : TreesAreRead

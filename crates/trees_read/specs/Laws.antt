@@ -1,6 +1,5 @@
 -- What holds of the draft behind all words of a text, and of its layer.
 use Rattle.std.specs.Prelude.{◌≡◌, ℕ, true, List, Some, Ok}
-use Rattle.text_syntax.specs.Open.{kind_in}
 use Rattle.usda_drafts.specs.Acts.{act}
 use Rattle.usda_drafts.specs.Drafts.{blank, layer_of}
 use Rattle.usda_drafts.specs.declared.draft.Draft.{Draft}
@@ -9,7 +8,7 @@ use Rattle.usda_grammar.specs.Table.{layer}
 use Rattle.usda_grammar.specs.declared.symbols.Symbol.{Symbol}
 use Rattle.usda_productions.specs.Rules.{layer_forms}
 use Rattle.usda_productions.specs.Texts.{MakeBy}
-use Rattle.usda_words.specs.Words.{Word, words_of}
+use Rattle.usda_words.specs.Words.{Word, words_of, word_kind}
 use Rattle.value_texts.specs.Following.{IsOfToken}
 use Rattle.trees_read.specs.Drafts.{Follows, IsOver}
 use Rattle.trees_read.specs.Trees.{IsProperTree}
@@ -29,4 +28,4 @@ pub record TreesAreRead : Type 0 where
   -- where the text may end
   pub ends : (stack : List Symbol) (d : Draft) → Follows stack d → is_done stack ≡ true → IsReadToEnd d
   -- all words of a text, by the productions of the grammar
-  pub read : (bytes : List ℕ) (d : Draft) → MakeBy kind_in act layer_forms blank (words_of bytes) d → IsReadToEnd d
+  pub read : (bytes : List ℕ) (d : Draft) → MakeBy word_kind act layer_forms blank (words_of bytes) d → IsReadToEnd d

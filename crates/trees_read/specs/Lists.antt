@@ -6,14 +6,13 @@ use Rattle.sdf_paths.specs.declared.element.Element.{Element}
 use Rattle.spec_parts.specs.declared.spec.Spec.{Spec}
 use Rattle.spec_properties.specs.declared.property.Property.{Property}
 use Rattle.spec_properties.specs.declared.property.Property.TheVariants.{Attr, Rel}
-use Rattle.text_syntax.specs.Open.{kind_in}
 use Rattle.usda_drafts.specs.Acts.{act}
 use Rattle.usda_drafts.specs.Drafts.{blank, layer_of}
 use Rattle.usda_drafts.specs.declared.draft.Draft.{Draft}
 use Rattle.usda_lists.specs.References.{same_text, same_path, same_item}
 use Rattle.usda_productions.specs.Rules.{layer_forms}
 use Rattle.usda_productions.specs.Texts.{MakeBy}
-use Rattle.usda_words.specs.Words.{words_of}
+use Rattle.usda_words.specs.Words.{words_of, word_kind}
 use Rattle.value_texts.specs.Each.{AreAll}
 
 -- in the explicit list, where there is one, and in the list of each edit word, each item stands once
@@ -43,4 +42,4 @@ pub record AreListsMade (spec : Spec) : Type 0 where
 
 -- Of each text: no list of the layer that it says is still in the making, so each item stands once in it.
 abbrev pub ListsAreClosed : Type 0
-ListsAreClosed = (bytes : List ℕ) (d : Draft) → MakeBy kind_in act layer_forms blank (words_of bytes) d → AreAll (λ e. AreListsMade e.1) (layer_of d).specs
+ListsAreClosed = (bytes : List ℕ) (d : Draft) → MakeBy word_kind act layer_forms blank (words_of bytes) d → AreAll (λ e. AreListsMade e.1) (layer_of d).specs

@@ -27,7 +27,7 @@ impl Draft {
 
     /// A word behind `uniform` or `varying`: `rel`, or a type.
     #[tactic(auto, unfolding(crate::specs::Bodies::after_variability_act))]
-    pub fn take_after_variability(
+    pub(crate) fn take_after_variability(
         &mut self,
         kind: WordKind,
         word: &Word<'_>,
@@ -45,7 +45,11 @@ impl Draft {
 
     /// A word behind `custom`: the same, or `uniform` or `varying`.
     #[tactic(auto, unfolding(crate::specs::Bodies::after_custom_act))]
-    pub fn take_after_custom(&mut self, kind: WordKind, word: &Word<'_>) -> Result<(), ActFault>
+    pub(crate) fn take_after_custom(
+        &mut self,
+        kind: WordKind,
+        word: &Word<'_>,
+    ) -> Result<(), ActFault>
         ensures { Does result self.new (after_custom_act kind (word_of word.now) self.old) }
     {
         match kind {
@@ -59,7 +63,11 @@ impl Draft {
 
     /// A word behind an edit word: the same, or `custom`.
     #[tactic(auto, unfolding(crate::specs::Bodies::after_edit_act))]
-    pub fn take_after_edit(&mut self, kind: WordKind, word: &Word<'_>) -> Result<(), ActFault>
+    pub(crate) fn take_after_edit(
+        &mut self,
+        kind: WordKind,
+        word: &Word<'_>,
+    ) -> Result<(), ActFault>
         ensures { Does result self.new (after_edit_act kind (word_of word.now) self.old) }
     {
         match kind {
@@ -73,7 +81,11 @@ impl Draft {
 
     /// A word behind `reorder`: the same, or a field of names.
     #[tactic(auto, unfolding(crate::specs::Bodies::after_reorder_act))]
-    pub fn take_after_reorder(&mut self, kind: WordKind, word: &Word<'_>) -> Result<(), ActFault>
+    pub(crate) fn take_after_reorder(
+        &mut self,
+        kind: WordKind,
+        word: &Word<'_>,
+    ) -> Result<(), ActFault>
         ensures { Does result self.new (after_reorder_act kind (word_of word.now) self.old) }
     {
         match kind {
@@ -102,7 +114,7 @@ impl Draft {
 
     /// The first word of a statement: the one before is over.
     #[tactic(auto, unfolding(crate::specs::Bodies::body_act))]
-    pub fn take_body(&mut self, word: &Word<'_>) -> Result<(), ActFault>
+    pub(crate) fn take_body(&mut self, word: &Word<'_>) -> Result<(), ActFault>
         ensures { Does result self.new (body_act (word_of word.now) self.old) }
     {
         self.end_statement()?;
@@ -111,7 +123,7 @@ impl Draft {
 
     /// Brackets behind the type.
     #[tactic(auto, unfolding(crate::specs::Bodies::brackets_act))]
-    pub fn take_brackets(&mut self) -> Result<(), ActFault>
+    pub(crate) fn take_brackets(&mut self) -> Result<(), ActFault>
         ensures { Does result self.new (brackets_act self.old) }
     {
         self.heading.set_array();
@@ -120,7 +132,7 @@ impl Draft {
 
     /// The name of a property.
     #[tactic(auto, unfolding(crate::specs::Bodies::name_act))]
-    pub fn take_name(&mut self, word: &Word<'_>) -> Result<(), ActFault>
+    pub(crate) fn take_name(&mut self, word: &Word<'_>) -> Result<(), ActFault>
         ensures { Does result self.new (name_act (word_of word.now) self.old) }
     {
         let alloc = self.outer.allocator();
@@ -176,7 +188,7 @@ impl Draft {
 
     /// What stands directly behind the name of an attribute: the `=` of a default, or a mark that adds nothing.
     #[tactic(auto, unfolding(crate::specs::Bodies::tail_act))]
-    pub fn take_tail(&mut self, kind: WordKind) -> Result<(), ActFault>
+    pub(crate) fn take_tail(&mut self, kind: WordKind) -> Result<(), ActFault>
         ensures { Does result self.new (tail_act kind self.old) }
     {
         match kind {
@@ -187,7 +199,7 @@ impl Draft {
 
     /// The word behind the `.` of an attribute.
     #[tactic(auto, unfolding(crate::specs::Bodies::dot_act))]
-    pub fn take_dot(&mut self, kind: WordKind, at: usize) -> Result<(), ActFault>
+    pub(crate) fn take_dot(&mut self, kind: WordKind, at: usize) -> Result<(), ActFault>
         ensures { Does result self.new (dot_act kind at self.old) }
     {
         match kind {
@@ -199,7 +211,7 @@ impl Draft {
 
     /// The time of a sample, or the end of the samples.
     #[tactic(auto, unfolding(crate::specs::Bodies::sample_act))]
-    pub fn take_sample(&mut self, kind: WordKind, word: &Word<'_>) -> Result<(), ActFault>
+    pub(crate) fn take_sample(&mut self, kind: WordKind, word: &Word<'_>) -> Result<(), ActFault>
         ensures { Does result self.new (sample_act kind (word_of word.now) self.old) }
     {
         match kind {

@@ -89,7 +89,7 @@ impl Draft {
 
     /// The path behind an asset.
     #[tactic(auto, unfolding(crate::specs::Lists::item_path_act))]
-    pub fn take_item_path(&mut self, word: &Word<'_>) -> Result<(), ActFault>
+    pub(crate) fn take_item_path(&mut self, word: &Word<'_>) -> Result<(), ActFault>
         ensures { Does result self.new (item_path_act self.old.list (word_of word.now) self.old) }
     {
         let OpenList::Field(ListField::References(field)) = self.list else {
@@ -122,7 +122,7 @@ impl Draft {
 
     /// A token of a list of strings or paths.
     #[tactic(auto, unfolding(crate::specs::Lists::in_list_act))]
-    pub fn take_in_list(&mut self, kind: WordKind, word: &Word<'_>) -> Result<(), ActFault>
+    pub(crate) fn take_in_list(&mut self, kind: WordKind, word: &Word<'_>) -> Result<(), ActFault>
         ensures { Does result self.new (in_list_act kind (word_of word.now) self.old) }
     {
         match kind {
@@ -135,7 +135,11 @@ impl Draft {
 
     /// A token of a list of references or payloads.
     #[tactic(auto, unfolding(crate::specs::Lists::in_references_act))]
-    pub fn take_in_references(&mut self, kind: WordKind, word: &Word<'_>) -> Result<(), ActFault>
+    pub(crate) fn take_in_references(
+        &mut self,
+        kind: WordKind,
+        word: &Word<'_>,
+    ) -> Result<(), ActFault>
         ensures { Does result self.new (in_references_act kind (word_of word.now) self.old) }
     {
         match kind {
@@ -162,7 +166,7 @@ impl Draft {
 
     /// `offset` or `scale`.
     #[tactic(auto, unfolding(crate::specs::Lists::offset_key_act))]
-    pub fn take_offset_key(&mut self, word: &Word<'_>) -> Result<(), ActFault>
+    pub(crate) fn take_offset_key(&mut self, word: &Word<'_>) -> Result<(), ActFault>
         ensures { Does result self.new (offset_key_act (word_of word.now) self.old) }
     {
         match offset_key(word.text) {
@@ -176,7 +180,7 @@ impl Draft {
 
     /// The number of an offset or a scale.
     #[tactic(auto, unfolding(crate::specs::Lists::number_act))]
-    pub fn take_number(&mut self, word: &Word<'_>) -> Result<(), ActFault>
+    pub(crate) fn take_number(&mut self, word: &Word<'_>) -> Result<(), ActFault>
         ensures { Does result self.new (number_act self.old.list (word_of word.now) self.old) }
     {
         let alloc = self.outer.allocator();

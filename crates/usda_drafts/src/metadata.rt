@@ -149,7 +149,7 @@ impl Draft {
 
     /// What stands behind an edit word: a field, or the `=` of a key of that name.
     #[tactic(auto, unfolding(crate::specs::Metadata::edited_act))]
-    pub fn take_edited(&mut self, kind: WordKind, word: &Word<'_>) -> Result<(), ActFault>
+    pub(crate) fn take_edited(&mut self, kind: WordKind, word: &Word<'_>) -> Result<(), ActFault>
         ensures { Does result self.new (edited_act kind (word_of word.now) self.old) }
     {
         match kind {
@@ -163,7 +163,7 @@ impl Draft {
 
     /// Metadata of a prim or a variant.
     #[tactic(auto, unfolding(crate::specs::Metadata::prim_item_act))]
-    pub fn take_prim_item(&mut self, kind: WordKind, word: &Word<'_>) -> Result<(), ActFault>
+    pub(crate) fn take_prim_item(&mut self, kind: WordKind, word: &Word<'_>) -> Result<(), ActFault>
         ensures { Does result self.new (prim_item_act kind (word_of word.now) self.old) }
     {
         match kind {
@@ -198,7 +198,7 @@ impl Draft {
 
     /// Metadata of the layer.
     #[tactic(auto, unfolding(crate::specs::Metadata::head_item_act))]
-    pub fn take_head_item(&mut self, kind: WordKind, word: &Word<'_>) -> Result<(), ActFault>
+    pub(crate) fn take_head_item(&mut self, kind: WordKind, word: &Word<'_>) -> Result<(), ActFault>
         ensures { Does result self.new (head_item_act kind (word_of word.now) self.old) }
     {
         match kind {
@@ -210,7 +210,7 @@ impl Draft {
 
     /// A root prim, or `reorder`.
     #[tactic(auto, unfolding(crate::specs::Metadata::root_act))]
-    pub fn take_root(&mut self, kind: WordKind, word: &Word<'_>) -> Result<(), ActFault>
+    pub(crate) fn take_root(&mut self, kind: WordKind, word: &Word<'_>) -> Result<(), ActFault>
         ensures { Does result self.new (root_act kind (word_of word.now) self.old) }
     {
         match kind {
@@ -235,7 +235,7 @@ impl Draft {
 
     /// `nameChildren` or `properties`.
     #[tactic(auto, unfolding(crate::specs::Metadata::order_act))]
-    pub fn take_order(&mut self, word: &Word<'_>) -> Result<(), ActFault>
+    pub(crate) fn take_order(&mut self, word: &Word<'_>) -> Result<(), ActFault>
         ensures { Does result self.new (order_act (word_of word.now) self.old) }
     {
         self.order_by(OrderWord::of_word(word.text), word.start)
@@ -243,7 +243,7 @@ impl Draft {
 
     /// `rootPrims`.
     #[tactic(auto, unfolding(crate::specs::Metadata::root_order_act))]
-    pub fn take_root_order(&mut self, word: &Word<'_>) -> Result<(), ActFault>
+    pub(crate) fn take_root_order(&mut self, word: &Word<'_>) -> Result<(), ActFault>
         ensures { Does result self.new (root_order_act (word_of word.now) self.old) }
     {
         self.order_by(OrderWord::NameChildren, word.start)
@@ -262,7 +262,11 @@ impl Draft {
 
     /// A name of an order, or the end of the names.
     #[tactic(auto, unfolding(crate::specs::Metadata::order_name_act))]
-    pub fn take_order_name(&mut self, kind: WordKind, word: &Word<'_>) -> Result<(), ActFault>
+    pub(crate) fn take_order_name(
+        &mut self,
+        kind: WordKind,
+        word: &Word<'_>,
+    ) -> Result<(), ActFault>
         ensures { Does result self.new (order_name_act kind (word_of word.now) self.old) }
     {
         match kind {
@@ -297,7 +301,11 @@ impl Draft {
 
     /// Metadata of a property.
     #[tactic(auto, unfolding(crate::specs::Metadata::property_item_act))]
-    pub fn take_property_item(&mut self, kind: WordKind, word: &Word<'_>) -> Result<(), ActFault>
+    pub(crate) fn take_property_item(
+        &mut self,
+        kind: WordKind,
+        word: &Word<'_>,
+    ) -> Result<(), ActFault>
         ensures { Does result self.new (property_item_act kind (word_of word.now) self.old) }
     {
         match kind {

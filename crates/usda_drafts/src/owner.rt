@@ -65,7 +65,7 @@ impl Owner {
 
     /// The spec that the statements make; takes no memory.
     #[tactic(auto, unfolding(crate::specs::Owners::spec_of))]
-    pub fn into_spec(self) -> Spec
+    pub(crate) fn into_spec(self) -> Spec
         ensures { result ≡ spec_of self }
     {
         let Owner {
@@ -94,7 +94,7 @@ impl Owner {
 
     /// Adds the name of a prim below.
     #[tactic(auto, unfolding(crate::specs::Owners::with_child))]
-    pub fn add_child(&mut self, name: Text) -> Result<(), AllocError>
+    pub(crate) fn add_child(&mut self, name: Text) -> Result<(), AllocError>
         ensures { OnOk result (self.new ≡ with_child name self.old) }
     {
         self.children.push(name)
@@ -110,7 +110,7 @@ impl Owner {
 
     /// Begins a variant set.
     #[tactic(auto, unfolding(crate::specs::Owners::with_set))]
-    pub fn add_set(&mut self, alloc: Global, name: Text) -> Result<(), AllocError>
+    pub(crate) fn add_set(&mut self, alloc: Global, name: Text) -> Result<(), AllocError>
         ensures { OnOk result (self.new ≡ with_set name self.old) }
     {
         let key = copy(&name)?;
@@ -151,7 +151,7 @@ impl Owner {
     /// Takes the property of a name in hand for a further statement, or begins it; its place is kept. It is refused where it was given
     /// with another type or kind.
     #[tactic(auto, unfolding(crate::specs::Owners::property_for, crate::specs::Owners::with_place))]
-    pub fn take_property(
+    pub(crate) fn take_property(
         &mut self,
         alloc: Global,
         heading: Heading,
@@ -168,7 +168,7 @@ impl Owner {
 
     /// Puts the property that was in hand into its place, if there was one.
     #[tactic(auto, unfolding(crate::specs::Owners::settled))]
-    pub fn settle(&mut self, property: PropertyDraft) -> Result<(), AllocError>
+    pub(crate) fn settle(&mut self, property: PropertyDraft) -> Result<(), AllocError>
         ensures { OnOk result (self.new ≡ settled property self.old) }
     {
         if property.is_in_hand() {

@@ -42,7 +42,7 @@ fn prim_at(alloc: Global, path: Path, opening: &Opening) -> Result<Owner, AllocE
 impl Draft {
     /// The specifier of a prim that begins.
     #[tactic(auto, unfolding(crate::specs::Prims::specifier_act))]
-    pub fn take_specifier(&mut self, word: &str) -> Result<(), ActFault>
+    pub(crate) fn take_specifier(&mut self, word: &str) -> Result<(), ActFault>
         ensures { Does result self.new (specifier_act word.now self.old) }
     {
         self.opening = Opening {
@@ -55,7 +55,7 @@ impl Draft {
 
     /// The type of a prim that begins.
     #[tactic(auto, unfolding(crate::specs::Prims::prim_type_act))]
-    pub fn take_prim_type(&mut self, word: &str) -> Result<(), ActFault>
+    pub(crate) fn take_prim_type(&mut self, word: &str) -> Result<(), ActFault>
         ensures { Does result self.new (prim_type_act word.now self.old) }
     {
         self.opening.type_name = Some(Text::of(self.outer.allocator(), word)?);
@@ -73,7 +73,7 @@ impl Draft {
 
     /// The mark that opens the metadata or the body of a prim or a variant.
     #[tactic(auto, unfolding(crate::specs::Prims::open_act))]
-    pub fn take_open(&mut self, at: usize) -> Result<(), ActFault>
+    pub(crate) fn take_open(&mut self, at: usize) -> Result<(), ActFault>
         ensures { Does result self.new (open_act at self.old) }
     {
         if self.opening.is_too_deep {
@@ -122,7 +122,7 @@ impl Draft {
 
     /// The string that names a prim.
     #[tactic(auto, unfolding(crate::specs::Prims::prim_name_act))]
-    pub fn take_prim_name(&mut self, token: &str) -> Result<(), PartFault>
+    pub(crate) fn take_prim_name(&mut self, token: &str) -> Result<(), PartFault>
         ensures { DoesPart result self.new (prim_name_act token.now self.old) }
     {
         match identifier_of(self.outer.allocator(), token) {
@@ -144,7 +144,7 @@ impl Draft {
 
     /// The string that names a variant set.
     #[tactic(auto, unfolding(crate::specs::Prims::set_name_act))]
-    pub fn take_set_name(&mut self, token: &str) -> Result<(), PartFault>
+    pub(crate) fn take_set_name(&mut self, token: &str) -> Result<(), PartFault>
         ensures { DoesPart result self.new (set_name_act token.now self.old) }
     {
         match identifier_of(self.outer.allocator(), token) {
@@ -189,7 +189,7 @@ impl Draft {
 
     /// The string that names a variant.
     #[tactic(auto, unfolding(crate::specs::Prims::variant_name_act))]
-    pub fn take_variant_name(&mut self, token: &str) -> Result<(), PartFault>
+    pub(crate) fn take_variant_name(&mut self, token: &str) -> Result<(), PartFault>
         ensures { DoesPart result self.new (variant_name_act token.now self.old) }
     {
         match variant_of(self.outer.allocator(), token) {
@@ -200,7 +200,7 @@ impl Draft {
 
     /// The statement in hand is over.
     #[tactic(auto, unfolding(crate::specs::Prims::with_statement_over))]
-    pub fn end_statement(&mut self) -> Result<(), AllocError>
+    pub(crate) fn end_statement(&mut self) -> Result<(), AllocError>
         ensures { OnOk result (self.new ≡ with_statement_over self.old) }
     {
         let none = PropertyDraft::none(self.outer.allocator());
@@ -224,7 +224,7 @@ impl Draft {
 
     /// The `}` of a prim or a variant.
     #[tactic(auto, unfolding(crate::specs::Prims::body_end_act))]
-    pub fn take_body_end(&mut self) -> Result<(), ActFault>
+    pub(crate) fn take_body_end(&mut self) -> Result<(), ActFault>
         ensures { Does result self.new (body_end_act self.old) }
     {
         self.end_statement()?;

@@ -55,7 +55,7 @@ fn time_of_text(text: &str) -> Result<TimeCode, PartFault>
 impl Draft {
     /// The next value is for a key of metadata.
     #[tactic(auto, unfolding(crate::specs::Values::aimed_at_key))]
-    pub fn aim_at_key(&mut self, goal: Goal, key: Text, rule: KeyRule)
+    pub(crate) fn aim_at_key(&mut self, goal: Goal, key: Text, rule: KeyRule)
         ensures { self.new ≡ aimed_at_key goal key rule self.old }
     {
         self.aim.goal = goal;
@@ -65,7 +65,7 @@ impl Draft {
 
     /// The next value is the default of the property in hand.
     #[tactic(auto, unfolding(crate::specs::Values::aimed_at_default))]
-    pub fn aim_at_default(&mut self)
+    pub(crate) fn aim_at_default(&mut self)
         ensures { self.new ≡ aimed_at_default self.old }
     {
         self.aim.goal = Goal::Default;
@@ -174,7 +174,7 @@ impl Draft {
 
     /// The first token of a value.
     #[tactic(auto, unfolding(crate::specs::Values::first_act))]
-    pub fn take_first_token(&mut self, word: &Word<'_>) -> Result<(), ActFault>
+    pub(crate) fn take_first_token(&mut self, word: &Word<'_>) -> Result<(), ActFault>
         ensures { Does result self.new (first_act (word_of word.now) self.old) }
     {
         let alloc = self.outer.allocator();

@@ -13,6 +13,15 @@ use Rattle.usda_machine.specs.Reading.{after_act as after_act_by, after_step as 
 use Rattle.usda_machine.specs.Texts.{Makes as MakesBy, Make as MakeBy, kinds as kinds_by, HasRead as HasReadBy, IsSyntax as IsSyntaxBy, IsRefusedAct as IsRefusedActBy, IsAtWord as IsAtWordBy, IsAtEnd as IsAtEndBy, HaveFirstRefusal as HaveFirstRefusalBy, HaveOneAnswer as HaveOneAnswerBy}
 use Rattle.usda_machine.proofs.Appending.{makes_append}
 
+-- a symbol that may be absent does not hide what takes the token below it
+pub below_it : (s : Symbol) (stack : List Symbol) (k : WordKind) (next : Symbol × List Symbol) → IsClear (s ∷ stack) → may_be_absent s ≡ true → step stack k ≡ Some next → step (s ∷ stack) k ≡ Some next
+below_it s stack k next clear absent took = from (starts s k) (may_follow s k) refl refl
+  where
+    from : (o : Option (List Symbol)) (b : Bool) → starts s k ≡ o → may_follow s k ≡ b → step (s ∷ stack) k ≡ Some next
+    from o false at follow = let none = clear.0 k follow in absurd (let f : None ≡ Some next = sym none ∙ took in cc)
+    from None true at follow = rw (at, absent) took
+    from (Some after) true at follow = let g : (may_be_absent s && may_follow s k) ≡ false = (is_good-at s k after at).unlike in absurd (let f : (true && true) ≡ false = rw (absent, follow) at g in cc)
+
 module _ {Word Draft Refusal : Type 0} (kind : Word → WordKind) (act : Symbol → Word → Draft → Result Draft Refusal) (refused_as : Option Word → Refusal) (blank : Draft) where
   abbrev start : List Symbol
   start = layer
@@ -74,15 +83,6 @@ module _ {Word Draft Refusal : Type 0} (kind : Word → WordKind) (act : Symbol 
     pub clear : IsClear next
     pub by : Derivation
     pub made : Makes by next draft ws left out
-
-  -- a symbol that may be absent does not hide what takes the token below it
-  below_it : (s : Symbol) (stack : List Symbol) (k : WordKind) (next : Symbol × List Symbol) → IsClear (s ∷ stack) → may_be_absent s ≡ true → step stack k ≡ Some next → step (s ∷ stack) k ≡ Some next
-  below_it s stack k next clear absent took = from (starts s k) (may_follow s k) refl refl
-    where
-      from : (o : Option (List Symbol)) (b : Bool) → starts s k ≡ o → may_follow s k ≡ b → step (s ∷ stack) k ≡ Some next
-      from o false at follow = let none = clear.0 k follow in absurd (let f : None ≡ Some next = sym none ∙ took in cc)
-      from None true at follow = rw (at, absent) took
-      from (Some after) true at follow = let g : (may_be_absent s && may_follow s k) ≡ false = (is_good-at s k after at).unlike in absurd (let f : (true && true) ≡ false = rw (absent, follow) at g in cc)
 
   took_word : (t : Derivation) (stack : List Symbol) (d : Draft) (w : Word) (ws : List Word) (left : List Symbol) (out : Draft) → IsClear stack → Makes t stack d (w ∷ ws) left out → Took stack d w ws left out
   took_word ends stack d w ws left out clear h = absurd h

@@ -13,19 +13,19 @@ use Rattle.usda_grammar.specs.Table.{layer}
 use Rattle.usda_machine.proofs.Running as running
 use Rattle.usda_machine.specs.Reading.{run}
 use Rattle.usda_productions.proofs.Simulation as by_rules
-use Rattle.usda_words.specs.Words.{words_of}
+use Rattle.usda_words.specs.Words.{words_of, word_kind}
 use Rattle.usda_reader.specs.Checks.{first_check}
 use Rattle.usda_reader.specs.Reading.{run_from, draft_of, unless_refused, layer_in, read, Places, Gives, Reads, IsRead, IsRefused}
-use Rattle.usda_reader.specs.Texts.{kind_of, syntax_at, MakeDraft, HaveRefusedWord, refusal_at, IsText, IsRefusedFirst, HaveOneAnswer}
+use Rattle.usda_reader.specs.Texts.{syntax_at, MakeDraft, HaveRefusedWord, refusal_at, IsText, IsRefusedFirst, HaveOneAnswer}
 use Rattle.usda_reader.specs.declared.fault.LayerFault.{LayerFault}
 use Rattle.usda_reader.specs.declared.fault.LayerFault.TheVariants as fault
 
 -- ---- the words
 
-pub words_make : (bytes : List ℕ) (d : Draft) → run kind_of act (syntax_at (length bytes)) layer blank (words_of bytes) ≡ Ok d → MakeDraft bytes d
+pub words_make : (bytes : List ℕ) (d : Draft) → run word_kind act (syntax_at (length bytes)) layer blank (words_of bytes) ≡ Ok d → MakeDraft bytes d
 words_make bytes d e =
-    by_rules.written kind_of act (syntax_at (length bytes)) blank (words_of bytes) d
-    (running.found kind_of act (syntax_at (length bytes)) blank (words_of bytes) d e)
+    by_rules.written word_kind act (syntax_at (length bytes)) blank (words_of bytes) d
+    (running.found word_kind act (syntax_at (length bytes)) blank (words_of bytes) d e)
 
 draft_found : (bytes : List ℕ) (d : Draft) → draft_of bytes ≡ Ok d → MakeDraft bytes d
 unfolding draft_of run_from
@@ -34,20 +34,20 @@ draft_found bytes d e = words_make bytes d e
 draft_only : (bytes : List ℕ) (d : Draft) → MakeDraft bytes d → draft_of bytes ≡ Ok d
 unfolding draft_of run_from
 draft_only bytes d h =
-    running.only kind_of act (syntax_at (length bytes)) blank (words_of bytes) d
-    (by_rules.read kind_of act (syntax_at (length bytes)) blank (words_of bytes) d h)
+    running.only word_kind act (syntax_at (length bytes)) blank (words_of bytes) d
+    (by_rules.read word_kind act (syntax_at (length bytes)) blank (words_of bytes) d h)
 
 word_refused : (bytes : List ℕ) (r : Refused) → draft_of bytes ≡ Err r → HaveRefusedWord bytes r
 unfolding draft_of run_from
 word_refused bytes r e =
-    by_rules.refused kind_of act (syntax_at (length bytes)) blank (words_of bytes) r
-    (running.refusal kind_of act (syntax_at (length bytes)) blank (words_of bytes) r e)
+    by_rules.refused word_kind act (syntax_at (length bytes)) blank (words_of bytes) r
+    (running.refusal word_kind act (syntax_at (length bytes)) blank (words_of bytes) r e)
 
 word_exact : (bytes : List ℕ) (r : Refused) → HaveRefusedWord bytes r → draft_of bytes ≡ Err r
 unfolding draft_of run_from
 word_exact bytes r h =
-    running.exact kind_of act (syntax_at (length bytes)) blank (words_of bytes) r
-    (by_rules.refuses kind_of act (syntax_at (length bytes)) blank (words_of bytes) r h)
+    running.exact word_kind act (syntax_at (length bytes)) blank (words_of bytes) r
+    (by_rules.refuses word_kind act (syntax_at (length bytes)) blank (words_of bytes) r h)
 
 -- ---- the text, by what its checks and its words give
 

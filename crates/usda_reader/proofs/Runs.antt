@@ -13,9 +13,9 @@ use Rattle.usda_grammar.specs.declared.symbols.Symbol.{Symbol}
 use Rattle.usda_grammar.specs.Machine.{step, is_done}
 use Rattle.usda_machine.specs.Reading.{run}
 use Rattle.usda_machine.specs.Stacks.{Steps}
-use Rattle.usda_words.specs.Words.{Word}
+use Rattle.usda_words.specs.Words.{Word, word_kind}
 use Rattle.usda_reader.specs.Reading.{run_from, GoesOn}
-use Rattle.usda_reader.specs.Texts.{kind_of, syntax_at}
+use Rattle.usda_reader.specs.Texts.{syntax_at}
 
 -- what a step answers, where it took the word and where it did not
 pub some_step : (answer : Result (Option Symbol) AllocError) (new : List Symbol) (found : Option (Symbol × List Symbol)) (s : Symbol) → answer ≡ Ok (Some s) → Steps answer new found → found ≡ Some (s, new)
@@ -48,26 +48,26 @@ module _ {W D R : Type 0} (kind : W → WordKind) (does : Symbol → W → D →
 
 -- ---- the words of a text, and its draft
 
-pub goes_on : (end : ℕ) (stack next : List Symbol) (s : Symbol) (old new : Draft) (w : Word) (ws : List Word) (answer : Result (Unit {0}) ActFault) → step stack (kind_of w) ≡ Some (s, next) → Does answer new (act s w old) → GoesOn answer (run_from end stack old (w ∷ ws)) (run_from end next new ws)
+pub goes_on : (end : ℕ) (stack next : List Symbol) (s : Symbol) (old new : Draft) (w : Word) (ws : List Word) (answer : Result (Unit {0}) ActFault) → step stack (word_kind w) ≡ Some (s, next) → Does answer new (act s w old) → GoesOn answer (run_from end stack old (w ∷ ws)) (run_from end next new ws)
 unfolding run_from
-goes_on end stack next s old new w ws (Ok u) at does = taken kind_of act (syntax_at end) stack next s old new w ws at does
-goes_on end stack next s old new w ws (Err (fault.Refused r)) at does = not_taken kind_of act (syntax_at end) stack next s old r w ws at does
+goes_on end stack next s old new w ws (Ok u) at does = taken word_kind act (syntax_at end) stack next s old new w ws at does
+goes_on end stack next s old new w ws (Err (fault.Refused r)) at does = not_taken word_kind act (syntax_at end) stack next s old r w ws at does
 goes_on end stack next s old new w ws (Err fault.NoMemory) at does = tt
 
-pub stops : (end : ℕ) (stack : List Symbol) (d : Draft) (w : Word) (ws : List Word) → step stack (kind_of w) ≡ None → run_from end stack d (w ∷ ws) ≡ Err (refused Syntax w.start)
+pub stops : (end : ℕ) (stack : List Symbol) (d : Draft) (w : Word) (ws : List Word) → step stack (word_kind w) ≡ None → run_from end stack d (w ∷ ws) ≡ Err (refused Syntax w.start)
 unfolding run_from
-stops end stack d w ws at = no_symbol kind_of act (syntax_at end) stack d w ws at
+stops end stack d w ws at = no_symbol word_kind act (syntax_at end) stack d w ws at
 
-pub stops_at : (end : ℕ) (stack : List Symbol) (d : Draft) (w : Word) (ws : List Word) (fault_ : ActFault) (after : Result Draft Refused) → fault_ ≡ fault.Refused (refused Syntax w.start) → step stack (kind_of w) ≡ None → GoesOn (Err fault_) (run_from end stack d (w ∷ ws)) after
+pub stops_at : (end : ℕ) (stack : List Symbol) (d : Draft) (w : Word) (ws : List Word) (fault_ : ActFault) (after : Result Draft Refused) → fault_ ≡ fault.Refused (refused Syntax w.start) → step stack (word_kind w) ≡ None → GoesOn (Err fault_) (run_from end stack d (w ∷ ws)) after
 stops_at end stack d w ws fault_ after e at = subst (λ (f : ActFault). GoesOn (Err f) (run_from end stack d (w ∷ ws)) after) (sym e) (stops end stack d w ws at)
 
 pub ends : (end : ℕ) (stack : List Symbol) (d : Draft) → is_done stack ≡ true → run_from end stack d [] ≡ Ok d
 unfolding run_from
-ends end stack d done = at_an_end kind_of act (syntax_at end) stack d done
+ends end stack d done = at_an_end word_kind act (syntax_at end) stack d done
 
 pub breaks_off : (end : ℕ) (stack : List Symbol) (d : Draft) → is_done stack ≡ false → run_from end stack d [] ≡ Err (refused Syntax end)
 unfolding run_from
-breaks_off end stack d done = too_short kind_of act (syntax_at end) stack d done
+breaks_off end stack d done = too_short word_kind act (syntax_at end) stack d done
 
 -- a word that is refused refuses the whole
 pub refused_there : (fault_ : ActFault) (new : Draft) (whole before after : Result Draft Refused) → whole ≡ before → GoesOn (Err fault_) before after → Does (Err fault_) new whole

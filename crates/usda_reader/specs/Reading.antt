@@ -11,15 +11,15 @@ use Rattle.usda_drafts.specs.declared.fault.Refused.{Refused}
 use Rattle.usda_grammar.specs.declared.symbols.Symbol.{Symbol}
 use Rattle.usda_grammar.specs.Table.{layer}
 use Rattle.usda_machine.specs.Reading.{run}
-use Rattle.usda_words.specs.Words.{Word, words_of}
+use Rattle.usda_words.specs.Words.{Word, words_of, word_kind}
 use Rattle.usda_reader.specs.Checks.{first_check}
-use Rattle.usda_reader.specs.Texts.{kind_of, syntax_at, refusal_at, IsText, IsRefusedFirst}
+use Rattle.usda_reader.specs.Texts.{syntax_at, refusal_at, IsText, IsRefusedFirst}
 use Rattle.usda_reader.specs.declared.fault.LayerFault.{LayerFault}
 use Rattle.usda_reader.specs.declared.fault.LayerFault.TheVariants as fault
 
 -- the draft behind these words, from these symbols and this draft on, in a text of this length
 unfoldable pub run_from : ℕ → List Symbol → Draft → List Word → Result Draft Refused
-run_from end stack d ws = run kind_of act (syntax_at end) stack d ws
+run_from end stack d ws = run word_kind act (syntax_at end) stack d ws
 
 -- the draft behind all words of a text
 unfoldable pub draft_of : List ℕ → Result Draft Refused

@@ -10,17 +10,12 @@ use Rattle.usda_drafts.specs.Drafts.{blank, layer_of}
 use Rattle.usda_drafts.specs.Refusals.{refused}
 use Rattle.usda_drafts.specs.declared.draft.Draft.{Draft}
 use Rattle.usda_drafts.specs.declared.fault.Refused.{Refused}
-use Rattle.usda_grammar.specs.declared.kinds.WordKind.{WordKind}
 use Rattle.usda_lexer.specs.Places.{place_of}
 use Rattle.usda_productions.specs.Refusals.{HaveFirstRefusal}
 use Rattle.usda_productions.specs.Rules.{layer_forms}
 use Rattle.usda_productions.specs.Texts.{MakeBy}
-use Rattle.usda_words.specs.Words.{Word, words_of}
+use Rattle.usda_words.specs.Words.{Word, words_of, word_kind}
 use Rattle.usda_reader.specs.Checks.{first_check}
-
--- what a word is to the grammar
-abbrev pub kind_of : Word → WordKind
-kind_of w = w.kind
 
 -- A word with which no text goes on is refused where it begins; the end of a text of this length, where none ends, behind the last byte.
 abbrev pub syntax_at : ℕ → Option Word → Refused
@@ -29,11 +24,11 @@ syntax_at end None = refused Syntax end
 
 -- the words of the bytes are those of a layer by the productions, and make this draft of a blank one
 abbrev pub MakeDraft : List ℕ → Draft → Type 0
-MakeDraft bytes d = MakeBy kind_of act layer_forms blank (words_of bytes) d
+MakeDraft bytes d = MakeBy word_kind act layer_forms blank (words_of bytes) d
 
 -- the first word that no text goes on with, or that is refused for what it means, or the end
 abbrev pub HaveRefusedWord : List ℕ → Refused → Type 0
-HaveRefusedWord bytes r = HaveFirstRefusal kind_of act (syntax_at (length bytes)) blank (words_of bytes) r
+HaveRefusedWord bytes r = HaveFirstRefusal word_kind act (syntax_at (length bytes)) blank (words_of bytes) r
 
 -- the bytes are a text of the format, which says this layer
 pub record IsText (bytes : List ℕ) (layer : LayerTable) : Type 0 where

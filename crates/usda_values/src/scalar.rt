@@ -1,6 +1,5 @@
 //! What one token is as a value, and which values of one token a type takes.
 ghost use Rattle.std.specs.Prelude.{◌≡◌, ◌≢◌, ◌<◌, ◌%◌, ◌^◌, pos, IfSome, Ok};
-ghost use Rattle.sdf_values.specs.Conforms.{whole_bounds, is_between};
 ghost use Rattle.sdf_values.specs.Numbers.{zero_number};
 ghost use Rattle.sdf_values.specs.NumberTexts.{signed};
 ghost use Rattle.usda_values.specs.Scalars.{power_of, times_power, whole_of, is_plain_byte, is_plain, by_value, number_value, string_value, path_value, word_value, token_value, time_of, finite_time, decimal_of_whole, take_bool_word, take_bool, take_real, take_time, take_number_time, take_timecode, take_text, take_asset, take_whole_value, take_element, tens_out, is_below_zero};
@@ -12,7 +11,9 @@ use crate::fault::{PartFault, shape_fault};
 use crate::path_text::is_path_text;
 use crate::shape::Shape;
 use plain_data::Text;
-use sdf_values::{Decimal, ElementType, Num, RefusalKind, TimeCode, TypeName, Value, with_sign};
+use sdf_values::{
+    Decimal, ElementType, Num, RefusalKind, TimeCode, TypeName, Value, is_between, with_sign,
+};
 use std::alloc::Global;
 use usda_lexer::{TokenKind, asset_text, number_of, path_text, string_text};
 
@@ -311,19 +312,6 @@ fn take_asset(value: Value) -> Result<Value, PartFault>
             drop(other);
             Err(shape_fault())
         }
-    }
-}
-
-fn is_between(element: ElementType, n: i128) -> bool
-    ensures { result ≡ is_between (whole_bounds element) n }
-{
-    match element {
-        ElementType::Uchar => 0 <= n && n <= 255,
-        ElementType::Int => -2_147_483_648 <= n && n <= 2_147_483_647,
-        ElementType::Uint => 0 <= n && n <= 4_294_967_295,
-        ElementType::Int64 => { -9_223_372_036_854_775_808 <= n && n <= 9_223_372_036_854_775_807 }
-        ElementType::Uint64 => 0 <= n && n <= 18_446_744_073_709_551_615,
-        _ => false,
     }
 }
 

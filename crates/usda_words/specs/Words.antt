@@ -21,6 +21,10 @@ pub record Word : Type 0 where
   pub start : ℕ
   pub too_long : Bool
 
+-- what a word is to the grammar
+abbrev pub word_kind : Word → WordKind
+word_kind w = w.kind
+
 -- each mark is a kind of its own to the grammar
 abbrev pub kind_of_mark : Mark → WordKind
 kind_of_mark mark.OpenParen = kind.OpenParen

@@ -9,8 +9,8 @@ use Rattle.usda_grammar.specs.Derivations.{Derivation, ends, skips, takes}
 use Rattle.usda_grammar.specs.Table.{layer, starts}
 use Rattle.usda_grammar.specs.declared.symbols.Symbol.{Symbol}
 use Rattle.usda_machine.specs.Texts.{Makes, HasRead}
-use Rattle.usda_words.specs.Words.{Word, words_of}
-use Rattle.text_syntax.specs.Open.{IsOfValue, kind_in}
+use Rattle.usda_words.specs.Words.{Word, words_of, word_kind}
+use Rattle.text_syntax.specs.Open.{IsOfValue}
 use Rattle.values_read.specs.Owners.{ArePlaced}
 use Rattle.values_read.specs.Texts.{TextsSaySoundValues}
 use Rattle.values_read.specs.Tokens.{IsLexedWord, AreLexedWords}
@@ -29,7 +29,7 @@ next_lexed [] rest w h = h.0
 next_lexed (v ∷ front) rest w h = next_lexed front rest w h.1
 
 made : (refused_as : Option Word → Refused) (t : Derivation) (stack : List Symbol) (d : Draft) (ws : List Word) (left : List Symbol) (out : Draft) → AreLexedWords ws → IsOpenSound d → ArePlaced d
-    → Makes kind_in act refused_as t stack d ws left out → IsOpenSound out × ArePlaced out
+    → Makes word_kind act refused_as t stack d ws left out → IsOpenSound out × ArePlaced out
 made refused_as ends stack d [] left out words sound placed h = (subst IsOpenSound h.1 sound, subst ArePlaced h.1 placed)
 made refused_as ends stack d (w ∷ ws) left out words sound placed h = absurd h
 made refused_as (skips t) [] d ws left out words sound placed h = absurd h
@@ -39,13 +39,13 @@ made refused_as (takes t) (s ∷ stack) d [] left out words sound placed h = abs
 made refused_as (takes t) (s ∷ stack) d (w ∷ ws) left out words sound placed (after, next, begun, acted, h) =
     made refused_as t (after ++ stack) next ws left out words.1 (words_keep.kept s w d next after words.0 (owners_have_paths.base d placed) sound begun acted) (owners_have_paths.kept s w d next placed acted) h
 
-read : (refused_as : Option Word → Refused) (bytes : List ℕ) (front rest : List Word) (stack : List Symbol) (d : Draft) → is_utf8 bytes ≡ true → words_of bytes ≡ front ++ rest → HasRead kind_in act refused_as blank front stack d
+read : (refused_as : Option Word → Refused) (bytes : List ℕ) (front rest : List Word) (stack : List Symbol) (d : Draft) → is_utf8 bytes ≡ true → words_of bytes ≡ front ++ rest → HasRead word_kind act refused_as blank front stack d
     → IsOpenSound d × ArePlaced d
 read refused_as bytes front rest stack d u split has =
     made refused_as has.by layer blank front stack d (front_lexed front rest (subst AreLexedWords split (words_lexed bytes u))) words_keep.begins owners_have_paths.begins has.made
 
 value : (refused_as : Option Word → Refused) (bytes : List ℕ) (front rest : List Word) (w : Word) (stack after : List Symbol) (s : Symbol) (d next : Draft) → is_utf8 bytes ≡ true → words_of bytes ≡ front ++ w ∷ rest
-    → HasRead kind_in act refused_as blank front stack d → starts s w.kind ≡ Some after → IsOfValue s d → act s w d ≡ Ok next → ValueGoesOn d w next
+    → HasRead word_kind act refused_as blank front stack d → starts s w.kind ≡ Some after → IsOfValue s d → act s w d ≡ Ok next → ValueGoesOn d w next
 value refused_as bytes front rest w stack after s d next u split has took of acted =
     let behind = read refused_as bytes front (w ∷ rest) stack d u split has in
     words_keep.value s w d next after (next_lexed front rest w (subst AreLexedWords split (words_lexed bytes u))) (owners_have_paths.base d behind.1) behind.0 took of acted

@@ -1,5 +1,5 @@
 use Rattle.std.proofs.Common.{◌≡◌, map, filter, take}
-use Rattle.composition.specs.Opinions.{is_opinion}
+use Rattle.list_ops.specs.Opinions.{is_opinion}
 use Rattle.field_resolve.proofs.strings.clip_opinions.Given as goal
 
 abbrev pub invariant-loop-opinion : goal.invariant-loop-opinion

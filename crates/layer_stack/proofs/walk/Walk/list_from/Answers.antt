@@ -3,17 +3,17 @@ use Rattle.sdf_values.specs.Scales.{Offset}
 use Rattle.composition.specs.Texts.{Text}
 use Rattle.composition.specs.World.{identity}
 use Rattle.composition.specs.Stacks.{LayerStack, listed}
-use Rattle.layer_set.specs.LookUps.{look_ups, heading_of}
+use Rattle.layer_set.specs.LookUps.{look_ups}
+use Rattle.layer_set.specs.Worlds.{is_present, held_at}
 use Rattle.layer_set.specs.declared.held.Held.{Held}
-use Rattle.layer_stack.specs.Visiting.{is_present}
-use Rattle.layer_stack.proofs.Listing.{present_listed, others_asked, all_visited}
+use Rattle.layer_stack.proofs.Listing.{present_heading, present_listed, others_asked, all_visited}
 use Rattle.layer_stack.proofs.walk.Walk.list_from.Goals as goal
 
 pub returns-then-not-is_present-clause-draft : goal.returns-then-not-is_present-clause-draft
 returns-then-not-is_present-clause-draft c =
     c.in_ok-add_asked.ensures
     ∙ sym (others_asked (look_ups c.args.world.now) c.args.most c.args.name.now c.args.self.now.draft
-    (sym (c.is_present.ensures ∙ ap (λ (h : Held). is_present (heading_of h)) c.held.ensures) ∙ c.if-not-is_present.true))
+    (sym (c.is_present.ensures ∙ (ap (λ (h : Held). is_present h) c.held.ensures ∙ present_heading (held_at c.args.world.now c.args.name.now))) ∙ c.if-not-is_present.true))
 
 pub returns-clause-draft : goal.returns-clause-draft
 returns-clause-draft c =
@@ -23,4 +23,4 @@ returns-clause-draft c =
     ∙ (ap (λ (o : Offset). listed (look_ups c.args.world.now) c.args.most (c.args.name.now ∷ []) c.args.name.now o c.add_asked.new.self) c.identity.ensures
     ∙ (ap (λ (s : LayerStack). listed (look_ups c.args.world.now) c.args.most (c.args.name.now ∷ []) c.args.name.now identity s) c.in_ok-add_asked.ensures
     ∙ sym (present_listed (look_ups c.args.world.now) c.args.most c.args.name.now c.args.self.now.draft
-    (sym (c.is_present.ensures ∙ ap (λ (h : Held). is_present (heading_of h)) c.held.ensures) ∙ c.if-not-is_present.false)))))
+    (sym (c.is_present.ensures ∙ (ap (λ (h : Held). is_present h) c.held.ensures ∙ present_heading (held_at c.args.world.now c.args.name.now))) ∙ c.if-not-is_present.false)))))
