@@ -3,9 +3,9 @@
 
     python3 bench/hostile.py [PROGRAM] [--quick] [--seed NUMBER] [--only PART ..]
 
-The parts are words (commands and files that are none), cut (each layer of the examples, cut at every byte), texts and scripts (of the
-examples and of tests/worlds, spoiled by chance from the seed), scenes (deep and wide ones), and long (tokens and lists). Every run has
-to end with a status and a line of the table in the README, within its time. Beyond that:
+The parts are words (commands and files that are none), cut (each layer and script of the examples, cut at every byte), texts and scripts
+(of the examples that have a script and of tests/worlds, spoiled by chance from the seed), scenes (deep and wide ones), and long (tokens
+and lists). Every run has to end with a status and a line of the table in the README, within its time. Beyond that:
 
 - status 5: nothing is written, and the place of the refusal is in the text. What stands before that place is good, or ends too early;
   what is put behind the text changes nothing. Bytes that are not UTF-8 and another first line are told by this script as well.
@@ -31,9 +31,8 @@ import tempfile
 import time
 
 import measure
-from hostile_inputs import FIRST, LONG, SCENES, get, put, scene, scenes, spoil, spoil_script
+from hostile_inputs import FIRST, LONG, SCENES, get, put, scenes, spoil, spoil_script, with_scripts, without_scripts
 
-TOP = measure.TOP
 BOUND = 5  # the processor's seconds of a run on a small input
 KINDS = (b"TooLong|Crate|Package|NotUtf8|BadHeader|Syntax|NumberTooLong|UnknownType|ValueShape|TimeRange|OffsetRange|DuplicateSpec|Relocates|"
          b"Spline|ReferenceData|TooDeep")
@@ -376,22 +375,38 @@ def run_words(check, quick):
 
 
 def run_cut(check, quick):
-    """Each layer of the examples, cut at every byte."""
-    for name, folder, root in (("shot", "shot", "shot.usda"), ("character", "character", "shot.usda"), ("factory", "factory", "line.usda")):
-        made = scene(os.path.join(TOP, "examples", folder), root, "script.txt")
+    """Each layer and each script of the examples, cut at every byte."""
+    first, step = (check.seed % 16, 16) if quick else (0, 1)
+    for made in with_scripts() + without_scripts():
         for layer, text in made.layers.items():
             with tempfile.TemporaryDirectory() as at:
                 made.write(at)
-                for end in range(check.seed % 16 if quick else 0, len(text) + 1, 16 if quick else 1):
+                whole = refusal(check.run(at, ["flatten", layer]))
+                for end in range(first, len(text) + 1, step):
                     put(at, layer, text[:end])
                     told = judge_text(check, at, layer, False)
-                    if told and not is_at_the_end(text[:end], told):
-                        check.found(f"{layer} cut at {end} is refused {told}, before its last token", at)
-        script = made.script
+                    if told and told != whole and not is_at_the_end(text[:end], told):
+                        check.found(f"{made.name}/{layer} cut at {end} is refused {told}, before its last token", at)
+    for made in with_scripts():
         with tempfile.TemporaryDirectory() as at:
             made.write(at)
-            for end in range(check.seed % 16 if quick else 0, len(script) + 1, 16 if quick else 1):
-                judge_script(check, at, root, script[:end], False)
+            for end in range(first, len(made.script) + 1, step):
+                judge_script(check, at, made.root, made.script[:end], False)
+
+
+# a token, or the front of one: a long string, a string of a line, an asset, a comment, a path, a word or a number, a mark
+TOKEN = b"|".join([
+    rb'"""(?:\\(?s:.)|(?!""")[^\\])*\\?(?:""")?',
+    rb"'''(?:\\(?s:.)|(?!''')[^\\])*\\?(?:''')?",
+    rb'"(?:\\.|[^"\\\n])*\\?"?',
+    rb"'(?:\\.|[^'\\\n])*\\?'?",
+    rb"@@@(?:(?!@@@)(?s:.))*(?:@@@@?)?",
+    rb"@[^@\n]*@?",
+    rb"/\*(?:(?!\*/)(?s:.))*(?:\*/)?",
+    rb"<[^>\n]*>?",
+    rb"[\w:.+-]+",
+    rb"[^\w\s]",
+])
 
 
 def is_at_the_end(text, told):
@@ -399,8 +414,7 @@ def is_at_the_end(text, told):
     at = offset_of(text, told[0], told[1])
     if at is None:
         return False
-    token = rb'"""(?s:.)*|"[^"\n]*"?|@[^@\n]*@?|<[^>\n]*>?|[\w:.+-]+|[^\w\s]'
-    return told[2] == b"BadHeader" and b"\n" not in text or re.fullmatch(rb"(?:" + token + rb")?\s*", text[at:]) is not None
+    return told[2] == b"BadHeader" and b"\n" not in text or re.fullmatch(rb"(?:" + TOKEN + rb")?\s*", text[at:]) is not None
 
 
 def run_texts(check, quick):

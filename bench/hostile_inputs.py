@@ -67,6 +67,9 @@ BYTES = [b'"', b"'", b'"""', b"@", b"@@@", b"<", b">", b"(", b")", b"[", b"]", b
          "é".encode(), "\u2028".encode(), "中".encode(), b"(" * 70, b"[" * 70, b"{" * 70, b"</A>", b"@a@", b'"A"', b"PXR-USDC", b"PK\3\4"]
 
 
+EXAMPLES = os.path.join(measure.TOP, "examples")
+
+
 def put(folder, name, data):
     path = os.path.join(folder, name)
     os.makedirs(os.path.dirname(path), exist_ok=True)
@@ -90,20 +93,31 @@ class Scene:
             put(folder, name, text)
 
 
-def scene(folder, root, script):
+def scene(folder, root="", script=""):
     layers = {}
     for above, _, names in os.walk(folder):
         for name in names:
             if name.endswith(".usda"):
                 path = os.path.join(above, name)
                 layers[os.path.relpath(path, folder)] = get(path)
-    return Scene(os.path.basename(folder), layers, root, get(os.path.join(folder, script)))
+    return Scene(os.path.basename(folder), layers, root, get(os.path.join(folder, script)) if script else b"")
+
+
+def with_scripts():
+    """The examples that have a script."""
+    roots = {"shot": "shot.usda", "character": "shot.usda", "factory": "line.usda"}
+    return [scene(os.path.join(EXAMPLES, name), root, "script.txt") for name, root in roots.items()]
+
+
+def without_scripts():
+    """The layers of the format, and the small worlds of the rules."""
+    rules = os.path.join(EXAMPLES, "rules")
+    return [scene(os.path.join(EXAMPLES, "format"))] + [scene(os.path.join(rules, name)) for name in sorted(os.listdir(rules))]
 
 
 def scenes():
-    """The examples, the worlds of the tests, and the text with each construct."""
-    roots = {"shot": "shot.usda", "character": "shot.usda", "factory": "line.usda"}
-    found = [scene(os.path.join(measure.TOP, "examples", name), root, "script.txt") for name, root in roots.items()]
+    """The examples that have a script, the worlds of the tests, and the text with each construct."""
+    found = with_scripts()
     worlds = os.path.join(measure.TOP, "tests", "worlds")
     found += [scene(os.path.join(worlds, name), "root.usda", "script") for name in sorted(os.listdir(worlds))]
     questions = b"children /A\nvalue /A.z 2.5\nsamples /A.z\ntargets /A.r\nfaults /A\nsites /A\ndefault /A.p\nflatten\n"
