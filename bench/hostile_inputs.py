@@ -3,6 +3,8 @@ import os
 import re
 
 import measure
+from index import unchosen
+from session import all_rules, batch, removals, root_batches, root_prims_with_values, rules
 
 FIRST = measure.FIRST.encode()
 
@@ -271,47 +273,17 @@ def silent(count):
     return {"root": f"(subLayers = [{names}, @w.usda@])\n", "w": f'def "A" {{ {children} }}\n', **{f"l/{i}": 'over "A" {}\n' for i in range(count)}}
 
 
-def unchosen(count):
-    """So many variant sets, of each of which the empty variant is chosen."""
-    names = ", ".join(f'"s{i}"' for i in range(count))
-    choices = "".join(f'string s{i} = ""\n' for i in range(count))
-    return {"root": f'def "A" (variants = {{ {choices} }} variantSets = [{names}]) {{}}\n'}
-
-
 def with_value(_count):
     return {"root": 'def "A" { int b = 0 }\n'}
-
-
-def with_values(count):
-    return {"root": "".join(f'def "s{i}" {{ int b = 0 }}\n' for i in range(count))}
-
-
-def batches(lines):
-    """Batches of one line each."""
-    return "".join(f"begin\n{line}\ncommit\n" for line in lines)
 
 
 def accepted(count):
     return "".join(f"batch {i + 1} accepted\n" for i in range(count))
 
 
-def set_values(count):
-    """Five hundred batches, each of which sets the value of one of so many root prims."""
-    return batches(f"set @root.usda@ /s{i * 7919 % count}.b {i}" for i in range(500))
-
-
-def set_rules(count):
-    return batches(f"load /a{i}" for i in range(count))
-
-
 def keep_rules(count):
     """A batch that sets so many load rules, and two thousand that set a value."""
-    return batches(["\n".join(f"load /a{i}" for i in range(count))] + [f"set @root.usda@ /A.b {i}" for i in range(2000)])
-
-
-def remove_all(count):
-    """A batch that removes so many root prims, one by one."""
-    return batches(["\n".join(f"remove @root.usda@ /s{i * 7919 % count}" for i in range(count))])
+    return all_rules(count) + "".join(batch("/A", i) for i in range(2000))
 
 
 def path_of(count):
@@ -328,12 +300,12 @@ SCENES = [
     ("prims that refer to themselves", 10_000, 1_000, to_itself, lambda n: "faults /p0\n",
      lambda n: (n, "faults /p0: 1\n  ArcCycle @root.usda@</p0> references @root.usda@</p0>\n"), 60),
     ("prims that refer to one of their layer", 10_000, 1_000, to_one, lambda n: f"default /p{n - 1}.x\n", lambda n: (n + 1, f"default /p{n - 1}.x: 1\n"), 60),
-    ("root prims, 500 batches of one set", 32_768, 4_096, with_values, set_values, lambda n: (n, accepted(500)), 60),
-    ("batches of one load rule", 8_192, 1_024, with_value, set_rules, lambda n: (1, accepted(n)), 60),
+    ("root prims, 500 batches of one set", 32_768, 4_096, root_prims_with_values, root_batches, lambda n: (n, accepted(500)), 60),
+    ("batches of one load rule", 8_192, 1_024, with_value, rules, lambda n: (1, accepted(n)), 60),
     ("load rules, then 2,000 batches of one set", 16_384, 1_024, with_value, keep_rules, lambda n: (1, accepted(2_001)), 60),
     ("layers that say nothing of 2,000 children", 256, 16, silent, lambda n: "faults /A\n", lambda n: (2_001, "faults /A: 0\n"), 60),
     ("variant sets, each the empty variant", 64_000, 4_000, unchosen, lambda n: "sites /A\nfaults /A\n", lambda n: (1, "sites /A: 1\n  @root.usda@ /A\nfaults /A: 0\n"), 10),
-    ("root prims, each removed, in one batch", 16_000, 2_000, siblings, remove_all, lambda n: (n, "batch 1 accepted\n"), 60),
+    ("root prims, each removed, in one batch", 16_000, 2_000, siblings, removals, lambda n: (n, "batch 1 accepted\n"), 60),
     ("items of a list with all edits", 20_000, 2_000, lists, lambda n: "faults /A\n", lambda n: (1, "faults /A: 0\n"), 60),
 ]
 

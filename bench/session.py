@@ -56,7 +56,7 @@ def large_batches(count):
 
 def root_batches(count):
     """Five hundred batches of one `set`, each of another of so many root prims."""
-    return "".join(batch(f"/p{i * 7919 % count}", i) for i in range(500))
+    return "".join(batch(f"/s{i * 7919 % count}", i) for i in range(500))
 
 
 def rule(i):
@@ -68,9 +68,14 @@ def rules(count):
     return "".join(f"begin\n{rule(i)}commit\n" for i in range(count))
 
 
+def all_rules(count):
+    """A batch that sets so many load rules."""
+    return "begin\n" + "".join(rule(i) for i in range(count)) + "commit\n"
+
+
 def ruled(count):
     """A batch that sets so many load rules, and then 4,096 batches of one `set`."""
-    return "begin\n" + "".join(rule(i) for i in range(count)) + "commit\n" + few_batches(count)
+    return all_rules(count) + few_batches(count)
 
 
 def few_batches(_count):
@@ -80,7 +85,7 @@ def few_batches(_count):
 
 def removals(count):
     """A batch that removes so many root prims, one operation each, in an order that jumps."""
-    return "begin\n" + "".join(f"remove @root.usda@ /p{i * 7919 % count}\n" for i in range(count)) + "commit\n"
+    return "begin\n" + "".join(f"remove @root.usda@ /s{i * 7919 % count}\n" for i in range(count)) + "commit\n"
 
 
 def empty(count):
@@ -101,7 +106,7 @@ def large_stage(_size):
 
 
 def root_prims_with_values(count):
-    return {"root": "".join(f'def "p{i}" {{ int b = 0 }}\n' for i in range(count))}
+    return {"root": "".join(f'def "s{i}" {{ int b = 0 }}\n' for i in range(count))}
 
 
 def named(count):
@@ -110,7 +115,7 @@ def named(count):
 
 
 def root_prims(count):
-    return {"root": "".join(f'def "p{i}" {{}}\n' for i in range(count))}
+    return {"root": "".join(f'def "s{i}" {{}}\n' for i in range(count))}
 
 
 CASES = [
