@@ -4,20 +4,21 @@ A script that needs the built program alone has a list of cases, CASES, and call
 calls, TABLE, and what runs them in a scratch repository, `run`, and calls `calls`. `all.py` runs both kinds.
 
 The program that makes the calls of a script is no crate of the repository, since nothing else needs it. So the script writes a scratch
-repository with copies of the crates and of what was built of them, and the program, and lets `rt run` prove and build it (as long as its
-crates take, the first time), and then runs what was built. With --in the scratch repository stays in FOLDER, and the next run proves
-nothing again.
+repository with copies of the crates and the program, has `rt ci` prove and build it, which takes what it passed before as it is, and then
+runs what was built. With --in the scratch repository stays in FOLDER.
 """
 import argparse
 import json
 import os
-import shutil
 import subprocess
 import sys
 import tempfile
 
 TOP = os.path.dirname(os.path.dirname(os.path.abspath(__file__)))
-PROGRAM = os.path.join(TOP, "crates", "usdstage", "out", "usdstage")
+sys.path.insert(0, os.path.join(TOP, "tools"))
+import scratch_repository as scratch  # of the folder that was added
+
+PROGRAM = scratch.program_in(TOP, "usdstage")
 FIRST = "#usda 1.0\n"
 
 # Layers
@@ -207,35 +208,20 @@ def main(cases, scripts=()):
 # Scratch repositories
 
 
-def crates_below(names, lines):
-    """These crates and all that they stand on, by the lines of crates.txt."""
-    below = {line.split(":")[0].strip(): line.split(":")[1].split() for line in lines if ":" in line and not line.startswith("#")}
-    found, left = [], list(names)
-    while left:
-        name = left.pop()
-        if name in below and name not in found:
-            found.append(name)
-            left += below[name]
-    return found
-
-
 def build(folder, name, uses, text):
-    """Writes a scratch repository of the crates that a program uses and those below them, with what was built of them, so that what is
-    proved is not proved again; lets `rt run` prove and build the program, and gives its path."""
-    with open(os.path.join(TOP, "crates.txt")) as f:
-        lines = f.readlines()
-    libraries = crates_below(uses, lines)
-    for crate in libraries:
-        shutil.copytree(os.path.join(TOP, "crates", crate), os.path.join(folder, "crates", crate), dirs_exist_ok=True,
-                        ignore=shutil.ignore_patterns("incremental", "must-fail"))
-    with open(os.path.join(folder, "crates.txt"), "w") as f:
-        f.writelines([line for line in lines if line.split(":")[0].strip() in libraries] + [f"{name}: {' '.join(uses)}\n"])
+    """Writes a scratch repository of the crates that a program uses, those below them and the program, has it proved and built, and gives
+    the program's path."""
+    scratch.write(folder, uses, [f"{name}: {' '.join(uses)}\n"])
     crate = os.path.join(folder, "crates", name)
     os.makedirs(os.path.join(crate, "src"), exist_ok=True)
     with open(os.path.join(crate, "src", "main.rt"), "w") as f:
         f.write(text)
-    subprocess.run(["rt", "run"], cwd=crate, check=True, stdout=subprocess.DEVNULL)
-    return os.path.join(crate, "out", name)
+    subprocess.run(["rt", "fmt"], cwd=crate, check=True, stdout=subprocess.DEVNULL)
+    with open(os.path.join(folder, "build.log"), "w+") as log:
+        if not scratch.prove(folder, log):
+            log.seek(0)
+            sys.exit("".join(log.readlines()[-20:]) + "the program that makes the calls was not built")
+    return scratch.program_in(folder, name)
 
 
 # Parts of programs that make calls

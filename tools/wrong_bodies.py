@@ -3,41 +3,33 @@
 
     python3 tools/wrong_bodies.py NAME ..
 
-It works on a copy of the repository in a temporary folder, where they stand among the crate's must-fail edits, and runs
-`rt must-fail` there. The libraries below a crate are built first, so a crate high up takes an hour; name several at once.
+It works in a scratch repository of these crates and those below them, where the wrong bodies stand as must-fail edits. What `rt ci`
+passed before of these crates is taken as it is, and the rest is proved first.
 """
 import os
 import shutil
-import subprocess
 import sys
 import tempfile
 
-TOP = os.path.dirname(os.path.dirname(os.path.abspath(__file__)))
+import scratch_repository as scratch
 
-
-def copied(folder):
-    """Copies the files that git knows."""
-    listed = subprocess.run(["git", "ls-files", "-z"], cwd=TOP, stdout=subprocess.PIPE, check=True).stdout
-    for name in listed.decode().split("\0"):
-        if name and os.path.isfile(os.path.join(TOP, name)):
-            to = os.path.join(folder, name)
-            os.makedirs(os.path.dirname(to), exist_ok=True)
-            shutil.copyfile(os.path.join(TOP, name), to)
+BODIES = os.path.join(scratch.TOP, "wrong_bodies")
 
 
 def main(names):
-    known = sorted(os.listdir(os.path.join(TOP, "wrong_bodies")))
+    known = sorted(os.listdir(BODIES))
     strange = [name for name in names if name not in known]
     if not names or strange:
         print(f"crates with wrong bodies outside the gate: {' '.join(known)}")
         return 2
-    with tempfile.TemporaryDirectory() as folder:
-        copied(folder)
-        subprocess.run(["git", "init", "-q"], cwd=folder, check=True)
+    with tempfile.TemporaryDirectory(prefix="usdstage-") as folder:
+        scratch.write(folder, names)
         for name in names:
             to = os.path.join(folder, "crates", name, "must-fail")
-            shutil.copytree(os.path.join(folder, "wrong_bodies", name), to, dirs_exist_ok=True)
-        return subprocess.run(["rt", "must-fail", *names], cwd=folder).returncode
+            for edits in (os.path.join(BODIES, name), os.path.join(scratch.TOP, "crates", name, "must-fail")):
+                if os.path.isdir(edits):
+                    shutil.copytree(edits, to, dirs_exist_ok=True)
+        return 0 if scratch.prove(folder) else 1
 
 
 if __name__ == "__main__":
