@@ -38,6 +38,8 @@ def write(folder, names, more=()):
     with open(os.path.join(folder, "crates.txt"), "w", encoding="utf-8") as file:
         file.writelines([lines[crate] for crate in crates] + list(more))
     shutil.copyfile(os.path.join(TOP, "HANDLES"), os.path.join(folder, "HANDLES"))
+    # it is the top of a repository, wherever it lies
+    os.makedirs(os.path.join(folder, ".git"), exist_ok=True)
 
 
 def prove(folder, log=None):
