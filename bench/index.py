@@ -90,6 +90,11 @@ def unchosen(count):
     return {"root": f'def "A" (variants = {{ {choices} }} variantSets = {names}) {{}}\n'}
 
 
+def inside(count):
+    """A prim with so many variant sets, each in the one variant of the one above it."""
+    return {"root": 'def "A" {' + 'variantSet "s" = { "x" {' * count + "}}" * count + "}\n"}
+
+
 def deep(depth):
     return {"root": nested(depth)}
 
@@ -111,6 +116,7 @@ CASES = [
     Case("sets", "variant sets, one a round", (7, 30), sets, no_lines),
     Case("chosen", "variant sets, all chosen at once", (500, 2_000), chosen, no_lines),
     Case("unchosen", "variant sets, each the empty variant", (4_000, 16_000, 64_000), unchosen, no_lines),
+    Case("inside", "variant sets, each in a variant of the one above", (200, 800), inside, no_lines),
     Case("nested", "nested prims, opened", (16, 32, 63), deep, no_lines),
     Case("below", "nested prims below a reference", (16, 32, 63), below_reference, no_lines),
 ]
