@@ -5,6 +5,7 @@ use sdf_paths::{Path, PathFault};
 use sdf_specs::{Head, Layer, PutRefused, Spec, Specifier};
 use shared_tables::SharedTable;
 use std::alloc::Global;
+use std::mem;
 use std::test::Fail;
 
 fn path(alloc: Global, text: &str) -> Result<Path, Fail> {
@@ -33,7 +34,11 @@ fn is_blank(layer: &Layer, head: &Head) -> bool {
 
 #[test]
 fn a_new_layer_has_no_spec(rt: HostRuntime) -> Result<(), Fail> {
-    let is_new = is_blank(&Layer::new(rt.alloc()), &Head::blank(rt.alloc()));
+    let layer = Layer::new(rt.alloc());
+    let head = Head::blank(rt.alloc());
+    let is_new = is_blank(&layer, &head);
+    drop(layer);
+    drop(head);
     assert!(rt; is_new);
     Ok(())
 }
@@ -50,7 +55,10 @@ fn is_found(alloc: Global, layer: &mut Layer, place: &Path) -> Result<bool, Fail
 fn is_found_in_a_new_layer(alloc: Global, text: &str) -> Result<bool, Fail> {
     let place = path(alloc, text)?;
     let mut layer = Layer::new(alloc);
-    is_found(alloc, &mut layer, &place)
+    let answer = is_found(alloc, &mut layer, &place);
+    drop(layer);
+    drop(place);
+    answer
 }
 
 #[test]
@@ -67,7 +75,10 @@ fn is_left_empty(alloc: Global, layer: &mut Layer, place: &Path) -> Result<bool,
 fn has_no_owner_in_a_new_layer(alloc: Global, text: &str) -> Result<bool, Fail> {
     let place = path(alloc, text)?;
     let mut layer = Layer::new(alloc);
-    is_left_empty(alloc, &mut layer, &place)
+    let answer = is_left_empty(alloc, &mut layer, &place);
+    drop(layer);
+    drop(place);
+    answer
 }
 
 #[test]
@@ -78,7 +89,9 @@ fn an_owner_has_to_be_there(rt: HostRuntime) -> Result<(), Fail> {
 
 fn put_at(alloc: Global, layer: &mut Layer, text: &str) -> Result<(), Fail> {
     let place = path(alloc, text)?;
-    if put(layer, &place, alloc)? {
+    let is_put = put(layer, &place, alloc);
+    drop(place);
+    if is_put? {
         Ok(())
     } else {
         Err(Fail::from("no owner"))
@@ -88,8 +101,13 @@ fn put_at(alloc: Global, layer: &mut Layer, text: &str) -> Result<(), Fail> {
 /// A layer of `/A`, `/A/B` and `/AB`.
 fn three(alloc: Global) -> Result<Layer, Fail> {
     let mut layer = Layer::new(alloc);
-    put_three(alloc, &mut layer)?;
-    Ok(layer)
+    match put_three(alloc, &mut layer) {
+        Ok(()) => Ok(layer),
+        Err(fail) => {
+            drop(layer);
+            Err(fail)
+        }
+    }
 }
 
 fn put_three(alloc: Global, layer: &mut Layer) -> Result<(), Fail> {
@@ -108,15 +126,25 @@ fn is_removed(layer: &mut Layer, place: &Path, other: &Path) -> Result<bool, Fai
     )
 }
 
+fn is_removed_beside(alloc: Global, layer: &mut Layer, place: &Path) -> Result<bool, Fail> {
+    let other = path(alloc, "/AB")?;
+    let answer = is_removed(layer, place, &other);
+    drop(other);
+    answer
+}
+
 fn is_removed_of(alloc: Global, layer: &mut Layer) -> Result<bool, Fail> {
     let place = path(alloc, "/A")?;
-    let other = path(alloc, "/AB")?;
-    is_removed(layer, &place, &other)
+    let answer = is_removed_beside(alloc, layer, &place);
+    drop(place);
+    answer
 }
 
 fn is_removed_of_three(alloc: Global) -> Result<bool, Fail> {
     let mut layer = three(alloc)?;
-    is_removed_of(alloc, &mut layer)
+    let answer = is_removed_of(alloc, &mut layer);
+    drop(layer);
+    answer
 }
 
 #[test]
@@ -129,7 +157,7 @@ fn a_tree_is_removed(rt: HostRuntime) -> Result<(), Fail> {
 fn naming(alloc: Global) -> Result<Head, Fail> {
     let name = Text::of(alloc, "A")?;
     let mut head = Head::blank(alloc);
-    head.default_prim = Some(name);
+    drop(mem::replace(&mut head.default_prim, Some(name)));
     Ok(head)
 }
 
@@ -140,7 +168,9 @@ fn is_set(layer: &mut Layer, head: &Head) -> Result<bool, Fail> {
 
 fn is_replaced(layer: &mut Layer, head: &Head, blank: Head) -> bool {
     let before = layer.replace_head(blank);
-    same(&before, head) && layer.head().default_prim.is_none()
+    let is_same = same(&before, head);
+    drop(before);
+    is_same && layer.head().default_prim.is_none()
 }
 
 fn is_set_and_replaced(alloc: Global, layer: &mut Layer, head: &Head) -> Result<bool, Fail> {
@@ -150,7 +180,10 @@ fn is_set_and_replaced(alloc: Global, layer: &mut Layer, head: &Head) -> Result<
 fn head_changes(alloc: Global) -> Result<bool, Fail> {
     let head = naming(alloc)?;
     let mut layer = Layer::new(alloc);
-    is_set_and_replaced(alloc, &mut layer, &head)
+    let answer = is_set_and_replaced(alloc, &mut layer, &head);
+    drop(layer);
+    drop(head);
+    answer
 }
 
 #[test]
@@ -161,13 +194,19 @@ fn the_head_changes_alone(rt: HostRuntime) -> Result<(), Fail> {
 
 fn is_copied(layer: &Layer, new: &Layer) -> Result<bool, Fail> {
     let again = copy(layer)?;
-    Ok(same(layer, &again) && !same(layer, new))
+    let is_same = same(layer, &again);
+    drop(again);
+    Ok(is_same && !same(layer, new))
 }
 
 fn layer_is_copied(alloc: Global) -> Result<bool, Fail> {
     let head = naming(alloc)?;
     let layer = Layer::from_parts(alloc, head, SharedTable::new(alloc));
-    is_copied(&layer, &Layer::new(alloc))
+    let new = Layer::new(alloc);
+    let answer = is_copied(&layer, &new);
+    drop(layer);
+    drop(new);
+    answer
 }
 
 #[test]

@@ -6,6 +6,7 @@ use spec_parts::{
     ArcPart, BodyPart, Head, RefItem, Refusal, RefusalKind, Spec, Specifier, SubLayer, VariantSet,
 };
 use std::alloc::Global;
+use std::mem;
 use std::test::Fail;
 
 fn sublayer(alloc: Global) -> Result<SubLayer, Fail> {
@@ -22,18 +23,29 @@ fn sublayer(alloc: Global) -> Result<SubLayer, Fail> {
 fn layered_head(alloc: Global) -> Result<Head, Fail> {
     let low = sublayer(alloc)?;
     let mut head = Head::blank(alloc);
-    head.sublayers.push(low)?;
-    Ok(head)
+    match head.sublayers.push(low) {
+        Ok(()) => Ok(head),
+        Err(fault) => {
+            drop(head);
+            Err(fault.into())
+        }
+    }
 }
 
 fn is_copied(head: &Head, blank: &Head) -> Result<bool, Fail> {
     let again = copy(head)?;
-    Ok(same(head, &again) && !same(head, blank))
+    let is_same = same(head, &again);
+    drop(again);
+    Ok(is_same && !same(head, blank))
 }
 
 fn head_is_copied(alloc: Global) -> Result<bool, Fail> {
     let head = layered_head(alloc)?;
-    is_copied(&head, &Head::blank(alloc))
+    let blank = Head::blank(alloc);
+    let answer = is_copied(&head, &blank);
+    drop(head);
+    drop(blank);
+    answer
 }
 
 #[test]
@@ -68,7 +80,8 @@ fn sizes(alloc: Global) -> Result<VariantSet, Fail> {
 
 /// Gives a prim a reference and a variant set.
 fn refer(alloc: Global, arcs: &mut ArcPart, body: &mut BodyPart) -> Result<(), Fail> {
-    arcs.references.explicit = Some(references(alloc)?);
+    let references = references(alloc)?;
+    drop(mem::replace(&mut arcs.references.explicit, Some(references)));
     body.variant_names.push(sizes(alloc)?)?;
     Ok(())
 }
@@ -76,7 +89,7 @@ fn refer(alloc: Global, arcs: &mut ArcPart, body: &mut BodyPart) -> Result<(), F
 /// Whether a prim is its copy, until it has no reference any more.
 fn is_until_changed(spec: &mut Spec, copied: &Spec) -> bool {
     let was_same = same(spec, copied);
-    spec.arcs.references.explicit = None;
+    drop(mem::replace(&mut spec.arcs.references.explicit, None));
     was_same && !same(spec, copied)
 }
 

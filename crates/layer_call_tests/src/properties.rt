@@ -51,7 +51,9 @@ fn are_new(alloc: Global, properties: &mut Properties) -> Result<bool, Fail> {
 
 fn names_are_new(alloc: Global) -> Result<bool, Fail> {
     let mut properties = Properties::new(alloc);
-    are_new(alloc, &mut properties)
+    let answer = are_new(alloc, &mut properties);
+    drop(properties);
+    answer
 }
 
 #[test]
@@ -63,18 +65,27 @@ fn new_names_are_put(rt: HostRuntime) -> Result<(), Fail> {
 /// The attributes `size` and `kind`.
 fn two(alloc: Global) -> Result<Properties, Fail> {
     let mut properties = Properties::new(alloc);
-    let _are_new = are_new(alloc, &mut properties)?;
-    Ok(properties)
+    match are_new(alloc, &mut properties) {
+        Ok(_are_new) => Ok(properties),
+        Err(fail) => {
+            drop(properties);
+            Err(fail)
+        }
+    }
 }
 
 fn is_copied(properties: &Properties) -> Result<bool, Fail> {
     let again = copy(properties)?;
-    Ok(same(properties, &again))
+    let is_same = same(properties, &again);
+    drop(again);
+    Ok(is_same)
 }
 
 fn two_are_copied(alloc: Global) -> Result<bool, Fail> {
     let properties = two(alloc)?;
-    is_copied(&properties)
+    let answer = is_copied(&properties);
+    drop(properties);
+    answer
 }
 
 #[test]
@@ -108,12 +119,16 @@ fn stands_once(
 
 fn of_two_stands_once(alloc: Global, properties: &mut Properties) -> Result<bool, Fail> {
     let before = copy(properties)?;
-    stands_once(alloc, properties, &before)
+    let answer = stands_once(alloc, properties, &before);
+    drop(before);
+    answer
 }
 
 fn name_stands_once(alloc: Global) -> Result<bool, Fail> {
     let mut properties = two(alloc)?;
-    of_two_stands_once(alloc, &mut properties)
+    let answer = of_two_stands_once(alloc, &mut properties);
+    drop(properties);
+    answer
 }
 
 #[test]
@@ -125,8 +140,13 @@ fn a_name_stands_once(rt: HostRuntime) -> Result<(), Fail> {
 /// The attributes `size`, which is a custom one, and `kind`.
 fn customized(alloc: Global) -> Result<Properties, Fail> {
     let mut properties = two(alloc)?;
-    let _is_customized = is_customized(alloc, &mut properties)?;
-    Ok(properties)
+    match is_customized(alloc, &mut properties) {
+        Ok(_is_customized) => Ok(properties),
+        Err(fail) => {
+            drop(properties);
+            Err(fail)
+        }
+    }
 }
 
 fn are_in_order(properties: &Properties, size: &Text, first: &Property) -> bool {
@@ -147,7 +167,9 @@ fn keep_order(alloc: Global, properties: &Properties) -> Result<bool, Fail> {
 
 fn customized_keep_order(alloc: Global) -> Result<bool, Fail> {
     let properties = customized(alloc)?;
-    keep_order(alloc, &properties)
+    let answer = keep_order(alloc, &properties);
+    drop(properties);
+    answer
 }
 
 #[test]
@@ -167,7 +189,9 @@ fn are_found(alloc: Global, properties: &Properties) -> Result<bool, Fail> {
 
 fn customized_are_found(alloc: Global) -> Result<bool, Fail> {
     let properties = customized(alloc)?;
-    are_found(alloc, &properties)
+    let answer = are_found(alloc, &properties);
+    drop(properties);
+    answer
 }
 
 #[test]
@@ -210,7 +234,9 @@ fn is_removed_once(alloc: Global, properties: &mut Properties) -> Result<bool, F
 
 fn size_is_removed_once(alloc: Global) -> Result<bool, Fail> {
     let mut properties = customized(alloc)?;
-    is_removed_once(alloc, &mut properties)
+    let answer = is_removed_once(alloc, &mut properties);
+    drop(properties);
+    answer
 }
 
 #[test]
@@ -219,28 +245,83 @@ fn a_property_is_removed_once(rt: HostRuntime) -> Result<(), Fail> {
     Ok(())
 }
 
+/// Whether a property of a name is taken out, this one stands in its place, and comes out where it is put back.
+fn is_put_back(properties: &mut Properties, name: &Text, blank: &Property) -> Result<bool, Fail> {
+    let Some(taken) = properties.take(name)? else {
+        return Ok(false);
+    };
+    let stands_there = properties.at(0) == Some(blank);
+    let stood = properties.replace(taken);
+    let comes_out = match &stood {
+        Ok(stood) => stood == blank,
+        Err(_stranger) => false,
+    };
+    drop(stood);
+    Ok(stands_there && comes_out)
+}
+
+/// Whether a blank relationship stands in the place of `size` while that is taken out.
+fn size_is_put_back(alloc: Global, properties: &mut Properties) -> Result<bool, Fail> {
+    let size = Text::of(alloc, "size")?;
+    let blank = Property::blank_relationship(alloc, copy(&size)?);
+    let is_named = blank.name() == &size;
+    let answer = is_put_back(properties, &size, &blank);
+    drop(blank);
+    let comes_back = answer?;
+    Ok(is_named && comes_back)
+}
+
+/// Whether nothing is taken of a name that no property has.
+fn no_other_is_taken(alloc: Global, properties: &mut Properties) -> Result<bool, Fail> {
+    let other = Text::of(alloc, "other")?;
+    let taken = properties.take(&other)?;
+    let is_none = taken.is_none();
+    drop(taken);
+    Ok(is_none)
+}
+
+/// Whether an attribute is given back that has the name of no property.
+fn stranger_is_given_back(alloc: Global, properties: &mut Properties) -> Result<bool, Fail> {
+    let answer = properties.replace(attribute(alloc, "other", false)?);
+    let is_given_back = match &answer {
+        Ok(_stood) => Ok(false),
+        Err(stranger) => is_attribute(alloc, Some(stranger), "other", false),
+    };
+    drop(answer);
+    is_given_back
+}
+
+fn stay_as_they_were(
+    alloc: Global,
+    properties: &mut Properties,
+    before: &Properties,
+) -> Result<bool, Fail> {
+    Ok(
+        size_is_put_back(alloc, properties)?
+            && same(properties, before)
+            && no_other_is_taken(alloc, properties)?
+            && stranger_is_given_back(alloc, properties)?
+            && same(properties, before),
+    )
+}
+
+fn of_two_stay_as_they_were(alloc: Global, properties: &mut Properties) -> Result<bool, Fail> {
+    let before = copy(properties)?;
+    let answer = stay_as_they_were(alloc, properties, &before);
+    drop(before);
+    answer
+}
+
+fn two_stay_as_they_were(alloc: Global) -> Result<bool, Fail> {
+    let mut properties = two(alloc)?;
+    let answer = of_two_stay_as_they_were(alloc, &mut properties);
+    drop(properties);
+    answer
+}
+
 #[test]
 fn a_property_is_taken_out_and_put_back_in_its_place(rt: HostRuntime) -> Result<(), Fail> {
-    let alloc = rt.alloc();
-    let (size, other) = (Text::of(alloc, "size")?, Text::of(alloc, "other")?);
-    let mut properties = two(alloc)?;
-    let before = copy(&properties)?;
-    let Some(taken) = properties.take(&size)? else {
-        return Err(Fail::new("the property is there"));
-    };
-    let blank = Property::blank_relationship(alloc, copy(&size)?);
-    assert!(rt;
-        blank.name() == &size
-            && properties.at(0) == Some(&blank)
-            && properties.replace(taken) == Ok(blank)
-            && same(&properties, &before)
-            && properties.take(&other)?.is_none()
-    );
-    let stranger = attribute(alloc, "other", false)?;
-    assert!(rt;
-        properties.replace(stranger) == Err(attribute(alloc, "other", false)?)
-            && same(&properties, &before)
-    );
+    assert!(rt; two_stay_as_they_were(rt.alloc())?);
     Ok(())
 }
 
@@ -250,14 +331,19 @@ fn the_small_tables_begin_empty(rt: HostRuntime) -> Result<(), Fail> {
     Ok(())
 }
 
+/// Whether a selection that is made was none before, and is found.
+fn is_selected(alloc: Global, selections: &mut Selections) -> Result<bool, Fail> {
+    let size = Text::of(alloc, "size")?;
+    let big = Text::of(alloc, "big")?;
+    let before = selections.insert(copy(&size)?, copy(&big)?)?;
+    Ok(before.is_none() && selections.get(&size) == Some(&big))
+}
+
 #[test]
 fn a_selection_is_found(rt: HostRuntime) -> Result<(), Fail> {
     let mut selections = Selections::new(rt.alloc());
-    let size = Text::of(rt.alloc(), "size")?;
-    let big = Text::of(rt.alloc(), "big")?;
-    assert!(rt;
-        selections.insert(copy(&size)?, copy(&big)?)?.is_none()
-            && selections.get(&size) == Some(&big)
-    );
+    let answer = is_selected(rt.alloc(), &mut selections);
+    drop(selections);
+    assert!(rt; answer?);
     Ok(())
 }

@@ -82,6 +82,35 @@ fn push_all(
     Ok(push_fields(out, &printed)?)
 }
 
+/// Appends the lines of the fields at sites and of these names.
+fn push_fields_of(
+    alloc: Global,
+    out: &mut String,
+    world: &World,
+    sites: &[Site],
+    children: &[Text],
+    properties: &[Text],
+) -> Result<(), CallFault> {
+    let fields = prim_fields(alloc, world, sites)?;
+    let told = push_all(out, &fields, children, properties);
+    drop(fields);
+    told
+}
+
+/// Appends the lines of the fields at sites, of the properties there, and of these children.
+fn push_fields_above(
+    alloc: Global,
+    out: &mut String,
+    world: &World,
+    sites: &[Site],
+    children: &[Text],
+) -> Result<(), CallFault> {
+    let properties = property_names(alloc, world, sites)?;
+    let told = push_fields_of(alloc, out, world, sites, children, properties.as_slice());
+    drop(properties);
+    told
+}
+
 /// Appends the lines of the fields at sites.
 fn push_fields_at(
     alloc: Global,
@@ -90,10 +119,8 @@ fn push_fields_at(
     sites: &[Site],
 ) -> Result<(), CallFault> {
     let children = child_names(alloc, world, sites)?;
-    let properties = property_names(alloc, world, sites)?;
-    let fields = prim_fields(alloc, world, sites)?;
-    let told = push_all(out, &fields, children.as_slice(), properties.as_slice());
-    drop(fields);
+    let told = push_fields_above(alloc, out, world, sites, children.as_slice());
+    drop(children);
     told
 }
 

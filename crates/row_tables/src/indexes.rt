@@ -15,7 +15,9 @@ use std::fmt::Write;
 /// The index of the prim that a word is the path of.
 pub(crate) fn index_of(alloc: Global, world: &World, word: &str) -> Result<PrimIndex, CallFault> {
     let path = path_of(alloc, word)?;
-    Ok(index(alloc, world, &path)?)
+    let found = index(alloc, world, &path);
+    drop(path);
+    Ok(found?)
 }
 
 /// Appends all that an index tells.

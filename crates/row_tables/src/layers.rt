@@ -4,9 +4,35 @@ use crate::fault::CallFault;
 use crate::printing::push_held;
 use crate::stages::push_bytes;
 use crate::words::{layer_name, path_of};
+use asset_names::AssetId;
 use layer_set::{Held, World};
+use sdf_specs::Layer;
 use std::alloc::{AllocError, Global};
 use usda_writer::write_layer;
+
+/// Appends the canonical text of a layer.
+fn push_written(alloc: Global, out: &mut String, layer: &Layer) -> Result<(), CallFault> {
+    let text = write_layer(alloc, layer)?;
+    let told = push_bytes(alloc, out, text.as_slice());
+    drop(text);
+    Ok(told?)
+}
+
+/// Appends the canonical text of the layer of a name, or what stands there in its place.
+fn push_named(
+    alloc: Global,
+    out: &mut String,
+    world: &World,
+    name: &AssetId,
+) -> Result<(), CallFault> {
+    if !world.has(name) {
+        return Ok(out.push_str("no name\n")?);
+    }
+    match world.held(name) {
+        Held::Present(layer) => push_written(alloc, out, layer),
+        held => Ok(push_held(out, held)?),
+    }
+}
 
 /// `layer NAME`: the canonical text of the layer, or what stands there in its place.
 pub(crate) fn push_layer_call(
@@ -16,18 +42,9 @@ pub(crate) fn push_layer_call(
     words: &str,
 ) -> Result<(), CallFault> {
     let name = layer_name(alloc, words)?;
-    if !world.has(&name) {
-        out.push_str("no name\n")?;
-        return Ok(());
-    }
-    match world.held(&name) {
-        Held::Present(layer) => {
-            let text = write_layer(alloc, layer)?;
-            push_bytes(alloc, out, text.as_slice())?;
-        }
-        held => push_held(out, held)?,
-    }
-    Ok(())
+    let told = push_named(alloc, out, world, &name);
+    drop(name);
+    told
 }
 
 /// `names`: the names of the world.

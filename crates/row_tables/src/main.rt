@@ -21,7 +21,7 @@ mod words;
 
 use io_edges::{Fetched, FolderFiles, LayerFiles};
 use run::{Count, run_table};
-use std::alloc::AllocError;
+use std::alloc::{AllocError, Global};
 use std::io;
 use table::read_table;
 
@@ -42,17 +42,26 @@ static TABLES: [&str; 13] = [
     "opening.rows",
 ];
 
-/// The text of a file, if there is one.
-fn text_of(rt: &HostRuntime, name: &str) -> Result<Option<String>, AllocError> {
-    let alloc = rt.alloc();
-    let mut bytes = Vec::new(alloc);
-    let mut files = FolderFiles::new(rt.clone()?);
-    match files.fetch(name, &mut bytes) {
-        Fetched::Found => Ok(Some(String::from_utf8_lossy(alloc, bytes.as_slice())?)),
+/// The text of bytes that were fetched, if there were some.
+fn text_from(alloc: Global, fetched: Fetched, bytes: &[u8]) -> Result<Option<String>, AllocError> {
+    match fetched {
+        Fetched::Found => Ok(Some(String::from_utf8_lossy(alloc, bytes)?)),
         Fetched::Absent => Ok(None),
         Fetched::Failed => Ok(Some(String::from_str(alloc, "this table could not be read")?)),
         Fetched::NoMemory => Err(AllocError),
     }
+}
+
+/// The text of a file, if there is one.
+fn text_of(rt: &HostRuntime, name: &str) -> Result<Option<String>, AllocError> {
+    let alloc = rt.alloc();
+    let mut files = FolderFiles::new(rt.clone()?);
+    let mut bytes = Vec::new(alloc);
+    let fetched = files.fetch(name, &mut bytes);
+    drop(files);
+    let text = text_from(alloc, fetched, bytes.as_slice());
+    drop(bytes);
+    text
 }
 
 /// Makes the calls of a table, and prints what comes of them.

@@ -1,5 +1,8 @@
 //! Calls on layer stacks, and on what their layers author at a path.
 
+ghost use Rattle.arc_expand.specs.Authoring.{IsStackOf};
+ghost use Rattle.layer_set.specs.LookUps.{look_ups};
+
 use crate::fault::CallFault;
 use crate::printing::{push_choices, push_faults, push_offset, push_stack, push_target};
 use crate::words::{first_word, kind_of, path_of, stack_name};
@@ -9,6 +12,7 @@ use arc_expand::{
 use asset_names::AssetId;
 use layer_set::{Key, World};
 use layer_stack::{LayerStack, stack};
+use path_maps::ArcKind;
 use plain_data::{Items, Text};
 use prim_view::StackName;
 use sdf_paths::Path;
@@ -126,7 +130,27 @@ fn push_arc(out: &mut String, arc: &ArcItem) -> Result<(), AllocError> {
 fn place_of(alloc: Global, words: &str) -> Result<(StackName, Path), CallFault> {
     let (name, path) = first_word(words);
     let name = stack_name(alloc, name)?;
-    Ok((name, path_of(alloc, path)?))
+    match path_of(alloc, path) {
+        Ok(path) => Ok((name, path)),
+        Err(fault) => {
+            drop(name);
+            Err(fault)
+        }
+    }
+}
+
+/// The arcs of a kind, of a stack and a path.
+fn arcs_there(
+    alloc: Global,
+    world: &World,
+    name: &StackName,
+    path: &Path,
+    kind: ArcKind,
+) -> Result<ArcsHere, CallFault> {
+    let stack = stack_of(alloc, world, name)?;
+    let here = arcs_at(alloc, world, &stack, path, kind);
+    drop(stack);
+    Ok(here?)
 }
 
 /// The arcs of a kind, of a stack and a path, that words tell.
@@ -134,8 +158,10 @@ fn arcs_of(alloc: Global, world: &World, words: &str) -> Result<ArcsHere, CallFa
     let (kind, words) = first_word(words);
     let kind = kind_of(kind)?;
     let (name, path) = place_of(alloc, words)?;
-    let stack = stack_of(alloc, world, &name)?;
-    Ok(arcs_at(alloc, world, &stack, &path, kind)?)
+    let here = arcs_there(alloc, world, &name, &path, kind);
+    drop(name);
+    drop(path);
+    here
 }
 
 /// Appends arcs, and the faults of items that are none.
@@ -180,18 +206,50 @@ struct Authored {
     has_spec: bool,
 }
 
-/// What the layers author of the stack and at the path that words tell.
+/// What the layers of a stack author at a path.
+fn authored_at(
+    alloc: Global,
+    world: &World,
+    stack: &LayerStack,
+    path: &Path,
+) -> Result<Authored, CallFault>
+    requires { IsStackOf (look_ups world.now) stack.now }
+{
+    let has_spec = has_spec_at(alloc, world, stack, path)?;
+    let sets = variant_sets_at(alloc, world, stack, path)?;
+    match selections_at(alloc, world, stack, path) {
+        Ok(selections) => Ok(Authored {
+            sets,
+            selections,
+            has_spec,
+        }),
+        Err(fault) => {
+            drop(sets);
+            Err(fault.into())
+        }
+    }
+}
+
+/// The same of the stack of a name.
+fn authored_in(
+    alloc: Global,
+    world: &World,
+    name: &StackName,
+    path: &Path,
+) -> Result<Authored, CallFault> {
+    let stack = stack_of(alloc, world, name)?;
+    let found = authored_at(alloc, world, &stack, path);
+    drop(stack);
+    found
+}
+
+/// The same of the stack and the path that words tell.
 fn authored_by_words(alloc: Global, world: &World, words: &str) -> Result<Authored, CallFault> {
     let (name, path) = place_of(alloc, words)?;
-    let stack = stack_of(alloc, world, &name)?;
-    let has_spec = has_spec_at(alloc, world, &stack, &path)?;
-    let sets = variant_sets_at(alloc, world, &stack, &path)?;
-    let selections = selections_at(alloc, world, &stack, &path)?;
-    Ok(Authored {
-        sets,
-        selections,
-        has_spec,
-    })
+    let found = authored_in(alloc, world, &name, &path);
+    drop(name);
+    drop(path);
+    found
 }
 
 /// Appends a line for each variant set.

@@ -245,25 +245,31 @@ impl Draft {
     }
 }
 
+/// A table without a line.
+fn empty_table(alloc: Global) -> Table {
+    Table {
+        cases: Vec::new(alloc),
+        strange: Vec::new(alloc),
+    }
+}
+
 /// The table of a text.
 pub(crate) fn read_table(alloc: Global, text: &str) -> Result<Table, AllocError> {
     let mut draft = Draft {
         alloc,
-        table: Table {
-            cases: Vec::new(alloc),
-            strange: Vec::new(alloc),
-        },
+        table: empty_table(alloc),
         case: empty_case(alloc),
         file: None,
         row: None,
     };
-    draft.take_all(text)?;
-    let Draft {
-        alloc: _,
-        table,
-        case: _,
-        file: _,
-        row: _,
-    } = draft;
-    Ok(table)
+    let taken = draft.take_all(text);
+    let table = mem::replace(&mut draft.table, empty_table(alloc));
+    drop(draft);
+    match taken {
+        Ok(()) => Ok(table),
+        Err(fault) => {
+            drop(table);
+            Err(fault)
+        }
+    }
 }

@@ -31,8 +31,15 @@ struct Asked {
 /// The property that a word is the path of.
 fn asked_of(alloc: Global, world: &World, word: &str) -> Result<Asked, CallFault> {
     let (prim, name) = property_of(alloc, word)?;
-    let found = index(alloc, world, &prim)?;
-    Ok(Asked { found, name })
+    let found = index(alloc, world, &prim);
+    drop(prim);
+    match found {
+        Ok(found) => Ok(Asked { found, name }),
+        Err(fault) => {
+            drop(name);
+            Err(fault.into())
+        }
+    }
 }
 
 /// Appends what is resolved of an attribute.

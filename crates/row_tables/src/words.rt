@@ -22,15 +22,27 @@ pub(crate) fn path_of(alloc: Global, word: &str) -> Result<Path, CallFault> {
     }
 }
 
-/// The prim and the name of the property that a word is the path of.
-pub(crate) fn property_of(alloc: Global, word: &str) -> Result<(Path, Text), CallFault> {
-    let path = path_of(alloc, word)?;
+/// The prim and the name of the property that a path is of.
+fn property_at(alloc: Global, path: &Path) -> Result<(Path, Text), CallFault> {
     if !path.is_property() {
         return Err(CallFault::Bad);
     }
-    let prim = path.owner()?;
     let name = Text::of(alloc, path.last().unwrap_or(""))?;
-    Ok((prim, name))
+    match path.owner() {
+        Ok(prim) => Ok((prim, name)),
+        Err(fault) => {
+            drop(name);
+            Err(fault.into())
+        }
+    }
+}
+
+/// The prim and the name of the property that a word is the path of.
+pub(crate) fn property_of(alloc: Global, word: &str) -> Result<(Path, Text), CallFault> {
+    let path = path_of(alloc, word)?;
+    let found = property_at(alloc, &path);
+    drop(path);
+    found
 }
 
 /// The name of a layer that a word is.

@@ -60,20 +60,41 @@ fn at(text: &str) -> Result<TimeCode, Fail> {
     Ok(TimeCode::of(Decimal::parse(text)?)?)
 }
 
-fn paths(alloc: Global, texts: &[&str]) -> Result<Items<Path>, Fail> {
-    let mut paths = Items::new(alloc);
+/// What was made, where all of it was done.
+fn whole<T: Drop>(made: T, done: Result<(), Fail>) -> Result<T, Fail> {
+    match done {
+        Ok(()) => Ok(made),
+        Err(fail) => {
+            drop(made);
+            Err(fail)
+        }
+    }
+}
+
+fn push_paths(alloc: Global, paths: &mut Items<Path>, texts: &[&str]) -> Result<(), Fail> {
     for text in texts {
         paths.push(Path::parse(alloc, text)?)?;
     }
-    Ok(paths)
+    Ok(())
+}
+
+fn paths(alloc: Global, texts: &[&str]) -> Result<Items<Path>, Fail> {
+    let mut paths = Items::new(alloc);
+    let done = push_paths(alloc, &mut paths, texts);
+    whole(paths, done)
+}
+
+fn push_names(alloc: Global, names: &mut Items<Text>, texts: &[&str]) -> Result<(), Fail> {
+    for text in texts {
+        names.push(Text::of(alloc, text)?)?;
+    }
+    Ok(())
 }
 
 fn names(alloc: Global, texts: &[&str]) -> Result<Items<Text>, Fail> {
     let mut names = Items::new(alloc);
-    for text in texts {
-        names.push(Text::of(alloc, text)?)?;
-    }
-    Ok(names)
+    let done = push_names(alloc, &mut names, texts);
+    whole(names, done)
 }
 
 /// A prim with these children of which no more is said.
@@ -125,8 +146,8 @@ fn put_samples(samples: &mut Samples) -> Result<(), Fail> {
 /// Two samples, of which the later one is a block.
 fn two_samples(alloc: Global) -> Result<Samples, Fail> {
     let mut samples = Samples::new(alloc);
-    put_samples(&mut samples)?;
-    Ok(samples)
+    let done = put_samples(&mut samples);
+    whole(samples, done)
 }
 
 /// A dictionary of one entry.
@@ -215,13 +236,8 @@ fn push_all(alloc: Global, prim: &mut PrimView) -> Result<(), Fail> {
 /// The prim `/A`.
 fn busy_prim(alloc: Global) -> Result<PrimView, Fail> {
     let mut all = prim(alloc, Items::new(alloc));
-    match push_all(alloc, &mut all) {
-        Ok(()) => Ok(all),
-        Err(fault) => {
-            drop(all);
-            Err(fault)
-        }
-    }
+    let done = push_all(alloc, &mut all);
+    whole(all, done)
 }
 
 /// The prims of a stage, with their paths.
@@ -243,8 +259,8 @@ fn push_busy(alloc: Global, items: &mut Placed) -> Result<(), Fail> {
 
 fn stage(alloc: Global) -> Result<Edition<Path, PrimView>, Fail> {
     let mut items = Items::new(alloc);
-    push_busy(alloc, &mut items)?;
-    Ok(Edition::build(alloc, 0, 0, items, None)?)
+    let done = push_busy(alloc, &mut items);
+    Ok(Edition::build(alloc, 0, 0, whole(items, done)?, None)?)
 }
 
 /// Words of questions, paths, and what is answered on `stage`.
@@ -325,7 +341,9 @@ fn tells(alloc: Global, question: &Question, text: &str) -> Result<bool, Fail> {
 fn is_answered(alloc: Global, word: &str, path: &str, answer: &str) -> Result<bool, Fail> {
     let text = format!(in alloc; "{word} {path}: {answer}\n")?;
     let asked = question(alloc, word, path)?;
-    tells(alloc, &asked, text.as_str())
+    let is_told = tells(alloc, &asked, text.as_str());
+    drop(asked);
+    is_told
 }
 
 #[test]
@@ -360,7 +378,9 @@ fn is_valued(alloc: Global, row: &(&str, &str, &str, &str)) -> Result<bool, Fail
     let (path, written, printed, answer) = *row;
     let text = format!(in alloc; "value {path} {printed}: {answer}\n")?;
     let asked = value_question(alloc, path, written)?;
-    tells(alloc, &asked, text.as_str())
+    let is_told = tells(alloc, &asked, text.as_str());
+    drop(asked);
+    is_told
 }
 
 #[test]
@@ -381,7 +401,9 @@ fn is_kept(alloc: Global, question: &Question) -> Result<bool, Fail> {
 
 fn children_are_told_behind(alloc: Global) -> Result<bool, Fail> {
     let asked = question(alloc, "children", "/A")?;
-    is_kept(alloc, &asked)
+    let is_kept = is_kept(alloc, &asked);
+    drop(asked);
+    is_kept
 }
 
 #[test]
@@ -390,11 +412,17 @@ fn an_answer_stands_behind_what_was_written(rt: HostRuntime) -> Result<(), Fail>
     Ok(())
 }
 
+fn push_one(properties: &mut Items<PropertyView>, property: PropertyView) -> Result<(), Fail> {
+    properties.push(property)?;
+    Ok(())
+}
+
 /// A prim with one attribute.
 fn small_prim(alloc: Global) -> Result<PrimView, Fail> {
     let x = with_default(alloc, "x", Some(Value::Whole(5)))?;
     let mut properties = Items::new(alloc);
-    properties.push(x)?;
+    let done = push_one(&mut properties, x);
+    let properties = whole(properties, done)?;
     let mut one = prim(alloc, Items::new(alloc));
     drop(mem::replace(&mut one.properties, properties));
     Ok(one)
@@ -410,8 +438,8 @@ fn push_small(alloc: Global, items: &mut Placed) -> Result<(), Fail> {
 /// A stage of one prim with one attribute.
 fn small_stage(alloc: Global) -> Result<Edition<Path, PrimView>, Fail> {
     let mut items = Items::new(alloc);
-    push_small(alloc, &mut items)?;
-    Ok(Edition::build(alloc, 0, 0, items, None)?)
+    let done = push_small(alloc, &mut items);
+    Ok(Edition::build(alloc, 0, 0, whole(items, done)?, None)?)
 }
 
 fn small_stage_is_flattened(alloc: Global) -> Result<bool, Fail> {

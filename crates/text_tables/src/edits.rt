@@ -5,6 +5,7 @@ use crate::printing::push_word;
 use list_ops::{ListOp, fold, fold_ordered, reorder, reorder_ordered};
 use plain_data::Items;
 use std::alloc::{AllocError, Global};
+use std::mem;
 
 /// The items of a text: a number for each byte.
 fn list_of(alloc: Global, text: &str) -> Result<Vec<u64>, AllocError> {
@@ -83,17 +84,24 @@ pub(crate) fn push_opinion_call(
     text: &str,
 ) -> Result<(), CallFault> {
     let op = five_edits(alloc, text)?;
-    push_applied(alloc, out, &op, line_at(text, 5))
+    let told = push_applied(alloc, out, &op, line_at(text, 5));
+    drop(op);
+    told
+}
+
+/// Sets items, whatever they were.
+fn set(place: &mut Items<u64>, items: Items<u64>) {
+    drop(mem::replace(place, items));
 }
 
 /// Sets what a line prepends, appends or orders.
 fn set_placed(alloc: Global, op: &mut ListOp<u64>, line: &str) -> Result<(), AllocError> {
     if let Some(text) = line.strip_prefix("<") {
-        op.prepended = items_of(alloc, text)?;
+        set(&mut op.prepended, items_of(alloc, text)?);
     } else if let Some(text) = line.strip_prefix(">") {
-        op.appended = items_of(alloc, text)?;
+        set(&mut op.appended, items_of(alloc, text)?);
     } else if let Some(text) = line.strip_prefix("%") {
-        op.ordered = items_of(alloc, text)?;
+        set(&mut op.ordered, items_of(alloc, text)?);
     }
     Ok(())
 }
@@ -101,11 +109,12 @@ fn set_placed(alloc: Global, op: &mut ListOp<u64>, line: &str) -> Result<(), All
 /// Sets what a line says: its first character tells what the others are.
 fn set_edit(alloc: Global, op: &mut ListOp<u64>, line: &str) -> Result<(), AllocError> {
     if let Some(text) = line.strip_prefix("=") {
-        op.explicit = Some(items_of(alloc, text)?);
+        let items = items_of(alloc, text)?;
+        drop(mem::replace(&mut op.explicit, Some(items)));
     } else if let Some(text) = line.strip_prefix("-") {
-        op.deleted = items_of(alloc, text)?;
+        set(&mut op.deleted, items_of(alloc, text)?);
     } else if let Some(text) = line.strip_prefix("+") {
-        op.added = items_of(alloc, text)?;
+        set(&mut op.added, items_of(alloc, text)?);
     } else {
         set_placed(alloc, op, line)?;
     }
@@ -115,8 +124,13 @@ fn set_edit(alloc: Global, op: &mut ListOp<u64>, line: &str) -> Result<(), Alloc
 /// The opinion that a line stands for.
 fn opinion_of(alloc: Global, line: &str) -> Result<ListOp<u64>, AllocError> {
     let mut op = ListOp::new(alloc);
-    set_edit(alloc, &mut op, line)?;
-    Ok(op)
+    match set_edit(alloc, &mut op, line) {
+        Ok(()) => Ok(op),
+        Err(fault) => {
+            drop(op);
+            Err(fault)
+        }
+    }
 }
 
 /// The opinions of a text, a line each.

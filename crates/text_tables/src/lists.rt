@@ -17,6 +17,28 @@ use usda_lists::{
 };
 use usda_values::PartFault;
 
+/// The path that a text means from a prim, as a path or as that of a target.
+fn path_meant(
+    alloc: Global,
+    word: &str,
+    base: &Path,
+    text: &str,
+) -> Result<Option<Path>, CallFault> {
+    match word {
+        "target" => Ok(target_from(alloc, base, text)?),
+        _ => Ok(path_from(alloc, base, text)?),
+    }
+}
+
+/// Appends a path, or `none`; or whether there is one.
+fn push_meant(out: &mut String, word: &str, path: &Option<Path>) -> Result<(), CallFault> {
+    if word == "is_path" {
+        return Ok(push_word(out, if path.is_some() { "yes" } else { "no" })?);
+    }
+    push_path_or_none(out, path)?;
+    Ok(push_word(out, "")?)
+}
+
 /// `from BASE`, `is_path BASE` and `target BASE`: the path that the text means from a prim, or `none`; whether there is one; the path of a target.
 pub(crate) fn push_from_call(
     alloc: Global,
@@ -26,15 +48,12 @@ pub(crate) fn push_from_call(
     text: &str,
 ) -> Result<(), CallFault> {
     let base = path_of(alloc, words)?;
-    let path = match word {
-        "target" => target_from(alloc, &base, text)?,
-        _ => path_from(alloc, &base, text)?,
-    };
-    if word == "is_path" {
-        return Ok(push_word(out, if path.is_some() { "yes" } else { "no" })?);
-    }
-    push_path_or_none(out, &path)?;
-    Ok(push_word(out, "")?)
+    let path = path_meant(alloc, word, &base, text);
+    drop(base);
+    let path = path?;
+    let told = push_meant(out, word, &path);
+    drop(path);
+    told
 }
 
 /// `token BASE`: the token of the path that the text means from a prim, or `none`.
@@ -45,7 +64,9 @@ pub(crate) fn push_token_call(
     text: &str,
 ) -> Result<(), CallFault> {
     let base = path_of(alloc, words)?;
-    match absolute_from(alloc, &base, text)? {
+    let token = absolute_from(alloc, &base, text);
+    drop(base);
+    match token? {
         Some(token) => Ok(push_word(out, token.as_str())?),
         None => Ok(push_word(out, "none")?),
     }

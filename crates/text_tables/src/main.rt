@@ -18,7 +18,7 @@ mod words;
 
 use io_edges::{Fetched, FolderFiles, LayerFiles};
 use run::{Count, run_table};
-use std::alloc::AllocError;
+use std::alloc::{AllocError, Global};
 use std::io;
 
 /// The tables, by the names of their files.
@@ -35,18 +35,27 @@ static TABLES: [&str; 10] = [
     "names.rows",
 ];
 
-/// The text of a file.
-fn text_of(rt: &HostRuntime, name: &str) -> Result<String, AllocError> {
-    let alloc = rt.alloc();
-    let mut bytes = Vec::new(alloc);
-    let mut files = FolderFiles::new(rt.clone()?);
-    match files.fetch(name, &mut bytes) {
-        Fetched::Found => String::from_utf8_lossy(alloc, bytes.as_slice()),
+/// The text of bytes that were fetched.
+fn text_from(alloc: Global, fetched: Fetched, bytes: &[u8]) -> Result<String, AllocError> {
+    match fetched {
+        Fetched::Found => String::from_utf8_lossy(alloc, bytes),
         Fetched::Absent | Fetched::Failed => {
             String::from_str(alloc, "this table could not be read")
         }
         Fetched::NoMemory => Err(AllocError),
     }
+}
+
+/// The text of a file.
+fn text_of(rt: &HostRuntime, name: &str) -> Result<String, AllocError> {
+    let alloc = rt.alloc();
+    let mut files = FolderFiles::new(rt.clone()?);
+    let mut bytes = Vec::new(alloc);
+    let fetched = files.fetch(name, &mut bytes);
+    drop(files);
+    let text = text_from(alloc, fetched, bytes.as_slice());
+    drop(bytes);
+    text
 }
 
 /// Makes the calls of a table, and prints what comes of them.

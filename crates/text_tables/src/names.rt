@@ -3,7 +3,7 @@
 use crate::fault::CallFault;
 use crate::printing::push_word;
 use asset_names::{AssetFault, AssetId};
-use std::alloc::Global;
+use std::alloc::{AllocError, Global};
 use std::fmt::Write;
 
 /// Appends a name, or where it is refused.
@@ -54,6 +54,35 @@ fn sameness(is_same: bool) -> &'static str {
     }
 }
 
+/// Whether the copy of a name is the name.
+fn is_copied(name: &AssetId) -> Result<bool, AllocError> {
+    let copied = name.clone()?;
+    let is_same = copied == *name;
+    drop(copied);
+    Ok(is_same)
+}
+
+/// Appends how a name stands to another one, and whether its copy is the name.
+fn push_compared(out: &mut String, name: &AssetId, other: &AssetId) -> Result<(), CallFault> {
+    let order = name.cmp(other);
+    let one = sameness(name == other);
+    let two = sameness(is_copied(name)?);
+    Ok(writeln!(out, "{order:?}, {one}; its copy is {two}")?)
+}
+
+/// The same of a word for the other name.
+fn push_compared_with(
+    alloc: Global,
+    out: &mut String,
+    name: &AssetId,
+    other: &str,
+) -> Result<(), CallFault> {
+    let other = name_of(alloc, other)?;
+    let told = push_compared(out, name, &other);
+    drop(other);
+    told
+}
+
 /// `compared NAME`: how the name that the text is stands to another one, and whether its copy is the name.
 pub(crate) fn push_compared_call(
     alloc: Global,
@@ -62,10 +91,7 @@ pub(crate) fn push_compared_call(
     text: &str,
 ) -> Result<(), CallFault> {
     let name = name_of(alloc, text)?;
-    let other = name_of(alloc, words)?;
-    let copied = name.clone()?;
-    let order = name.cmp(&other);
-    let one = sameness(name == other);
-    let two = sameness(copied == name);
-    Ok(writeln!(out, "{order:?}, {one}; its copy is {two}")?)
+    let told = push_compared_with(alloc, out, &name, words);
+    drop(name);
+    told
 }
