@@ -1,9 +1,9 @@
 //! Calls on the names of layers.
 
 use crate::fault::CallFault;
-use crate::printing::push_word;
+use crate::printing::{is_copied, push_word};
 use asset_names::{AssetFault, AssetId};
-use std::alloc::{AllocError, Global};
+use std::alloc::Global;
 use std::fmt::Write;
 
 /// Appends a name, or where it is refused.
@@ -52,14 +52,6 @@ fn sameness(is_same: bool) -> &'static str {
     } else {
         "another name"
     }
-}
-
-/// Whether the copy of a name is the name.
-fn is_copied(name: &AssetId) -> Result<bool, AllocError> {
-    let copied = name.clone()?;
-    let is_same = copied == *name;
-    drop(copied);
-    Ok(is_same)
 }
 
 /// Appends how a name stands to another one, and whether its copy is the name.

@@ -1,7 +1,7 @@
 //! Calls on paths.
 
 use crate::fault::CallFault;
-use crate::printing::{push_path_or_none, push_word};
+use crate::printing::{is_copied, push_path_or_none, push_word};
 use crate::words::path_of;
 use sdf_paths::{Path, PathFault};
 use std::alloc::{AllocError, Global};
@@ -64,14 +64,6 @@ fn push_if(out: &mut String, holds: bool, word: &str) -> Result<(), AllocError> 
         push_word(out, word)?;
     }
     Ok(())
-}
-
-/// Whether the copy of a path is the path.
-fn is_copied(path: &Path) -> Result<bool, AllocError> {
-    let copied = path.clone()?;
-    let is_same = copied == *path;
-    drop(copied);
-    Ok(is_same)
 }
 
 /// Appends the names and the elements of a path, and of what sort it is.

@@ -1,7 +1,7 @@
 //! Calls on numbers, times, offsets, types and values.
 
 use crate::fault::CallFault;
-use crate::printing::push_word;
+use crate::printing::{is_copied, push_word};
 use crate::words::{first_word, type_of};
 use plain_data::{Items, Text};
 use sdf_values::{
@@ -159,12 +159,6 @@ fn push_printed(
 ) -> Result<(), CallFault> {
     let text = print_value(alloc, value, indent)?;
     Ok(push_word(out, text.as_str())?)
-}
-
-/// Whether the copy of a value is the value.
-fn is_copied(value: &Value) -> Result<bool, CallFault> {
-    let copied = value.clone()?;
-    Ok(copied == *value)
 }
 
 /// Appends the canonical text of a value, whether its copy is another one, and whether it is `None`.
