@@ -116,23 +116,47 @@ impl ElementType {
             ElementType::Uint => "uint",
             ElementType::Int64 => "int64",
             ElementType::Uint64 => "uint64",
-            ElementType::Real(Precision::Half) => "half",
-            ElementType::Real(Precision::Float) => "float",
-            ElementType::Real(Precision::Double) => "double",
+            ElementType::Real(precision) => real_name(precision),
             ElementType::Timecode => "timecode",
             ElementType::String => "string",
             ElementType::Token => "token",
             ElementType::Asset => "asset",
-            ElementType::Ints(Width::Two) => "int2",
-            ElementType::Ints(Width::Three) => "int3",
-            ElementType::Ints(Width::Four) => "int4",
+            ElementType::Ints(width) => ints_name(width),
             ElementType::Reals(precision, width) => reals_name(precision, width),
             ElementType::Role(role, precision) => role_name(role, precision),
-            ElementType::Matrix(Matrix::Matrix2) => "matrix2d",
-            ElementType::Matrix(Matrix::Matrix3) => "matrix3d",
-            ElementType::Matrix(Matrix::Matrix4) => "matrix4d",
-            ElementType::Matrix(Matrix::Frame4) => "frame4d",
+            ElementType::Matrix(matrix) => matrix_name(matrix),
         }
+    }
+}
+
+fn real_name(precision: Precision) -> &'static str
+    ensures { result.now ≡ element_name (ElementType.Real precision) }
+{
+    match precision {
+        Precision::Half => "half",
+        Precision::Float => "float",
+        Precision::Double => "double",
+    }
+}
+
+fn ints_name(width: Width) -> &'static str
+    ensures { result.now ≡ element_name (ElementType.Ints width) }
+{
+    match width {
+        Width::Two => "int2",
+        Width::Three => "int3",
+        Width::Four => "int4",
+    }
+}
+
+fn matrix_name(matrix: Matrix) -> &'static str
+    ensures { result.now ≡ element_name (ElementType.Matrix matrix) }
+{
+    match matrix {
+        Matrix::Matrix2 => "matrix2d",
+        Matrix::Matrix3 => "matrix3d",
+        Matrix::Matrix4 => "matrix4d",
+        Matrix::Frame4 => "frame4d",
     }
 }
 
