@@ -1,3 +1,6 @@
+ghost use Rattle.std.specs.Prelude.{IfOk};
+ghost use Rattle.path_maps.specs.Prims.{IsOfPrim};
+
 use path_maps::{ArcKind, ArcMap};
 use plain_data::{copy, same};
 use sdf_paths::{Path, PathFault};
@@ -61,46 +64,66 @@ const LIFTED: [(&str, &str); 5] = [
     ("/Model{s=x}_c", "/World/char{s=x}_c"),
 ];
 
-/// The arc, where both texts are paths of prims.
-fn arc(alloc: Global, kind: ArcKind, target: &str, author: &str) -> Result<ArcMap, PathFault> {
-    let target = Path::parse(alloc, target)?;
-    let author = Path::parse(alloc, author)?;
-    if target.is_root() || target.is_property() || author.is_root() || author.is_property() {
+/// The path of this text, where it is one of a prim.
+fn path_of_prim(alloc: Global, text: &str) -> Result<Path, PathFault>
+    ensures { IfOk result (λ path. IsOfPrim path) }
+{
+    let path = Path::parse(alloc, text)?;
+    if path.is_root() || path.is_property() {
+        drop(path);
         return Err(PathFault::NoMemory);
     }
-    Ok(ArcMap {
-        kind,
-        target,
-        author,
-    })
+    Ok(path)
+}
+
+/// The arc, where both texts are paths of prims.
+fn arc(alloc: Global, kind: ArcKind, target: &str, author: &str) -> Result<ArcMap, PathFault> {
+    let target = path_of_prim(alloc, target)?;
+    match path_of_prim(alloc, author) {
+        Ok(author) => Ok(ArcMap {
+            kind,
+            target,
+            author,
+        }),
+        Err(fault) => {
+            drop(target);
+            Err(fault)
+        }
+    }
 }
 
 /// Whether the text of the path is this one.
-fn has_text(path: &Path, text: &str) -> Result<bool, PathFault> {
-    let printed = path.print()?;
+fn has_text(path: Path, text: &str) -> Result<bool, PathFault> {
+    let printed = path.print();
+    drop(path);
+    let printed = printed?;
     Ok(printed.as_str() == text)
 }
 
-/// Whether the path is translated to the one of this text; where that is empty, whether it has no translation.
-fn is_translated(arc: &ArcMap, path: &Path, text: &str) -> Result<bool, PathFault> {
-    match arc.translate(path)? {
-        Some(there) => has_text(&there, text),
+/// Whether the path of a text is translated to the one of the other; where that is empty, whether it has no translation.
+fn is_translated(alloc: Global, arc: &ArcMap, path: &str, text: &str) -> Result<bool, PathFault> {
+    let path = Path::parse(alloc, path)?;
+    let there = arc.translate(&path);
+    drop(path);
+    match there? {
+        Some(there) => has_text(there, text),
         None => Ok(text.is_empty()),
     }
 }
 
-/// Whether the class is lifted to the one of this text.
-fn is_lifted(arc: &ArcMap, class: &Path, text: &str) -> Result<bool, PathFault> {
-    let there = arc.lift_class(class)?;
-    has_text(&there, text)
+/// Whether the class of a text is lifted to the one of the other.
+fn is_lifted(alloc: Global, arc: &ArcMap, class: &str, text: &str) -> Result<bool, PathFault> {
+    let class = Path::parse(alloc, class)?;
+    let there = arc.lift_class(&class);
+    drop(class);
+    has_text(there?, text)
 }
 
 /// How many rows hold.
 fn translated(alloc: Global, arc: &ArcMap, rows: &[(&str, &str)]) -> Result<u64, PathFault> {
     let mut right: u64 = 0;
     for (path, there) in rows {
-        let path = Path::parse(alloc, path)?;
-        if is_translated(arc, &path, there)? {
+        if is_translated(alloc, arc, path, there)? {
             right = right.saturating_add(1);
         }
     }
@@ -111,8 +134,7 @@ fn translated(alloc: Global, arc: &ArcMap, rows: &[(&str, &str)]) -> Result<u64,
 fn lifted(alloc: Global, arc: &ArcMap, rows: &[(&str, &str)]) -> Result<u64, PathFault> {
     let mut right: u64 = 0;
     for (path, there) in rows {
-        let path = Path::parse(alloc, path)?;
-        if is_lifted(arc, &path, there)? {
+        if is_lifted(alloc, arc, path, there)? {
             right = right.saturating_add(1);
         }
     }
@@ -128,7 +150,9 @@ fn all_hold(
     rows: &[(&str, &str)],
 ) -> Result<bool, PathFault> {
     let by = arc(alloc, kind, target, author)?;
-    Ok(translated(alloc, &by, rows)? == rows.len() as u64)
+    let right = translated(alloc, &by, rows);
+    drop(by);
+    Ok(right? == rows.len() as u64)
 }
 
 #[test]
@@ -175,25 +199,39 @@ fn arcs_move_paths_into_variants(rt: HostRuntime) -> Result<(), Fail> {
 #[test]
 fn classes_are_lifted_to_the_author(rt: HostRuntime) -> Result<(), Fail> {
     let by = arc(rt.alloc(), ArcKind::Reference, "/Model", "/World/char")?;
-    assert_eq!(rt; lifted(rt.alloc(), &by, &LIFTED)?, 5);
+    let right = lifted(rt.alloc(), &by, &LIFTED);
+    drop(by);
+    assert_eq!(rt; right?, 5);
     Ok(())
 }
 
-/// Whether an answer is the refusal for a limit.
-fn is_past_a_limit<T>(answer: &Result<T, PathFault>) -> bool {
-    matches!(answer, Err(PathFault::Bad { at: 0 }))
+/// Whether an answer is given, and whether it is the refusal for a limit.
+fn outcome<T: Drop>(answer: Result<T, PathFault>) -> (bool, bool) {
+    match answer {
+        Ok(given) => {
+            drop(given);
+            (true, false)
+        }
+        Err(PathFault::Bad { at }) => (false, at == 0),
+        Err(PathFault::NoMemory) => (false, false),
+    }
 }
 
-/// Whether a path is both translated and lifted through an arc from `/T` to this author, and whether both are refused for a
-/// limit.
+/// Whether a path is both translated and lifted through an arc, and whether both are refused for a limit.
+fn fits_through(alloc: Global, by: &ArcMap, path: &str) -> Result<(bool, bool), PathFault> {
+    let path = Path::parse(alloc, path)?;
+    let translated = outcome(by.translate(&path));
+    let lifted = outcome(by.lift_class(&path));
+    drop(path);
+    Ok((translated.0 && lifted.0, translated.1 && lifted.1))
+}
+
+/// The same through an arc from `/T` to this author.
 fn fits(alloc: Global, kind: ArcKind, author: &str, path: &str) -> Result<(bool, bool), PathFault> {
     let by = arc(alloc, kind, "/T", author)?;
-    let path = Path::parse(alloc, path)?;
-    let translated = by.translate(&path);
-    let lifted = by.lift_class(&path);
-    let given = translated.is_ok() && lifted.is_ok();
-    let refused = is_past_a_limit(&translated) && is_past_a_limit(&lifted);
-    Ok((given, refused))
+    let told = fits_through(alloc, &by, path);
+    drop(by);
+    told
 }
 
 #[test]
@@ -221,12 +259,42 @@ fn bytes_past_the_limit_are_refused(rt: HostRuntime) -> Result<(), Fail> {
     Ok(())
 }
 
+/// Whether the copy of an arc is the arc.
+fn is_copied(by: &ArcMap) -> Result<bool, Fail> {
+    let again = copy(by)?;
+    let is_same = same(by, &again);
+    drop(again);
+    Ok(is_same)
+}
+
 #[test]
 fn a_copy_is_the_arc(rt: HostRuntime) -> Result<(), Fail> {
     let by = arc(rt.alloc(), ArcKind::Reference, "/Model", "/World/char")?;
-    let again = copy(&by)?;
-    assert!(rt; same(&by, &again));
-    let other = arc(rt.alloc(), ArcKind::Payload, "/Model", "/World/char")?;
-    assert!(rt; !same(&by, &other));
+    let copied = is_copied(&by);
+    drop(by);
+    assert!(rt; copied?);
+    Ok(())
+}
+
+/// Whether a reference and a payload of the same paths are one arc.
+fn kinds_are_one(alloc: Global) -> Result<bool, PathFault> {
+    let by = arc(alloc, ArcKind::Reference, "/Model", "/World/char")?;
+    match arc(alloc, ArcKind::Payload, "/Model", "/World/char") {
+        Ok(other) => {
+            let are_one = same(&by, &other);
+            drop(by);
+            drop(other);
+            Ok(are_one)
+        }
+        Err(fault) => {
+            drop(by);
+            Err(fault)
+        }
+    }
+}
+
+#[test]
+fn an_arc_of_another_kind_is_another(rt: HostRuntime) -> Result<(), Fail> {
+    assert!(rt; !kinds_are_one(rt.alloc())?);
     Ok(())
 }

@@ -21,8 +21,10 @@ fn an_insertion_tells_what_it_replaces(rt: HostRuntime) -> Result<(), Fail> {
     let second = table.insert(3, 30)?;
     let third = table.insert(9, 90)?;
     let again = table.insert(5, 55)?;
-    assert!(rt; begins_empty && first.is_none() && second.is_none() && third.is_none());
-    assert!(rt; again == Some(50) && table.len() == 3 && !table.is_empty());
+    let are_new = first.is_none() && second.is_none() && third.is_none();
+    let has_three = again == Some(50) && table.len() == 3 && !table.is_empty();
+    drop(table);
+    assert!(rt; begins_empty && are_new && has_three);
     Ok(())
 }
 
@@ -30,22 +32,30 @@ fn an_insertion_tells_what_it_replaces(rt: HostRuntime) -> Result<(), Fail> {
 fn entries_are_found_by_their_keys(rt: HostRuntime) -> Result<(), Fail> {
     let mut table = three_entries(rt.alloc())?;
     table.insert(5, 55)?;
-    assert!(rt;
-        table.get(&5) == Some(&55) && table.get(&4).is_none() && table.has(&9) && !table.has(&10)
-    );
+    let finds = table.get(&5) == Some(&55)
+        && table.get(&4).is_none()
+        && table.has(&9)
+        && !table.has(&10);
+    drop(table);
+    assert!(rt; finds);
     Ok(())
+}
+
+/// Whether a table of 3, 5 and 9 has them in order.
+fn has_its_order(table: &OrderedTable<u64, u64>) -> bool {
+    table.at(0) == Some((&3, &30))
+        && table.at(2) == Some((&9, &90))
+        && table.at(3).is_none()
+        && table.iter().next() == Some((&3, &30))
+        && table.iter().count() == 3
 }
 
 #[test]
 fn entries_stand_in_the_order_of_keys(rt: HostRuntime) -> Result<(), Fail> {
     let table = three_entries(rt.alloc())?;
-    assert!(rt;
-        table.at(0) == Some((&3, &30))
-            && table.at(2) == Some((&9, &90))
-            && table.at(3).is_none()
-            && table.iter().next() == Some((&3, &30))
-            && table.iter().count() == 3
-    );
+    let is_in_order = has_its_order(&table);
+    drop(table);
+    assert!(rt; is_in_order);
     Ok(())
 }
 
@@ -53,36 +63,39 @@ fn entries_stand_in_the_order_of_keys(rt: HostRuntime) -> Result<(), Fail> {
 fn entries_are_gone_over_from_a_key_on(rt: HostRuntime) -> Result<(), Fail> {
     let mut table = three_entries(rt.alloc())?;
     table.insert(5, 55)?;
-    assert!(rt;
-        table.iter_from(&4).next() == Some((&5, &55))
-            && table.iter_from(&9).count() == 1
-            && table.iter_from(&10).next().is_none()
-    );
+    let goes_on = table.iter_from(&4).next() == Some((&5, &55))
+        && table.iter_from(&9).count() == 1
+        && table.iter_from(&10).next().is_none();
+    drop(table);
+    assert!(rt; goes_on);
     Ok(())
+}
+
+/// Whether an exchange changes one entry, and none of a copy.
+fn exchanges_one(table: &mut OrderedTable<u64, u64>) -> Result<bool, Fail> {
+    let before = copy(table)?;
+    let is_copied = same(table, &before);
+    let is_told = table.replace(&5, 51) == Ok(50) && table.replace(&4, 40) == Err(40);
+    let is_changed = !same(table, &before) && table.get(&5) == Some(&51);
+    drop(before);
+    Ok(is_copied && is_told && is_changed)
 }
 
 #[test]
 fn an_exchange_changes_one_entry(rt: HostRuntime) -> Result<(), Fail> {
     let mut table = three_entries(rt.alloc())?;
-    let before = copy(&table)?;
-    assert!(rt;
-        same(&table, &before)
-            && table.replace(&5, 51) == Ok(50)
-            && table.replace(&4, 40) == Err(40)
-            && !same(&table, &before)
-            && table.get(&5) == Some(&51)
-    );
+    let exchanged = exchanges_one(&mut table);
+    drop(table);
+    assert!(rt; exchanged?);
     Ok(())
 }
 
 #[test]
 fn a_removal_takes_one_entry(rt: HostRuntime) -> Result<(), Fail> {
     let mut table = three_entries(rt.alloc())?;
-    assert!(rt;
-        table.remove(&3) == Some(30)
-            && table.remove(&3).is_none()
-            && table.len() == 2
-            && table.get(&5) == Some(&50)
-    );
+    let is_removed = table.remove(&3) == Some(30) && table.remove(&3).is_none();
+    let leaves_two = table.len() == 2 && table.get(&5) == Some(&50);
+    drop(table);
+    assert!(rt; is_removed && leaves_two);
     Ok(())
 }

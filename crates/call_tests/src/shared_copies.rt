@@ -25,65 +25,100 @@ fn two_entries(alloc: Global) -> Result<SharedTable<u64, u64>, Fail> {
 #[test]
 fn a_table_begins_empty(rt: HostRuntime) -> Result<(), Fail> {
     let table: SharedTable<u64, u64> = SharedTable::new(rt.alloc());
-    assert!(rt; table.is_empty() && table.iter().next().is_none());
+    let begins_empty = table.is_empty() && table.iter().next().is_none();
+    drop(table);
+    assert!(rt; begins_empty);
     Ok(())
 }
 
 #[test]
 fn entries_are_found_by_their_keys(rt: HostRuntime) -> Result<(), Fail> {
     let table = three_entries(rt.alloc())?;
-    assert!(rt;
-        !table.is_empty()
-            && table.get(&5) == Some(&55)
-            && table.get(&4).is_none()
-            && table.has(&9)
-            && !table.has(&10)
-    );
+    let finds = !table.is_empty()
+        && table.get(&5) == Some(&55)
+        && table.get(&4).is_none()
+        && table.has(&9)
+        && !table.has(&10);
+    drop(table);
+    assert!(rt; finds);
     Ok(())
+}
+
+/// Whether a table of 3, 5 and 9 is gone over in order.
+fn has_its_order(table: &SharedTable<u64, u64>) -> bool {
+    table.iter().count() == 3
+        && table.iter().next() == Some((&3, &30))
+        && table.iter_from(&4).next() == Some((&5, &55))
+}
+
+/// Whether a table of 3, 5 and 9 is gone over from a key on.
+fn has_its_rest(table: &SharedTable<u64, u64>) -> bool {
+    table.iter_from(&5).count() == 2
+        && table.iter_from(&9).count() == 1
+        && table.iter_from(&10).next().is_none()
 }
 
 #[test]
 fn entries_stand_in_the_order_of_keys(rt: HostRuntime) -> Result<(), Fail> {
     let table = three_entries(rt.alloc())?;
-    assert!(rt;
-        table.iter().count() == 3
-            && table.iter().next() == Some((&3, &30))
-            && table.iter_from(&4).next() == Some((&5, &55))
-    );
-    assert!(rt;
-        table.iter_from(&5).count() == 2
-            && table.iter_from(&9).count() == 1
-            && table.iter_from(&10).next().is_none()
-    );
+    let is_in_order = has_its_order(&table) && has_its_rest(&table);
+    drop(table);
+    assert!(rt; is_in_order);
     Ok(())
+}
+
+/// Whether an exchange changes one entry of a table of 3 and 5, and none of this copy.
+fn exchanges_one(
+    table: &mut SharedTable<u64, u64>,
+    before: &SharedTable<u64, u64>,
+) -> Result<bool, Fail> {
+    let equal_at_first = same(table, before);
+    let given = table.exchange(&5, 51)?;
+    let absent = table.exchange(&4, 40)?;
+    let are_told = given == Some(50) && absent.is_none();
+    Ok(equal_at_first && are_told && !same(table, before) && !same(before, table))
+}
+
+fn exchanges_one_beside_a_copy(table: &mut SharedTable<u64, u64>) -> Result<bool, Fail> {
+    let before = copy(table)?;
+    let exchanged = exchanges_one(table, &before);
+    drop(before);
+    exchanged
 }
 
 #[test]
 fn an_exchange_changes_one_entry(rt: HostRuntime) -> Result<(), Fail> {
     let mut table = two_entries(rt.alloc())?;
-    let before = copy(&table)?;
-    let equal_at_first = same(&table, &before);
-    let given = table.exchange(&5, 51)?;
-    let absent = table.exchange(&4, 40)?;
-    assert!(rt;
-        equal_at_first
-            && given == Some(50)
-            && absent.is_none()
-            && !same(&table, &before)
-            && !same(&before, &table)
-    );
+    let exchanged = exchanges_one_beside_a_copy(&mut table);
+    drop(table);
+    assert!(rt; exchanged?);
     Ok(())
+}
+
+/// Whether a removal takes one entry of a table of 3 and 5, once.
+fn removes_one(table: &mut SharedTable<u64, u64>) -> Result<bool, Fail> {
+    table.exchange(&5, 51)?;
+    let taken = table.remove(&3)?;
+    let taken_again = table.remove(&3)?;
+    Ok(taken && !taken_again && table.iter().count() == 1 && table.get(&5) == Some(&51))
+}
+
+/// Whether nothing of that is taken from a copy that was made before.
+fn removes_none_of_a_copy(table: &mut SharedTable<u64, u64>) -> Result<bool, Fail> {
+    let before = copy(table)?;
+    let removed = removes_one(table);
+    let is_left = before.iter().count() == 2 && before.get(&5) == Some(&50) && before.has(&3);
+    drop(before);
+    let removed = removed?;
+    Ok(removed && is_left)
 }
 
 #[test]
 fn a_removal_takes_one_entry_and_none_of_a_copy(rt: HostRuntime) -> Result<(), Fail> {
     let mut table = two_entries(rt.alloc())?;
-    let before = copy(&table)?;
-    table.exchange(&5, 51)?;
-    let taken = table.remove(&3)?;
-    let taken_again = table.remove(&3)?;
-    assert!(rt; taken && !taken_again && table.iter().count() == 1 && table.get(&5) == Some(&51));
-    assert!(rt; before.iter().count() == 2 && before.get(&5) == Some(&50) && before.has(&3));
+    let removed = removes_none_of_a_copy(&mut table);
+    drop(table);
+    assert!(rt; removed?);
     Ok(())
 }
 
@@ -136,16 +171,36 @@ fn are_found(before: &SharedTable<u64, u64>, after: &SharedTable<u64, u64>) -> b
     true
 }
 
+/// Whether a thousand entries change as they should beside a copy that stays as it was.
+fn is_changed_beside(
+    table: &mut SharedTable<u64, u64>,
+    before: &SharedTable<u64, u64>,
+) -> Result<bool, Fail> {
+    overwrite_upper_half(table)?;
+    let taken = take_each_fourth(table)?;
+    let has_them = table.iter().count() == 1250 && table.get(&1499) == Some(&0);
+    Ok(
+        taken
+            && has_them
+            && is_gone_over_in_order(before)
+            && are_found(before, table)
+            && !same(table, before),
+    )
+}
+
+fn is_changed_beside_a_copy(table: &mut SharedTable<u64, u64>) -> Result<bool, Fail> {
+    let before = copy(table)?;
+    let changed = is_changed_beside(table, &before);
+    drop(before);
+    changed
+}
+
 #[test]
 fn a_copy_of_many_entries_stays_as_it_was(rt: HostRuntime) -> Result<(), Fail> {
     let mut table = thousand_entries(rt.alloc())?;
-    let before = copy(&table)?;
-    overwrite_upper_half(&mut table)?;
-    let taken = take_each_fourth(&mut table)?;
-    assert!(rt; taken && is_gone_over_in_order(&before) && are_found(&before, &table));
-    assert!(rt;
-        table.iter().count() == 1250 && table.get(&1499) == Some(&0) && !same(&table, &before)
-    );
+    let changed = is_changed_beside_a_copy(&mut table);
+    drop(table);
+    assert!(rt; changed?);
     Ok(())
 }
 

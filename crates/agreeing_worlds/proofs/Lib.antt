@@ -1,0 +1,13 @@
+pub mod Each
+pub mod Stacks
+pub mod Good
+pub mod Levels
+pub mod Folded
+pub mod Said
+pub mod Heres
+pub mod Growing
+pub mod Sites
+pub mod Bodies
+pub mod Covers
+pub mod Stable
+pub mod Dated
