@@ -1,0 +1,14 @@
+//! The laws as the clauses of functions that do nothing.
+ghost use Rattle.kept_stages.specs.Laws.{KeptIsComposed, ViewsAreComposed};
+
+/// Whatever is composed, as long as it is settled by what it reads: after any batches, accepted or refused, and whatever workers compose
+/// meanwhile, in any order, what is kept and not marked is what is composed from scratch of the world as it is; and so is each stage that is
+/// published.
+pub fn a_kept_stage_is_the_composed_one<World, Place, Key, Entry>()
+    ensures { KeptIsComposed World Place Key Entry }
+{}
+
+/// The views of composition are so settled, by any test that sees each change of a key.
+pub fn views_are_settled_by_what_they_read()
+    ensures { ViewsAreComposed }
+{}
