@@ -1,4 +1,3 @@
-pub mod Entries
 pub mod Loading
 pub mod Nearest
 pub mod RuleKeys

@@ -1,5 +1,5 @@
 -- Rules that are looked up and changed.
-use Rattle.std.proofs.Common.{◌≡◌, ◌∙◌, sym, ap, refl, subst, ℕ, Bool, true, false, not, ◌||◌, List, [], ◌∷◌, length, Option, None, Result, Ok, Err, OnOk, OnErr}
+use Rattle.std.proofs.Common.{◌≡◌, ◌∙◌, sym, ap, refl, subst, ℕ, Bool, true, false, not, ◌||◌, List, [], ◌∷◌, length, Option, Result, Ok, Err, OnOk, OnErr}
 use Rattle.plain_data.specs.Exact.{both_true}
 use Rattle.sdf_paths.specs.Paths.{is_plain, is_selection}
 use Rattle.sdf_paths.specs.declared.element.Element.{Element}
@@ -7,7 +7,7 @@ use Rattle.composition.specs.Texts.{first_of}
 use Rattle.composition.specs.Paths.{up, below, levels, has_selections}
 use Rattle.composition.specs.World.{is_loaded, rule_or_loaded}
 use Rattle.layer_set.specs.LookUps.{look_ups}
-use Rattle.layer_set.specs.Rules.{RuleEntries, IsPlainPrim, AreRules, rule_at, with_rule, nearest_rule, is_loaded_by}
+use Rattle.layer_set.specs.Rules.{RuleEntries, IsPlainPrim, AreRules, rule_at, with_rule, is_loaded_by}
 use Rattle.layer_set.specs.Worlds.{WorldData}
 use Rattle.layer_set.proofs.RuleKeys.{still_rules}
 
@@ -37,11 +37,3 @@ pub changed_rules : {A E : Type 0} (result : Result A E) (path : List Element) (
     → OnOk result (new ≡ with_rule path rule old) → OnErr result (new ≡ old) → IsPlainPrim path → AreRules old → AreRules new
 changed_rules (Ok a) path rule new old put kept prim all = subst AreRules (sym put) (still_rules path rule old prim all)
 changed_rules (Err e) path rule new old put kept prim all = subst AreRules (sym kept) all
-
-none_along : (path : List Element) (js : List ℕ) → first_of (λ j. rule_at (up path j) []) js ≡ None
-none_along path [] = refl
-none_along path (j ∷ js) = none_along path js
-
--- among no rules none is the nearest
-pub none_nearest : (path : List Element) (rules : RuleEntries) → rules ≡ [] → nearest_rule path rules ≡ None
-none_nearest path rules none = ap (nearest_rule path) none ∙ none_along path (below (length path))

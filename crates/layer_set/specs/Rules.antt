@@ -2,8 +2,6 @@
 use Rattle.std.specs.Prelude.{◌≡◌, ◌≢◌, Bool, true, false, List, [], Option, Some, None, length}
 use Rattle.std.specs.List.{AllByRecursion}
 use Rattle.std.specs.Map.{keys_of}
-use Rattle.std.specs.declared.alloc.Global.{Global}
-use Rattle.std.specs.declared.sync.Arc.{Arc}
 use Rattle.sdf_paths.specs.Order.{path_cmp}
 use Rattle.sdf_paths.specs.Paths.{is_plain, is_property}
 use Rattle.sdf_paths.specs.declared.element.Element.{Element}
@@ -15,11 +13,6 @@ use Rattle.composition.specs.World.{rule_or_loaded}
 -- rules in the order of paths
 abbrev pub RuleEntries : Type 0
 RuleEntries = List (List Element × Bool)
-
--- the rules behind a pointer; none where there is no pointer
-abbrev pub shared_entries : Option (Arc RuleEntries Global) → RuleEntries
-shared_entries None = []
-shared_entries (Some rules) = rules.value
 
 -- a plain prim path: neither `/` nor a property's, without selections
 pub record IsPlainPrim (path : List Element) : Type 0 where

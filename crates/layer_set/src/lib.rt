@@ -8,7 +8,6 @@ mod named;
 mod rules;
 mod same;
 mod shared;
-mod shared_rules;
 mod world;
 
 pub use assets::anchored;

@@ -12,9 +12,9 @@ ghost use Rattle.layer_set.specs.declared.held.Held.{Held};
 use crate::held::Held;
 use crate::key::Key;
 use crate::named;
+use crate::rules::Rules;
 use crate::same::{arcs_of, body_of, same_heading, same_part, same_roots};
 use crate::shared::Shared;
-use crate::shared_rules::SharedRules;
 use asset_names::AssetId;
 use plain_data::{copy_two, same};
 use sdf_paths::Path;
@@ -35,7 +35,7 @@ pub struct World {
     root: AssetId,
     session: Option<AssetId>,
     layers: OrderedTable<AssetId, Shared<Held>>,
-    rules: SharedRules,
+    rules: Rules,
     /// What is lent for a name that has nothing.
     absent: Held,
     alloc: Global,
@@ -78,7 +78,7 @@ impl World {
             root,
             session,
             layers: OrderedTable::new(alloc),
-            rules: SharedRules::new(alloc),
+            rules: Rules::new(alloc),
             absent: Held::Absent,
             alloc,
         })

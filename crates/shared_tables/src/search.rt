@@ -1,5 +1,6 @@
 //! What stands in a tree at a key.
 ghost use Rattle.std.specs.Prelude.{◌≡◌};
+ghost use Rattle.std.specs.Cmp.Lexicographic.{slice_cmp};
 ghost use Rattle.std.specs.Option.{option_copied, option_map};
 ghost use Rattle.std.specs.Map.Iter.{deref_pair};
 ghost use Rattle.spec_tables.specs.Tables.{IsTable, at_key, entries_from};
@@ -7,6 +8,7 @@ ghost use Rattle.shared_tables.specs.Rest.{head, entries_after};
 ghost use Rattle.shared_tables.specs.Trees.{link_entries};
 
 use crate::node::{Link, Node};
+use plain_data::Items;
 use std::cmp::Ordering;
 
 /// The value at a key.
@@ -21,6 +23,26 @@ pub(crate) fn found<'a, K: Ord, V>(tree: &'a Link<K, V>, key: &K) -> Option<&'a 
                 Ordering::Less => found(&node.before, key),
                 Ordering::Equal => Some(node.entry.value()),
                 Ordering::Greater => found(&node.after, key),
+            }
+        }
+    }
+}
+
+/// The value at the key that has these items.
+pub(crate) fn found_by_items<'a, T: Ord, V>(
+    tree: &'a Link<Items<T>, V>,
+    items: &[T],
+) -> Option<&'a V>
+    ensures { IsTable (slice_cmp T.cmp) (link_entries tree.now) → option_copied result ≡ at_key (slice_cmp T.cmp) items.now (link_entries tree.now) }
+{
+    match tree {
+        None => None,
+        Some(top) => {
+            let node: &Node<Items<T>, V> = top;
+            match items.cmp(node.entry.key().as_slice()) {
+                Ordering::Less => found_by_items(&node.before, items),
+                Ordering::Equal => Some(node.entry.value()),
+                Ordering::Greater => found_by_items(&node.after, items),
             }
         }
     }

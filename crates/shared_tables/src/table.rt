@@ -1,4 +1,5 @@
 ghost use Rattle.std.specs.Prelude.{◌≡◌, ◌↔◌, ◌<◌, ◌+◌, ◌^◌, [], cond, length, is_some, false, Ok, None, IfOk, OnOk, OnErr, IsTrue};
+ghost use Rattle.std.specs.Cmp.Lexicographic.{slice_cmp};
 ghost use Rattle.std.specs.Option.{option_copied, option_map};
 ghost use Rattle.std.specs.Map.Iter.{ShowsInOrder, deref_pair};
 ghost use Rattle.spec_tables.specs.Tables.{IsTable, at_key, with_key, without_key, with_value, entries_from};
@@ -10,8 +11,8 @@ use crate::exchange::exchange;
 use crate::insert::with_entry;
 use crate::node::{Link, shared};
 use crate::remove::without_entry;
-use crate::search::{first, first_after, first_from, found};
-use plain_data::ExactClone;
+use crate::search::{first, first_after, first_from, found, found_by_items};
+use plain_data::{ExactClone, Items};
 use std::alloc::{AllocError, Global};
 use std::marker::Model;
 
@@ -130,6 +131,15 @@ impl<K: Ord, V> SharedTable<K, V> {
         } else {
             Err(AllocError)
         }
+    }
+}
+
+impl<T: Ord, V> SharedTable<Items<T>, V> {
+    /// The value at the key that has these items, found by a search. So a part of a list is looked up without a list of its own.
+    pub fn get_by_items(&self, items: &[T]) -> Option<&V>
+        ensures { option_copied result ≡ at_key (slice_cmp T.cmp) items.now self.now }
+    {
+        found_by_items(&self.root, items)
     }
 }
 
