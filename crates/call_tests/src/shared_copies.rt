@@ -1,5 +1,5 @@
 //! Each call with ample memory, and copies that stay as they were.
-use plain_data::{copy, same};
+use plain_data::{Items, copy, same};
 use shared_tables::SharedTable;
 use std::alloc::Global;
 use std::test::Fail;
@@ -20,6 +20,24 @@ fn two_entries(alloc: Global) -> Result<SharedTable<u64, u64>, Fail> {
     table.insert(3, 30)?;
     table.insert(5, 50)?;
     Ok(table)
+}
+
+/// A key of 3 and 5.
+fn list_key(alloc: Global) -> Result<Items<u64>, Fail> {
+    let mut key = Items::new(alloc);
+    key.push(3)?;
+    key.push(5)?;
+    Ok(key)
+}
+
+#[test]
+fn a_key_that_is_a_list_is_found_by_its_items(rt: HostRuntime) -> Result<(), Fail> {
+    let mut table: SharedTable<Items<u64>, u64> = SharedTable::new(rt.alloc());
+    table.insert(list_key(rt.alloc())?, 35)?;
+    let finds = table.get_by_items(&[3, 5]) == Some(&35) && table.get_by_items(&[3]).is_none();
+    drop(table);
+    assert!(rt; finds);
+    Ok(())
 }
 
 #[test]
