@@ -9,9 +9,9 @@ the time. 65,537 batches are one more than a session takes; a script of the most
 stage has no more than 262,143 prims at its root. Of the batches on 131,072 prims, on many root prims and in worlds of many names the time
 without them is taken off, and of what is removed too.
 
-A batch copies the names of the root prims of the layer that it edits (`roots`), the load rules where it sets one (`rules`, but not `ruled`),
-and the names of the world (`names`): it takes the longer, the more of them there are, so that four times as many batches of a rule take up to
-sixteen times as long. So do four times as many removals (`removed`), each of which goes over the names beside.
+A batch copies the names of the root prims of the layer that it edits (`roots`) and the names of the world (`names`): it takes the longer, the
+more of them there are. Load rules it shares (`rules`, `ruled`). Four times as many removals (`removed`) take up to sixteen times as long, since
+each goes over the names beside.
 """
 from measure import Case, main, no_lines, path_in_tree, tree, unasked
 

@@ -1,2 +1,4 @@
 pub mod Machine
 pub mod Views
+pub mod Dates
+pub mod DatedViews

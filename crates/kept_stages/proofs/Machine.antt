@@ -9,7 +9,7 @@ neither : (a b : Bool) → (a || b) ≡ false → (a ≡ false) × (b ≡ false)
 neither true b h = absurd (true≢false h)
 neither false b h = (refl, h)
 
-some_same : {A : Type 0} (x y : A) → Some x ≡ Some y → x ≡ y
+pub some_same : {A : Type 0} (x y : A) → Some x ≡ Some y → x ≡ y
 some_same {A} x y e = ap of e
   where
     of : Option A → A
@@ -122,7 +122,7 @@ module _ {World Place Key Entry : Type 0} (entry_of : World → Place → Entry)
 
   -- ---- all events
 
-  after_event : (s : Stage) → Right s → (e : Event World Place) → Right (step entry_of reads_of listed same meets s e)
+  pub after_event : (s : Stage) → Right s → (e : Event World Place) → Right (step entry_of reads_of listed same meets s e)
   after_event s right (accepted v) = after_batch s right v
   after_event s right refused = right
   after_event s right (begun p) = after_begun s right p
@@ -134,7 +134,7 @@ module _ {World Place Key Entry : Type 0} (entry_of : World → Place → Entry)
   after_events s right [] = right
   after_events s right (e ∷ es) = after_events (step entry_of reads_of listed same meets s e) (after_event s right e) es
 
-  opened_right : (w : World) → Right (opened entry_of reads_of listed same meets w)
+  pub opened_right : (w : World) → Right (opened entry_of reads_of listed same meets w)
   opened_right w = record { cached = λ p k there unmarked. absurd cc; flying = λ p f there fresh. absurd cc }
 
   pub always_right : (w : World) (es : List (Event World Place)) → Right (run entry_of reads_of listed same meets (opened entry_of reads_of listed same meets w) es)
@@ -142,7 +142,7 @@ module _ {World Place Key Entry : Type 0} (entry_of : World → Place → Entry)
 
   -- ---- the world
 
-  same_world : (s : Stage) (p : Place) (o : Option (Flight Entry Key)) → (after_flight entry_of reads_of listed same meets s p o).world ≡ s.world
+  pub same_world : (s : Stage) (p : Place) (o : Option (Flight Entry Key)) → (after_flight entry_of reads_of listed same meets s p o).world ≡ s.world
   same_world s p None = refl
   same_world s p (Some f) = by f.is_stale
     where
@@ -198,7 +198,7 @@ module _ {World Place Key Entry : Type 0} (entry_of : World → Place → Entry)
   abbrev Published : Stage → ℕ → Type 0
   Published s levels = (q : Place) (below : List (Place × Entry)) → published entry_of reads_of listed same meets levels s q ≡ Some below → below ≡ walked_below entry_of listed levels s.world q
 
-  published_is : (s : Stage) → Right s → (levels : ℕ) (p : Place) (items : List (Place × Entry)) → published entry_of reads_of listed same meets levels s p ≡ Some items
+  pub published_is : (s : Stage) → Right s → (levels : ℕ) (p : Place) (items : List (Place × Entry)) → published entry_of reads_of listed same meets levels s p ≡ Some items
       → items ≡ walked_below entry_of listed levels s.world p
   unfolding published walked_below
   published_is s right zero p items h = sym (some_same [] items h)
