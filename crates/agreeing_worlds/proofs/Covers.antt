@@ -15,7 +15,7 @@ use Rattle.spec_parts.specs.declared.spec.Spec.{Spec}
 use Rattle.spec_properties.specs.Entries.{MetaEntries}
 use Rattle.composition.specs.Texts.{Text, first_of}
 use Rattle.composition.specs.Paths.{Path, Limits, up, levels, levels_of, has_selections}
-use Rattle.composition.specs.World.{World, Root, RootNames, rule_or_loaded, is_loaded}
+use Rattle.composition.specs.World.{World, Root, rule_or_loaded, is_loaded}
 use Rattle.composition.specs.Stacks.{LayerStack, stack}
 use Rattle.composition.specs.Arcs.{Opinion, opinions_at}
 use Rattle.composition.specs.Nodes.{Node, here, frame_at}
@@ -27,8 +27,9 @@ use Rattle.composition.specs.Merging.{merged_all}
 use Rattle.composition.specs.Fields.{Naming, names_of, listed_children, unlisted_children, children_naming}
 use Rattle.composition.specs.Faults.{sublayer, child_too_long, same_fault, Index, index, index_of, site_of, node_faults}
 use Rattle.composition.specs.Views.{PrimView, empty_view, head_meta, root_site, view_from, view_by_index, root_meta, root_naming, root_children, root_view, view}
-use Rattle.composition.specs.Keys.{KeyValue, load_value, head_value, arcs_value, body_value, roots_value, Key, load, head, body, keys_at, bodies_at, site_bodies, visits_for, prim_reads, reads, Agree}
+use Rattle.composition.specs.Keys.{Key, load, head, body, keys_at, bodies_at, site_bodies, visits_for, prim_reads, reads, Agree}
 use Rattle.agreeing_worlds.specs.Laws.{ReadsCover}
+use Rattle.agreeing_worlds.proofs.Values.{rule_in, body_in, roots_in}
 use Rattle.agreeing_worlds.proofs.Each.{Each, front_of, back_of, of_map, in_map, of_parts, weaker, same_parts}
 use Rattle.agreeing_worlds.proofs.Good.{Below}
 use Rattle.agreeing_worlds.proofs.Levels.{each_level, at_level, at_zero}
@@ -70,30 +71,9 @@ same_firsts {X} {Y} f g (x ∷ xs) h =
 
 -- ---- what stands at keys
 
-abbrev rule_in : KeyValue → Option Bool
-rule_in (load_value r) = r
-rule_in (head_value h root session) = None
-rule_in (arcs_value a) = None
-rule_in (body_value b) = None
-rule_in (roots_value r) = None
-
-abbrev body_in : KeyValue → Option BodyPart
-body_in (load_value r) = None
-body_in (head_value h root session) = None
-body_in (arcs_value a) = None
-body_in (body_value b) = b
-body_in (roots_value r) = None
-
-abbrev roots_in : KeyValue → Option RootNames
-roots_in (load_value r) = None
-roots_in (head_value h root session) = None
-roots_in (arcs_value a) = None
-roots_in (body_value b) = None
-roots_in (roots_value r) = r
-
 body_at : (w v : World) (q : Path) → Below q → (name : Text) → SameKey w v (body name q) → option_map (λ s. s.body) (w.spec name q) ≡ option_map (λ s. s.body) (v.spec name q)
 body_at w v [] h name same = absurd h
-body_at w v (e ∷ p) h name same = ap body_in same
+body_at w v (e ∷ p) h name same = ap (body_in None) same
 
 -- ---- load rules
 
@@ -208,7 +188,7 @@ module _ (l : Limits) (w v : World) (e : Element) (p : Path) (plain : list_all i
   rules_read j less =
       let each : Each (λ i. SameKey w v (load (up (e ∷ p) i))) (levels_of (e ∷ p)) =
       of_map (SameKey w v) (λ i. load (up (e ∷ p) i)) (levels_of (e ∷ p)) (front_of (SameKey w v) rule_keys (node_keys w) (front_of (SameKey w v) (rule_keys ++ node_keys w) body_keys read)) in
-      ap rule_in (at_level (λ i. SameKey w v (load (up (e ∷ p) i))) (levels (e ∷ p)) each j (subst (λ (n : ℕ). j < n) (sym (plain_levels e p plain)) less))
+      ap (rule_in None) (at_level (λ i. SameKey w v (load (up (e ∷ p) i))) (levels (e ∷ p)) each j (subst (λ (n : ℕ). j < n) (sym (plain_levels e p plain)) less))
 
   bodies_read : Each (SameKey w v) body_keys
   bodies_read = back_of (SameKey w v) (rule_keys ++ node_keys w) body_keys read
@@ -304,7 +284,7 @@ module _ (l : Limits) (w v : World) (read : Each (SameKey w v) (reads l w [])) w
 
   roots_read : Each (λ e. v.roots e.0 ≡ w.roots e.0) (stack l w Root).layers
   roots_read =
-      weaker (λ e. SameKey w v (body e.0 [])) (λ e. v.roots e.0 ≡ w.roots e.0) (λ e same. sym (ap roots_in same)) (stack l w Root).layers
+      weaker (λ e. SameKey w v (body e.0 [])) (λ e. v.roots e.0 ≡ w.roots e.0) (λ e same. sym (ap (roots_in None) same)) (stack l w Root).layers
       (of_map (SameKey w v) (λ e. body e.0 []) (stack l w Root).layers (back_of (SameKey w v) (map head (stack l w Root).asked) (bodies_at l w Root []) read))
 
   same_root_meta : root_meta l v ≡ root_meta l w

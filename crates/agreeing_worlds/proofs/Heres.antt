@@ -9,7 +9,6 @@ use Rattle.path_maps.specs.declared.kind.ArcKind.TheVariants.{Inherits, Variant,
 use Rattle.sdf_paths.specs.declared.element.Element.{Element}
 use Rattle.sdf_paths.specs.declared.element.Element.TheVariants.{Selection}
 use Rattle.sdf_values.specs.Scales.{Offset, composed}
-use Rattle.spec_parts.specs.declared.spec.ArcPart.{ArcPart}
 use Rattle.composition.specs.Names.{is_name, is_variant_name}
 use Rattle.composition.specs.Texts.{Text, same_text, find_at, both}
 use Rattle.composition.specs.Paths.{Path, Limits, fits, up, levels_of}
@@ -18,7 +17,8 @@ use Rattle.composition.specs.Stacks.{LayerStack, stack}
 use Rattle.composition.specs.Arcs.{Source, own, named, unanchored, Item, Reason, bad_target, offset_range, Outcome, leads, gives_no_arc, Authored, same_item, class_item, map_op, strongest_folded, is_no_target, or_default, leaves_range, outcome_at, outcome_in, outcome_from, Opinion, items_of, opinions_at, author_of, edits_of, variant_sets_of, selections_of, is_empty}
 use Rattle.composition.specs.Nodes.{Node, Here, Tried, Chosen, author, child_path, frame_at, refusal, fault_of, sublayers_of, is_looked_at, tried_item, tried_at, variant_target, chosen_at, said_at_levels, here}
 use Rattle.composition.specs.Faults.{wants_prim}
-use Rattle.composition.specs.Keys.{KeyValue, load_value, head_value, arcs_value, body_value, roots_value, value_of, Key, arcs, head, asked_if_present, asked_by_source, asked_at, keys_at}
+use Rattle.composition.specs.Keys.{value_of, Key, arcs, head, asked_if_present, asked_by_source, asked_at, keys_at}
+use Rattle.agreeing_worlds.proofs.Values.{arcs_in}
 use Rattle.agreeing_worlds.proofs.Each.{Each, front_of, back_of, of_map, in_map, of_parts, in_parts, of_kept, weaker, always, same_parts}
 use Rattle.agreeing_worlds.proofs.Folded.{Given, folded_each}
 use Rattle.agreeing_worlds.proofs.Good.{Below, GoodHere, GoodTried, GoodArc, GoodChosen, level_below, not_deepest}
@@ -222,16 +222,9 @@ module _ (l : Limits) (w v : World) (n : Node) (asks : Each (SameAt w v) (stack 
 abbrev pub SameKey : World → World → Key → Type 0
 SameKey w v key = value_of w key ≡ value_of v key
 
-abbrev arcs_in : KeyValue → Option ArcPart
-arcs_in (load_value r) = None
-arcs_in (head_value h root session) = None
-arcs_in (arcs_value a) = a
-arcs_in (body_value b) = None
-arcs_in (roots_value r) = None
-
 arcs_at : (w v : World) (q : Path) → Below q → (name : Text) → SameKey w v (arcs name q) → option_map (λ s. s.arcs) (w.spec name q) ≡ option_map (λ s. s.arcs) (v.spec name q)
 arcs_at w v [] h name same = absurd h
-arcs_at w v (e ∷ p) h name same = ap arcs_in same
+arcs_at w v (e ∷ p) h name same = ap (arcs_in None) same
 
 abbrev kinds : List ArcKind
 kinds = Inherits ∷ Reference ∷ Payload ∷ Specializes ∷ []

@@ -1,4 +1,5 @@
 pub mod Each
+pub mod Values
 pub mod Stacks
 pub mod Good
 pub mod Levels

@@ -1,5 +1,5 @@
 -- What stands at a key can be told apart: two values of which it is refuted that they differ are one.
-use Rattle.std.proofs.Common.{◌≡◌, refl, sym, ap, ◌∙◌, Bool, true, false, true≢false, Option}
+use Rattle.std.proofs.Common.{◌≡◌, refl, sym, ap, ◌∙◌, Bool, true, false, true≢false}
 use Rattle.std.specs.Coded.{Coded, codes, coded_option, coded_list, coded_ℕ, coded_bool}
 use Rattle.sdf_values.specs.Equality.{same_value, value_same, value_refl}
 use Rattle.sdf_values.specs.contracts.value.Value as of_value
@@ -8,10 +8,8 @@ use Rattle.spec_parts.specs.contracts.items.Refusal as of_refusal
 use Rattle.spec_parts.specs.contracts.spec.ArcPart as of_arcs
 use Rattle.spec_parts.specs.contracts.spec.BodyPart as of_body
 use Rattle.spec_parts.specs.declared.items.Refusal.{Refusal}
-use Rattle.spec_parts.specs.declared.spec.ArcPart.{ArcPart}
-use Rattle.spec_parts.specs.declared.spec.BodyPart.{BodyPart}
-use Rattle.composition.specs.Texts.{Text}
 use Rattle.composition.specs.World.{World, Heading, headed, no_layer, refused, LayerHead, RootNames}
+use Rattle.agreeing_worlds.proofs.Values.{rule_in, heading_in, root_in, session_in, arcs_in, body_in, roots_in}
 use Rattle.composition.specs.Keys.{Key, KeyValue, load_value, head_value, arcs_value, body_value, roots_value, value_of, IsChanged}
 
 -- two of which it is refuted that they differ are one
@@ -57,55 +55,6 @@ stable_heading (refused q) no_layer h = absurd (h (λ e. absurd cc))
 stable_heading (refused q) (refused r) h = ap refused (by_code of_refusal.the_row.coded q r (through (refusal_in q) (refused q) (refused r) h))
 
 -- ---- what stands at a key
-
-abbrev rule_in : Option Bool → KeyValue → Option Bool
-rule_in other (load_value r) = r
-rule_in other (head_value h root session) = other
-rule_in other (arcs_value a) = other
-rule_in other (body_value b) = other
-rule_in other (roots_value r) = other
-
-abbrev heading_in : Heading → KeyValue → Heading
-heading_in other (load_value r) = other
-heading_in other (head_value h root session) = h
-heading_in other (arcs_value a) = other
-heading_in other (body_value b) = other
-heading_in other (roots_value r) = other
-
-abbrev root_in : Text → KeyValue → Text
-root_in other (load_value r) = other
-root_in other (head_value h root session) = root
-root_in other (arcs_value a) = other
-root_in other (body_value b) = other
-root_in other (roots_value r) = other
-
-abbrev session_in : Option Text → KeyValue → Option Text
-session_in other (load_value r) = other
-session_in other (head_value h root session) = session
-session_in other (arcs_value a) = other
-session_in other (body_value b) = other
-session_in other (roots_value r) = other
-
-abbrev arcs_in : Option ArcPart → KeyValue → Option ArcPart
-arcs_in other (load_value r) = other
-arcs_in other (head_value h root session) = other
-arcs_in other (arcs_value a) = a
-arcs_in other (body_value b) = other
-arcs_in other (roots_value r) = other
-
-abbrev body_in : Option BodyPart → KeyValue → Option BodyPart
-body_in other (load_value r) = other
-body_in other (head_value h root session) = other
-body_in other (arcs_value a) = other
-body_in other (body_value b) = b
-body_in other (roots_value r) = other
-
-abbrev roots_in : Option RootNames → KeyValue → Option RootNames
-roots_in other (load_value r) = other
-roots_in other (head_value h root session) = other
-roots_in other (arcs_value a) = other
-roots_in other (body_value b) = other
-roots_in other (roots_value r) = r
 
 module _ (w v : World) where
   pub unchanged : (key : Key) → ¬ (IsChanged w v key) → value_of w key ≡ value_of v key

@@ -8,7 +8,8 @@ use Rattle.composition.specs.Paths.{Limits}
 use Rattle.composition.specs.Assets.{anchor}
 use Rattle.composition.specs.World.{World, Heading, identity, in_range, StackName, Root, Asset, first_layer}
 use Rattle.composition.specs.Stacks.{LayerStack, SublayerReason, sublayer_cycle, sublayer_missing, sublayer_offset, nothing_listed, with_layer, with_fault, with_asked, is_listed, sublayers_of, not_held, not_followed, Listing, with_sublayer, listed, from_layer, stack}
-use Rattle.composition.specs.Keys.{KeyValue, load_value, head_value, arcs_value, body_value, roots_value, value_of, head}
+use Rattle.composition.specs.Keys.{value_of, head}
+use Rattle.agreeing_worlds.proofs.Values.{heading_in, root_in, session_in}
 use Rattle.agreeing_worlds.proofs.Each.{Each, front_of, back_of, of_map, weaker}
 
 -- ---- what a sublayer makes of a stack so far, by its name and the reason against it
@@ -180,27 +181,6 @@ module _ (l : Limits) (w v : World) where
   same_stack (Asset name) h = same_from name nothing_listed h
 
 -- ---- heads as keys
-
-abbrev heading_in : Heading → KeyValue → Heading
-heading_in other (load_value r) = other
-heading_in other (head_value h root session) = h
-heading_in other (arcs_value a) = other
-heading_in other (body_value b) = other
-heading_in other (roots_value n) = other
-
-abbrev root_in : Text → KeyValue → Text
-root_in other (load_value r) = other
-root_in other (head_value h root session) = root
-root_in other (arcs_value a) = other
-root_in other (body_value b) = other
-root_in other (roots_value n) = other
-
-abbrev session_in : Option Text → KeyValue → Option Text
-session_in other (load_value r) = other
-session_in other (head_value h root session) = session
-session_in other (arcs_value a) = other
-session_in other (body_value b) = other
-session_in other (roots_value n) = other
 
 pub same_head : (w v : World) (name : Text) → value_of w (head name) ≡ value_of v (head name) → SameAt w v name
 same_head w v name e = (ap (heading_in (w.heading name)) e, ap (root_in w.root) e, ap (session_in w.session) e)

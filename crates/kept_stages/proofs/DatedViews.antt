@@ -1,5 +1,5 @@
 -- The dates of a kept stage of views are those of composition.
-use Rattle.std.proofs.Common.{◌≡◌, ◌⊎◌, inl, inr, refl, sym, ap, ◌∙◌, subst, ℕ, zero, suc, Bool, true, false, true≢false, not, ◌||◌, List, [], ◌∷◌, ◌++◌, map, flat_map, length, Contains}
+use Rattle.std.proofs.Common.{◌≡◌, ◌⊎◌, inl, inr, refl, sym, ap, ◌∙◌, subst, ℕ, zero, suc, Bool, true, false, true≢false, not, List, [], ◌∷◌, ◌++◌, map, flat_map, length, Contains}
 use Rattle.std.specs.List.{list_any}
 use Rattle.std.proofs.lemmas.List.Elements.{All-contains}
 use Rattle.compose_api.specs.Stage.{walked as walked_below}
@@ -14,6 +14,8 @@ use Rattle.composition.proofs.Members.{none_in, head_in, tail_in, cases_in}
 use Rattle.composition.proofs.Same.{path_same, path_itself}
 use Rattle.kept_stages.specs.Laws.{children_of}
 use Rattle.kept_stages.specs.Dates.{Version, on_stage, touched_along, dated_anew, since}
+use Rattle.kept_stages.proofs.Dates.{or_cases}
+use Rattle.kept_stages.proofs.Machine.{neither}
 use Rattle.kept_stages.specs.DatedViews.{TellsExactly, version_of, ViewsAreDated}
 
 -- ---- the walk
@@ -46,14 +48,6 @@ module _ (l : Limits) (w : World) where
       ∙ ap (λ (rest : List (Path × PrimView)). (p, view l w p) ∷ rest) (by_names n p (λ name. same_walk n (child_path p name)) (view l w p).children)
 
 -- ---- places on it
-
-or_cases : (a b : Bool) → (a || b) ≡ true → (a ≡ true) ⊎ (b ≡ true)
-or_cases true b h = inl refl
-or_cases false b h = inr h
-
-neither : (a b : Bool) → (a || b) ≡ false → (a ≡ false) × (b ≡ false)
-neither true b h = absurd (true≢false h)
-neither false b h = (refl, h)
 
 found : (p : Path) (items : List (Path × PrimView)) → list_any (λ e. same_path e.0 p) items ≡ true → Contains (map (λ (e : Path × PrimView). e.0) items) p
 found p [] h = absurd (true≢false (sym h))

@@ -24,7 +24,7 @@ or_lifted m true x more h = refl
 or_lifted true false x more h = absurd (true≢false (sym (more refl)))
 or_lifted false false x more h = h
 
-or_cases : (a b : Bool) → (a || b) ≡ true → (a ≡ true) ⊎ (b ≡ true)
+pub or_cases : (a b : Bool) → (a || b) ≡ true → (a ≡ true) ⊎ (b ≡ true)
 or_cases true b h = inl refl
 or_cases false b h = inr h
 

@@ -5,7 +5,7 @@ use Rattle.compose_api.specs.Stage.{walked as walked_below}
 use Rattle.kept_stages.specs.Machine.{Kept, Flight, State, Event, accepted, refused, begun, ended, given_up, forgotten, with_value, all_joined, composed, meets_kept, flight_after, after_flight, step, run, opened, clean, published, world_after}
 use Rattle.kept_stages.specs.Laws.{AreComposed, IsRight, KeptIsComposed}
 
-neither : (a b : Bool) → (a || b) ≡ false → (a ≡ false) × (b ≡ false)
+pub neither : (a b : Bool) → (a || b) ≡ false → (a ≡ false) × (b ≡ false)
 neither true b h = absurd (true≢false h)
 neither false b h = (refl, h)
 
