@@ -360,7 +360,7 @@ module _ {World Place Key Entry : Type 0} (entry_of : World → Place → Entry)
   always_right w hs = (always w hs).right
 
   places_by : (d : Told) (vs : List (Version World)) → History vs d.steps d.state.world d.dates d.touched → DatesItsStage on d vs
-  places_by d [] h = tt
+  places_by d [] h = λ p. ap is_some (h p)
   places_by d (new ∷ older) h = h.2
 
   pub always_there : (w : World) (hs : List (Happening World Place))

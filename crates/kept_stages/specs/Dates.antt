@@ -107,12 +107,12 @@ module _ {World Place Key Entry : Type 0} (entry_of : World → Place → Entry)
     steps = [];
   }
 
--- the newest version has dates for the places on its stage, and for no others
+-- the newest version has dates for the places on its stage, and for no others; before the first there are none
 abbrev pub DatesItsStage : {World Place Key Entry : Type 0} → (World → Place → Bool) → Dated World Place Key Entry → List (Version World) → Type 0
-DatesItsStage on d [] = Unit {0}
+DatesItsStage {World} {Place} on d [] = (p : Place) → is_some (d.dates p) ≡ false
 DatesItsStage {World} {Place} on d (new ∷ older) = (p : Place) → is_some (d.dates p) ≡ on new.world p
 
--- whatever is composed, and whatever befalls it
+-- whatever is composed, and whatever befalls it but that something is forgotten between two publishes
 pub record DatesAreRight (World Place Key Entry : Type 0) : Type 0 where
   -- what is kept stays right
   pub right : (entry_of : World → Place → Entry) (reads_of : World → Place → List Key) (listed : Place → Entry → List Place) (same : Place → Place → Bool) (meets : World → World → List Key → Bool)

@@ -15,8 +15,9 @@ pub fn views_are_settled_by_what_they_read()
     ensures { ViewsAreComposed }
 {}
 
-/// So it is with dates, whatever is composed and whatever befalls it: what is told from what is kept, that a batch changed something of what a
-/// place read since the last version, gives the dates that the worlds of the versions tell.
+/// So it is with dates, whatever is composed and whatever befalls it but that something is forgotten between two publishes: what is told from
+/// what is kept, that a batch changed something of what a place read since the last version, gives the dates that the worlds of the versions
+/// tell.
 pub fn the_dates_of_a_kept_stage_are_right<World, Place, Key, Entry>()
     ensures { DatesAreRight World Place Key Entry }
 {}
