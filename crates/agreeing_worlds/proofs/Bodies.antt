@@ -1,6 +1,7 @@
 -- The view of a prim is told by what its opinions say apart from arcs.
 use Rattle.std.proofs.Common.{◌≡◌, refl, sym, ap, ◌∙◌, Bool, true, false, cond, not, List, [], ◌∷◌, ◌++◌, map, flat_map, filter, Option, Some, None}
 use Rattle.std.specs.List.{list_any, cons_option}
+use Rattle.std.proofs.lemmas.List.{map-append}
 use Rattle.list_ops.specs.ListEdits.{firsts}
 use Rattle.list_ops.specs.Opinions.{is_opinion}
 use Rattle.list_ops.specs.declared.op.ListOp.{ListOp}
@@ -53,10 +54,6 @@ module _ {X : Type 0} (r : X → X) where
     any_after [] = refl
     any_after (x ∷ xs) = let rest : list_any test (map r xs) ≡ list_any test xs = any_after xs in λ i. Rattle.std.specs.Prelude.◌||◌ (blind x i) (rest i)
 
-pub map_joined : {X Y : Type 0} (f : X → Y) (xs ys : List X) → map f (xs ++ ys) ≡ map f xs ++ map f ys
-map_joined f [] ys = refl
-map_joined f (x ∷ xs) ys = ap (λ zs. f x ∷ zs) (map_joined f xs ys)
-
 -- ---- opinions without arcs
 
 -- what a layer says of a prim, without its arcs
@@ -78,7 +75,7 @@ bare_specs name (s ∷ said) =
     let here : if_there (bare s) (property_at name s.spec.body.properties) ≡ map bare_property (if_there s (property_at name s.spec.body.properties)) =
     bare_there s (property_at name s.spec.body.properties) in
     let rest : specs_of name (map bare said) ≡ map bare_property (specs_of name said) = bare_specs name said in
-    (λ i. here i ++ rest i) ∙ sym (map_joined bare_property (if_there s (property_at name s.spec.body.properties)) (specs_of name said))
+    (λ i. here i ++ rest i) ∙ sym (map-append bare_property (if_there s (property_at name s.spec.body.properties)) (specs_of name said))
 
 bare_counting : (ps : List PropertySaid) → counting (map bare_property ps) ≡ map bare_property (counting ps)
 bare_counting [] = refl

@@ -3,6 +3,7 @@ use Rattle.std.proofs.Common.{◌≡◌, ◌⊎◌, inl, inr, refl, sym, ap, ◌
 use Rattle.std.specs.List.{list_all, cons_option}
 use Rattle.std.specs.Option.{option_map}
 use Rattle.std.proofs.lemmas.Bool.{cases_lt}
+use Rattle.std.proofs.lemmas.List.{map-append}
 use Rattle.std.proofs.lemmas.List.Elements.{recursion_from_All}
 use Rattle.list_ops.specs.ListEdits.{firsts}
 use Rattle.sdf_paths.specs.declared.element.Element.{Element}
@@ -37,7 +38,7 @@ use Rattle.agreeing_worlds.proofs.Stacks.{SameAt, same_stack, same_heads, first_
 use Rattle.agreeing_worlds.proofs.Heres.{SameKey, good_here, same_here, same_keys_here, stack_here}
 use Rattle.agreeing_worlds.proofs.Growing.{AndBelow, same_stage_tree, same_stage_visits, covers_stage}
 use Rattle.agreeing_worlds.proofs.Sites.{in_sites}
-use Rattle.agreeing_worlds.proofs.Bodies.{map_joined, bare, bare_view}
+use Rattle.agreeing_worlds.proofs.Bodies.{bare, bare_view}
 
 -- ---- fronts of a path
 
@@ -150,7 +151,7 @@ module _ (l : Limits) (w v : World) where
       let others : List Key = flat_map (λ x. bodies_at l w x.stack x.path) ss in
       let one : map bare (said_at l v s) ≡ map bare (said_at l w s) = same_said_at s good.0 (front_of (SameKey w v) mine others h) in
       let rest : map bare (said_at_all l v ss) ≡ map bare (said_at_all l w ss) = same_said ss good.1 (back_of (SameKey w v) mine others h) in
-      map_joined bare (said_at l v s) (said_at_all l v ss) ∙ (λ i. one i ++ rest i) ∙ sym (map_joined bare (said_at l w s) (said_at_all l w ss))
+      map-append bare (said_at l v s) (said_at_all l v ss) ∙ (λ i. one i ++ rest i) ∙ sym (map-append bare (said_at l w s) (said_at_all l w ss))
 
   abbrev GoodIndex : Option Index → Type 0
   GoodIndex None = Unit {0}
