@@ -1,6 +1,7 @@
 -- What says nothing of a list leaves it as it is, but for repeats, and those are dropped once.
-use Rattle.std.proofs.Common.{◌≡◌, ◌∙◌, ap, sym, refl, ℕ, ◌+◌, ◌<◌, Bool, true, false, not, cond, ◌||◌, List, [], ◌∷◌, filter, length, drop, get_or, Option, Some, None, append-nil}
-use Rattle.std.proofs.lemmas.List.{at_drop_more}
+use Rattle.std.proofs.Common.{◌≡◌, ◌∙◌, ap, sym, refl, ℕ, ◌+◌, ◌<◌, ◌==◌, Bool, true, false, not, cond, ◌||◌, List, [], ◌∷◌, filter, length, drop, get_or, Option, Some, None, append-nil, arith}
+use Rattle.std.proofs.lemmas.Bool.Decides.{nat_tests}
+use Rattle.std.proofs.lemmas.List.{at_drop_more, nil_from_length}
 use Rattle.list_ops.specs.declared.op.ListOp.{ListOp}
 use Rattle.list_ops.specs.ListEdits.{contains, without, firsts, until_listed, grouped, with_deleted, with_added, with_prepended, with_appended, edited, applied, all_applied}
 use Rattle.list_ops.specs.Opinions.{has_items, has_edits, is_opinion}
@@ -22,6 +23,33 @@ module _ {T : Type 0} (same : T → T → Bool) where
 
   no_append : (xs : List T) → with_appended same [] xs ≡ xs
   no_append xs = append-nil (without same xs []) ∙ without_none same xs
+
+  -- a list of length 0 has no items
+  none_of : (xs : List T) → (length xs == 0) ≡ true → xs ≡ []
+  none_of xs h = nil_from_length xs (zero (length xs) h)
+    where
+      zero : (n : ℕ) → (n == 0) ≡ true → n ≡ 0
+      zero n is = grind (arith, nat_tests)
+
+  -- an edit without items, as the length of its list tells
+  pub nothing_deleted : (d xs : List T) → (length d == 0) ≡ true → firsts same xs ≡ with_deleted same d xs
+  nothing_deleted d xs h = sym (ap (λ l. with_deleted same l xs) (none_of d h) ∙ without_none same (firsts same xs))
+
+  pub nothing_added : (a xs : List T) → (length a == 0) ≡ true → xs ≡ with_added same a xs
+  nothing_added a xs h = sym (ap (λ l. with_added same l xs) (none_of a h) ∙ append-nil xs)
+
+  pub nothing_prepended : (p xs : List T) → (length p == 0) ≡ true → xs ≡ with_prepended same p xs
+  nothing_prepended p xs h = sym (ap (λ l. with_prepended same l xs) (none_of p h) ∙ without_none same xs)
+
+  pub nothing_appended : (b xs : List T) → (length b == 0) ≡ true → xs ≡ with_appended same b xs
+  nothing_appended b xs h = sym (ap (λ l. with_appended same l xs) (none_of b h) ∙ no_append xs)
+
+  pub nothing_ordered : (o xs : List T) → (length o == 0) ≡ true → xs ≡ grouped same (firsts same o) xs
+  nothing_ordered o xs h = sym (ap (λ l. grouped same (firsts same l) xs) (none_of o h) ∙ no_order xs)
+
+  -- what is added to the empty list
+  pub added_to_none : (a xs : List T) → xs ≡ [] → firsts same a ≡ with_added same a xs
+  added_to_none a xs none = sym (without_none same (firsts same a)) ∙ ap (with_added same a) (sym none)
 
   no_edits_with : (o b p a d xs : List T) → has_items d ≡ false → has_items a ≡ false → has_items p ≡ false → has_items b ≡ false → has_items o ≡ false
       → grouped same (firsts same o) (with_appended same b (with_prepended same p (with_added same a (with_deleted same d xs)))) ≡ firsts same xs

@@ -1,10 +1,10 @@
 //! Edits of lists, over any way to look up where items stand.
-ghost use Rattle.std.specs.Prelude.{◌≡◌, ◌++◌, ◌<◌, IfOk, OnOk, IfSome, length, take};
+ghost use Rattle.std.specs.Prelude.{◌≡◌, ◌++◌, ◌<◌, false, IfOk, OnOk, IfSome, length, take};
 ghost use Rattle.std.specs.List.{position_from};
 ghost use Rattle.list_ops.specs.ListEdits.{contains, without, firsts, until_listed, group_of, group_at, grouped, reordered, with_deleted, with_added, with_prepended, with_appended, edited, applied, folded};
 
 use crate::op::ListOp;
-use crate::places::Places;
+use crate::places::{FEW, Places, place_in};
 use plain_data::{ExactClone, Items, copy};
 use std::alloc::{AllocError, Global};
 
@@ -21,7 +21,7 @@ pub fn fold<P: Places<T>, T: Eq + ExactClone + Drop>(
     for op in ops {
         let is_opinion = op.is_opinion();
         if is_opinion || !is_once {
-            list = applied::<P, T>(alloc, op, list.as_slice())?;
+            list = applied::<P, T>(alloc, op, list)?;
             is_once = !is_opinion;
         }
     }
@@ -45,9 +45,9 @@ pub fn reordered<P: Places<T>, T: Eq + ExactClone + Drop>(
 pub fn applied<P: Places<T>, T: Eq + ExactClone + Drop>(
     alloc: Global,
     op: &ListOp<T>,
-    list: &[T],
+    list: Items<T>,
 ) -> Result<Items<T>, AllocError>
-    ensures { IfOk result (λ next. next ≡ applied T.eq op.now list.now) }
+    ensures { IfOk result (λ next. next ≡ applied T.eq op.now list) }
 {
     match &op.explicit {
         Some(items) => firsts::<P, T>(alloc, items.as_slice()),
@@ -55,29 +55,32 @@ pub fn applied<P: Places<T>, T: Eq + ExactClone + Drop>(
     }
 }
 
+/// What an opinion that is not explicit makes of a list.
 fn edited<P: Places<T>, T: Eq + ExactClone + Drop>(
     alloc: Global,
     op: &ListOp<T>,
-    list: &[T],
+    list: Items<T>,
 ) -> Result<Items<T>, AllocError>
-    ensures { IfOk result (λ next. next ≡ edited T.eq op.now list.now) }
+    ensures { IfOk result (λ next. next ≡ edited T.eq op.now list) }
 {
     let kept = with_deleted::<P, T>(alloc, op.deleted.as_slice(), list)?;
     let more = with_added::<P, T>(alloc, op.added.as_slice(), kept)?;
-    let front = with_prepended::<P, T>(alloc, op.prepended.as_slice(), more.as_slice())?;
-    let back = with_appended::<P, T>(alloc, op.appended.as_slice(), front.as_slice())?;
-    let order = firsts::<P, T>(alloc, op.ordered.as_slice())?;
-    grouped::<P, T>(alloc, order.as_slice(), back.as_slice())
+    let front = with_prepended::<P, T>(alloc, op.prepended.as_slice(), more)?;
+    let back = with_appended::<P, T>(alloc, op.appended.as_slice(), front)?;
+    in_order::<P, T>(alloc, op.ordered.as_slice(), back)
 }
 
 fn with_deleted<P: Places<T>, T: Eq + ExactClone + Drop>(
     alloc: Global,
     deleted: &[T],
-    list: &[T],
+    list: Items<T>,
 ) -> Result<Items<T>, AllocError>
-    ensures { IfOk result (λ next. next ≡ with_deleted T.eq deleted.now list.now) }
+    ensures { IfOk result (λ next. next ≡ with_deleted T.eq deleted.now list) }
 {
-    let list = firsts::<P, T>(alloc, list)?;
+    let list = once::<P, T>(alloc, list)?;
+    if deleted.is_empty() {
+        return Ok(list);
+    }
     let deleted = firsts::<P, T>(alloc, deleted)?;
     without::<P, T>(alloc, list.as_slice(), deleted.as_slice())
 }
@@ -89,7 +92,13 @@ fn with_added<P: Places<T>, T: Eq + ExactClone + Drop>(
 ) -> Result<Items<T>, AllocError>
     ensures { IfOk result (λ next. next ≡ with_added T.eq added.now list) }
 {
+    if added.is_empty() {
+        return Ok(list);
+    }
     let added = firsts::<P, T>(alloc, added)?;
+    if list.is_empty() {
+        return Ok(added);
+    }
     let absent = without::<P, T>(alloc, added.as_slice(), list.as_slice())?;
     joined(list, absent.as_slice())
 }
@@ -97,25 +106,46 @@ fn with_added<P: Places<T>, T: Eq + ExactClone + Drop>(
 fn with_prepended<P: Places<T>, T: Eq + ExactClone + Drop>(
     alloc: Global,
     prepended: &[T],
-    list: &[T],
+    list: Items<T>,
 ) -> Result<Items<T>, AllocError>
-    ensures { IfOk result (λ next. next ≡ with_prepended T.eq prepended.now list.now) }
+    ensures { IfOk result (λ next. next ≡ with_prepended T.eq prepended.now list) }
 {
+    if prepended.is_empty() {
+        return Ok(list);
+    }
     let prepended = firsts::<P, T>(alloc, prepended)?;
-    let behind = without::<P, T>(alloc, list, prepended.as_slice())?;
+    let behind = without::<P, T>(alloc, list.as_slice(), prepended.as_slice())?;
     joined(prepended, behind.as_slice())
 }
 
 fn with_appended<P: Places<T>, T: Eq + ExactClone + Drop>(
     alloc: Global,
     appended: &[T],
-    list: &[T],
+    list: Items<T>,
 ) -> Result<Items<T>, AllocError>
-    ensures { IfOk result (λ next. next ≡ with_appended T.eq appended.now list.now) }
+    ensures { IfOk result (λ next. next ≡ with_appended T.eq appended.now list) }
 {
+    if appended.is_empty() {
+        return Ok(list);
+    }
     let appended = firsts::<P, T>(alloc, appended)?;
-    let before = without::<P, T>(alloc, list, appended.as_slice())?;
+    let before = without::<P, T>(alloc, list.as_slice(), appended.as_slice())?;
     joined(before, appended.as_slice())
+}
+
+/// The groups of listed items in the order in which they are listed; the items themselves where none is listed.
+fn in_order<P: Places<T>, T: Eq + ExactClone + Drop>(
+    alloc: Global,
+    ordered: &[T],
+    list: Items<T>,
+) -> Result<Items<T>, AllocError>
+    ensures { IfOk result (λ next. next ≡ grouped T.eq (firsts T.eq ordered.now) list) }
+{
+    if ordered.is_empty() {
+        return Ok(list);
+    }
+    let order = firsts::<P, T>(alloc, ordered)?;
+    grouped::<P, T>(alloc, order.as_slice(), list.as_slice())
 }
 
 /// The items, and then copies of more.
@@ -139,18 +169,18 @@ pub fn push_all<T: ExactClone + Drop>(out: &mut Items<T>, items: &[T]) -> Result
 
 /// Whether an item is in the list that `places` speaks of.
 fn stands<P: Places<T>, T: Eq>(places: &P, items: &[T], item: &T) -> bool
-    requires { (x : T) → P.place_of places.now x ≡ position_from (λ y. T.eq y x) 0 items.now }
+    requires { (x : T) → P.place_of places.now items.now x ≡ position_from (λ y. T.eq y x) 0 items.now }
     ensures { result ≡ contains T.eq items.now item.now }
 {
-    places.place(item).is_some()
+    places.place(items, item).is_some()
 }
 
 /// Whether an item is in the list before a place.
 fn stands_before<P: Places<T>, T: Eq>(places: &P, items: &[T], at: usize, item: &T) -> bool
-    requires { (x : T) → P.place_of places.now x ≡ position_from (λ y. T.eq y x) 0 items.now }
+    requires { (x : T) → P.place_of places.now items.now x ≡ position_from (λ y. T.eq y x) 0 items.now }
     ensures { result ≡ contains T.eq (take at items.now) item.now }
 {
-    match places.place(item) {
+    match places.place(items, item) {
         Some(first) => first < at,
         None => false,
     }
@@ -191,6 +221,38 @@ pub fn firsts<P: Places<T>, T: Eq + ExactClone + Drop>(
     Ok(kept)
 }
 
+/// The first of each item: of few items without a repeat the list itself, of which nothing is copied.
+pub fn once<P: Places<T>, T: Eq + ExactClone + Drop>(
+    alloc: Global,
+    items: Items<T>,
+) -> Result<Items<T>, AllocError>
+    ensures { IfOk result (λ kept. kept ≡ firsts T.eq items) }
+{
+    if items.len() <= FEW && !has_repeats(items.as_slice()) {
+        return Ok(items);
+    }
+    firsts::<P, T>(alloc, items.as_slice())
+}
+
+/// Whether an item stands again behind itself, told by comparing each with those before it.
+fn has_repeats<T: Eq>(items: &[T]) -> bool
+    ensures { result ≡ false → firsts T.eq items.now ≡ items.now }
+{
+    for i in 0..items.len() {
+        if is_among(&items[..i], &items[i]) {
+            return true;
+        }
+    }
+    false
+}
+
+/// Whether an item is in a list, told by going through it.
+fn is_among<T: Eq>(items: &[T], item: &T) -> bool
+    ensures { result ≡ contains T.eq items.now item.now }
+{
+    place_in(items, item).is_some()
+}
+
 /// The unlisted items before the first group, and then the groups in listed order.
 fn grouped<P: Places<T>, T: Eq + ExactClone + Drop>(
     alloc: Global,
@@ -211,11 +273,11 @@ fn grouped<P: Places<T>, T: Eq + ExactClone + Drop>(
 
 /// The first place of an item in the list that `places` speaks of.
 fn place<P: Places<T>, T: Eq>(places: &P, items: &[T], item: &T) -> Option<usize>
-    requires { (x : T) → P.place_of places.now x ≡ position_from (λ y. T.eq y x) 0 items.now }
+    requires { (x : T) → P.place_of places.now items.now x ≡ position_from (λ y. T.eq y x) 0 items.now }
     ensures at { result ≡ position_from (λ y. T.eq y item.now) 0 items.now }
     ensures within { IfSome result (λ at. at < length items.now) }
 {
-    places.place(item)
+    places.place(items, item)
 }
 
 /// Appends copies of the items before the first listed one.
@@ -225,7 +287,7 @@ fn push_until_listed<P: Places<T>, T: Eq + ExactClone + Drop>(
     order: &[T],
     items: &[T],
 ) -> Result<(), AllocError>
-    requires { (x : T) → P.place_of listed.now x ≡ position_from (λ y. T.eq y x) 0 order.now }
+    requires { (x : T) → P.place_of listed.now order.now x ≡ position_from (λ y. T.eq y x) 0 order.now }
     ensures { OnOk result (out.new ≡ out.old ++ until_listed T.eq order.now items.now) }
 {
     for item in items {
@@ -246,8 +308,8 @@ fn push_group_of<P: Places<T>, T: Eq + ExactClone + Drop>(
     items: &[T],
     item: &T,
 ) -> Result<(), AllocError>
-    requires listed { (x : T) → P.place_of listed.now x ≡ position_from (λ y. T.eq y x) 0 order.now }
-    requires places { (x : T) → P.place_of places.now x ≡ position_from (λ y. T.eq y x) 0 items.now }
+    requires listed { (x : T) → P.place_of listed.now order.now x ≡ position_from (λ y. T.eq y x) 0 order.now }
+    requires places { (x : T) → P.place_of places.now items.now x ≡ position_from (λ y. T.eq y x) 0 items.now }
     ensures { OnOk result (out.new ≡ out.old ++ group_of T.eq order.now items.now item.now) }
 {
     let Some(at) = place(places, items, item) else {
@@ -265,7 +327,7 @@ fn push_group<P: Places<T>, T: Eq + ExactClone + Drop>(
     items: &[T],
     at: usize,
 ) -> Result<(), AllocError>
-    requires listed { (x : T) → P.place_of listed.now x ≡ position_from (λ y. T.eq y x) 0 order.now }
+    requires listed { (x : T) → P.place_of listed.now order.now x ≡ position_from (λ y. T.eq y x) 0 order.now }
     requires within { at < length items.now }
     ensures { OnOk result (out.new ≡ out.old ++ group_at T.eq order.now items.now at) }
 {

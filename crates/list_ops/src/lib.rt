@@ -8,4 +8,4 @@ mod op;
 mod places;
 
 pub use edits::push_all;
-pub use op::{ListOp, firsts_ordered, fold, fold_ordered, reorder, reorder_ordered};
+pub use op::{ListOp, firsts_ordered, fold, fold_ordered, once_ordered, reorder, reorder_ordered};

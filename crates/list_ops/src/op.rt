@@ -1,9 +1,9 @@
 ghost use Rattle.std.specs.Prelude.{◌≡◌, IfOk, OnOk, OnErr};
-ghost use Rattle.list_ops.specs.ListEdits.{firsts, folded, reordered};
+ghost use Rattle.list_ops.specs.ListEdits.{applied, firsts, folded, reordered};
 ghost use Rattle.list_ops.specs.Opinions.{has_items};
 
 use crate::edits;
-use crate::places::{Scanned, Sorted};
+use crate::places::{Places, Scanned, Sorted};
 use plain_data::{ExactClone, ExactEq, ExactOrd, Items};
 use std::alloc::{AllocError, Global};
 
@@ -74,8 +74,7 @@ impl<T: ExactEq + ExactClone + Drop> ListOp<T> {
         ensures ok { OnOk result (list.new.items ≡ applied T.eq self.now list.old.items) }
         ensures err { OnErr result (list.new.items ≡ list.old.items) }
     {
-        let next = edits::applied::<Scanned<T>, T>(*list.allocator(), self, list.as_slice())?;
-        *list = next.into_vec();
+        *list = applied::<Scanned, T>(*list.allocator(), self, list.as_slice())?;
         Ok(())
     }
 }
@@ -88,10 +87,22 @@ impl<T: ExactEq + ExactOrd + ExactClone + Drop> ListOp<T> {
         ensures ok { OnOk result (list.new.items ≡ applied T.eq self.now list.old.items) }
         ensures err { OnErr result (list.new.items ≡ list.old.items) }
     {
-        let next = edits::applied::<Sorted<T>, T>(*list.allocator(), self, list.as_slice())?;
-        *list = next.into_vec();
+        *list = applied::<Sorted<T>, T>(*list.allocator(), self, list.as_slice())?;
         Ok(())
     }
+}
+
+/// What the opinion makes of a copy of the list.
+fn applied<P: Places<T>, T: Eq + ExactClone + Drop>(
+    alloc: Global,
+    op: &ListOp<T>,
+    list: &[T],
+) -> Result<Vec<T>, AllocError>
+    ensures { IfOk result (λ next. next.items ≡ applied T.eq op.now list.now) }
+{
+    let mut copied = Items::new(alloc);
+    edits::push_all(&mut copied, list)?;
+    Ok(edits::applied::<P, T>(alloc, op, copied)?.into_vec())
 }
 
 /// Whether there is an item.
@@ -112,7 +123,7 @@ pub fn fold<T: ExactEq + ExactClone + Drop>(
 ) -> Result<Vec<T>, AllocError>
     ensures { IfOk result (λ list. list.items ≡ folded T.eq ops.now) }
 {
-    Ok(edits::fold::<Scanned<T>, T>(alloc, ops)?.into_vec())
+    Ok(edits::fold::<Scanned, T>(alloc, ops)?.into_vec())
 }
 
 /// Like `fold`, by an order of the items.
@@ -135,6 +146,16 @@ pub fn firsts_ordered<T: ExactEq + ExactOrd + ExactClone + Drop>(
     edits::firsts::<Sorted<T>, T>(alloc, items)
 }
 
+/// Like `firsts_ordered`, of a list that is handed over: where it is short and has no repeat, it is the list itself, and nothing is copied.
+pub fn once_ordered<T: ExactEq + ExactOrd + ExactClone + Drop>(
+    alloc: Global,
+    items: Items<T>,
+) -> Result<Items<T>, AllocError>
+    ensures { IfOk result (λ kept. kept ≡ firsts T.eq items) }
+{
+    edits::once::<Sorted<T>, T>(alloc, items)
+}
+
 /// Puts the groups of the listed items into listed order. A group is a listed item and the unlisted
 /// ones that follow it; unlisted items before the first group stay in front. The time grows with the
 /// product of the lengths; `reorder_ordered` is faster.
@@ -145,7 +166,7 @@ pub fn reorder<T: ExactEq + ExactClone + Drop>(
     ensures ok { OnOk result (list.new.items ≡ reordered T.eq order.now list.old.items) }
     ensures err { OnErr result (list.new.items ≡ list.old.items) }
 {
-    let next = edits::reordered::<Scanned<T>, T>(*list.allocator(), order, list.as_slice())?;
+    let next = edits::reordered::<Scanned, T>(*list.allocator(), order, list.as_slice())?;
     *list = next.into_vec();
     Ok(())
 }

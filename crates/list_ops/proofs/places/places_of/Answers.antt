@@ -1,7 +1,7 @@
 use Rattle.std.proofs.Common.{sym}
 use Rattle.std.specs.BTreeMap.{get}
 use Rattle.plain_data.proofs.FirstPlaces.{noted}
-use Rattle.list_ops.proofs.places.SortedPlaces.of.Goals as goal
+use Rattle.list_ops.proofs.places.places_of.Goals as goal
 
 pub loop-i-preserved : goal.loop-i-preserved
 loop-i-preserved g c =
