@@ -5,7 +5,7 @@ ghost use Rattle.list_ops.specs.ListEdits.{folded, firsts};
 ghost use Rattle.list_ops.specs.Opinions.{is_opinion};
 ghost use Rattle.field_resolve.specs.Folding.{folded_texts, texts_once, if_any, schemas_on, clips_on};
 
-use list_ops::{ListOp, firsts_ordered, fold_ordered};
+use list_ops::{ListOp, fold_ordered, once_ordered};
 use plain_data::{Items, Text, copy};
 use prim_opinions::SaidAt;
 use std::alloc::{AllocError, Global};
@@ -30,7 +30,7 @@ pub fn folded_texts(alloc: Global, edits: Vec<ListOp<Text>>) -> Result<Items<Tex
 fn firsts(alloc: Global, texts: Items<Text>) -> Result<Items<Text>, AllocError>
     ensures { IfOk result (λ once. once ≡ firsts bytes_eq texts) }
 {
-    firsts_ordered(alloc, texts.as_slice())
+    once_ordered(alloc, texts)
 }
 
 /// Each text once.
