@@ -8,3 +8,4 @@ pub mod Offsets
 pub mod Outcomes
 pub mod StackLaws
 pub mod Targets
+pub mod NothingSaid

@@ -1,9 +1,11 @@
 -- What the layers of a stack author at a path: opinions, list edits, items with their authors and outcomes.
-use Rattle.std.specs.Prelude.{◌≡◌, Bool, not, List, [], map, Option, option_map}
+use Rattle.std.specs.Prelude.{◌≡◌, Bool, false, not, List, [], map, Option, option_map}
 use Rattle.std.specs.List.{filter_map}
 use Rattle.std.specs.Option.{unwrap_or}
 use Rattle.list_ops.specs.declared.op.ListOp.{ListOp}
+use Rattle.list_ops.specs.Opinions.{is_opinion}
 use Rattle.path_maps.specs.declared.kind.ArcKind.{ArcKind}
+use Rattle.path_maps.specs.declared.kind.ArcKind.TheVariants.{Inherits, Variant, Reference, Payload, Specializes}
 use Rattle.sdf_values.specs.Scales.{Offset}
 use Rattle.composition.specs.Texts.{Text}
 use Rattle.composition.specs.Paths.{Path, limits}
@@ -36,6 +38,18 @@ opinions w s q = opinions_at limits w (defined_stack w s) q
 -- the list edits that an opinion has of a kind, with its layer
 unfoldable pub edit_of : ArcKind → Opinion → Option (Text × ListOp Item)
 edit_of k o = option_map (λ op. (o.layer, op)) (items_of k o)
+
+-- it is an opinion on the items of a kind
+abbrev pub says : ArcKind → Opinion → Bool
+says Inherits o = is_opinion o.spec.arcs.inherits
+says Variant o = false
+says Reference o = is_opinion o.spec.arcs.references
+says Payload o = is_opinion o.spec.arcs.payloads
+says Specializes o = is_opinion o.spec.arcs.specializes
+
+-- it is an opinion on the variant sets
+abbrev pub says_sets : Opinion → Bool
+says_sets o = is_opinion o.spec.arcs.variant_sets
 
 -- the list edits of a kind, each with the layer that has it, the strongest first
 abbrev pub edits : ArcKind → List Opinion → List (Text × ListOp Item)

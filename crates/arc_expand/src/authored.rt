@@ -1,11 +1,11 @@
 ghost use Rattle.std.specs.Prelude.{◌≡◌, ◌++◌, IfOk, OnOk, map, true};
-ghost use Rattle.std.specs.List.{All};
+ghost use Rattle.std.specs.List.{All, list_any};
 ghost use Rattle.layer_set.specs.LookUps.{look_ups};
 ghost use Rattle.composition.specs.Arcs.{selections_of};
 ghost use Rattle.std.specs.Option.{is_some};
 ghost use Rattle.std.specs.BTreeMap.{get};
 ghost use Rattle.arc_expand.specs.ItemOrder.{item_cmp};
-ghost use Rattle.arc_expand.specs.Authoring.{IsStackOf, authored_by, authored_in, authored, sets_in, variant_sets, selections, has_spec};
+ghost use Rattle.arc_expand.specs.Authoring.{IsStackOf, authored_by, authored_in, authored, says, says_sets, sets_in, variant_sets, selections, has_spec};
 
 use crate::authors::authors;
 use crate::edits::{edits, folded_items, strongest_folded};
@@ -72,6 +72,44 @@ fn authored_items(
     Ok(all)
 }
 
+/// Whether an opinion says something of the items of a kind.
+fn says(kind: ArcKind, opinion: &LayerOpinion<'_>) -> bool
+    ensures { result ≡ says kind opinion.now }
+{
+    let arcs = &opinion.spec.arcs;
+    match kind {
+        ArcKind::Inherits => arcs.inherits.is_opinion(),
+        ArcKind::Variant => false,
+        ArcKind::Reference => arcs.references.is_opinion(),
+        ArcKind::Payload => arcs.payloads.is_opinion(),
+        ArcKind::Specializes => arcs.specializes.is_opinion(),
+    }
+}
+
+/// Whether some opinion says something of the items of a kind.
+fn is_said(kind: ArcKind, opinions: &[LayerOpinion<'_>]) -> bool
+    ensures { result ≡ list_any (says kind) opinions.now }
+{
+    for opinion in opinions {
+        if says(kind, opinion) {
+            return true;
+        }
+    }
+    false
+}
+
+/// Whether some opinion says something of variant sets.
+fn are_sets_said(opinions: &[LayerOpinion<'_>]) -> bool
+    ensures { result ≡ list_any says_sets opinions.now }
+{
+    for opinion in opinions {
+        if opinion.spec.arcs.variant_sets.is_opinion() {
+            return true;
+        }
+    }
+    false
+}
+
 /// The items of a kind that opinions of a stack's layers make, each with the strongest layer that gave it, and where it leads or why it
 /// is no arc.
 ///
@@ -88,6 +126,9 @@ pub fn authored_in(
     requires { IsStackOf (look_ups world.now) stack.now }
     ensures { IfOk result (λ all. all ≡ authored_in (look_ups world.now) stack.now.name opinions.now kind) }
 {
+    if !is_said(kind, opinions) {
+        return Ok(Items::new(alloc));
+    }
     let edits = edits(alloc, kind, opinions)?;
     let items = folded_items(alloc, edits.as_slice())?;
     let authors = authors(alloc, edits.as_slice())?;
@@ -135,6 +176,9 @@ pub fn variant_sets_in(
 ) -> Result<Items<Text>, AllocError>
     ensures { IfOk result (λ sets. sets ≡ sets_in opinions.now) }
 {
+    if !are_sets_said(opinions) {
+        return Ok(Items::new(alloc));
+    }
     strongest_folded(alloc, set_edits(alloc, opinions)?)
 }
 

@@ -32,6 +32,9 @@ pub fn decided(alloc: Global, tree: &Tree, choices: &Choices) -> Result<Choices,
         return Ok(Items::new(alloc));
     }
     let sets = undecided_sets(alloc, tree, choices)?;
+    if sets.is_empty() {
+        return Ok(Items::new(alloc));
+    }
     let kept = places(alloc, tree)?;
     let more = selections(alloc, kept.as_slice(), sets.as_slice())?;
     Ok(more)

@@ -10,7 +10,7 @@ ghost use Rattle.site_order.specs.Entries.{entry, entries};
 ghost use Rattle.site_order.specs.Places.{trees_shown};
 
 use crate::best::{BestPlaces, SiteKey, best_of, is_best, key_of};
-use crate::order::{strong_of, weak_of};
+use crate::order::{is_bare, strong_of, the_node, weak_of};
 use crate::ranks::Ranked;
 use class_arcs::same_kind;
 use path_maps::{ArcKind, ArcMap};
@@ -91,6 +91,9 @@ fn best_nodes<'t>(
 pub fn places<'t>(alloc: Global, tree: &'t Tree) -> Result<Vec<&'t Tree>, AllocError>
     ensures { IfOk result (λ kept. trees_shown kept.items ≡ sites limits (meant tree.now)) }
 {
+    if is_bare(tree) {
+        return the_node(alloc, tree);
+    }
     let strong = strong_places(alloc, tree)?;
     match weak_places(alloc, tree, &strong.1) {
         Ok(weak) => {

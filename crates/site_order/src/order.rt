@@ -1,9 +1,9 @@
 //! The nodes of a tree from strong to weak.
-ghost use Rattle.std.specs.Prelude.{◌≡◌, ◌++◌, ◌∷◌, [], IfOk, OnOk, map};
+ghost use Rattle.std.specs.Prelude.{◌≡◌, ◌++◌, ◌∷◌, [], IfOk, OnOk, IsTrue, map};
 ghost use Rattle.std.specs.List.{list_any};
 ghost use Rattle.composition.specs.Paths.{limits};
 ghost use Rattle.composition.specs.Trees.{classes};
-ghost use Rattle.composition.specs.Strength.{strong_of, weak_of, listing, by_strength, by_classes, by_kind, part_of};
+ghost use Rattle.composition.specs.Strength.{strong_of, weak_of, listing, sites, by_strength, by_classes, by_kind, part_of};
 ghost use Rattle.prim_trees.specs.Meant.{meant};
 ghost use Rattle.site_order.specs.Entries.{entries, tree_part, child_part, parts_of, all_parts, leads_to, is_promoted};
 
@@ -22,11 +22,31 @@ pub enum Part {
     Weak,
 }
 
+/// Whether nothing stands below the node, which is then the whole of its listing and the one site.
+pub fn is_bare(tree: &Tree) -> bool
+    ensures listing { IsTrue result → listing limits (meant tree.now) ≡ meant tree.now ∷ [] }
+    ensures sites { IsTrue result → sites limits (meant tree.now) ≡ meant tree.now ∷ [] }
+{
+    tree.own.is_empty() && tree.lifted.is_empty()
+}
+
+/// The node of a tree alone.
+pub fn the_node<'t>(alloc: Global, tree: &'t Tree) -> Result<Vec<&'t Tree>, AllocError>
+    ensures { IfOk result (λ nodes. map (λ t. meant t.now) nodes.items ≡ meant tree.now ∷ []) }
+{
+    let mut nodes = Vec::with_capacity(alloc, 1)?;
+    nodes.push(tree)?;
+    Ok(nodes)
+}
+
 /// The nodes of the tree from strong to weak.
 #[tactic(auto, unfolding(crate::specs::Entries::tree_part))]
 pub fn listing<'t>(alloc: Global, tree: &'t Tree) -> Result<Vec<&'t Tree>, AllocError>
     ensures { IfOk result (λ nodes. map (λ t. meant t.now) nodes.items ≡ listing limits (meant tree.now)) }
 {
+    if is_bare(tree) {
+        return the_node(alloc, tree);
+    }
     let mut all = strong_of(alloc, tree)?;
     push_part(&mut all, Part::Weak, 0, 0, tree)?;
     trees_of(alloc, all.as_slice())

@@ -11,7 +11,11 @@ use Rattle.arc_expand.specs.Authors.{author_in}
 use Rattle.arc_expand.specs.ItemOrder.{item_cmp}
 use Rattle.arc_expand.specs.Authoring.{authored_by, edits, folded_items}
 use Rattle.arc_expand.proofs.Authoring.{authors_there, authored_is}
+use Rattle.arc_expand.proofs.NothingSaid.{nothing_authored}
 use Rattle.arc_expand.proofs.authored.authored_in.Goals as goal
+
+pub returns-then-not-is_said : goal.returns-then-not-is_said
+returns-then-not-is_said c = c.new.ensures ∙ nothing_authored (look_ups c.args.world.now) c.args.stack.now.name c.args.opinions.now c.args.kind (sym c.is_said.ensures ∙ c.if-not-is_said.true)
 
 pub authored_items-requires-clause-authors : goal.authored_items-requires-clause-authors
 authored_items-requires-clause-authors c =

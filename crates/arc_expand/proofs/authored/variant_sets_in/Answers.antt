@@ -1,11 +1,15 @@
-use Rattle.std.proofs.Common.{◌∙◌, ap, Bool, List, reverse}
+use Rattle.std.proofs.Common.{◌∙◌, ap, sym, Bool, List, reverse}
 use Rattle.std.proofs.lemmas.Result.{IfOk-weaker}
 use Rattle.list_ops.specs.declared.op.ListOp.{ListOp}
 use Rattle.list_ops.specs.ListEdits.{folded}
 use Rattle.composition.specs.Texts.{Text, same_text}
 use Rattle.composition.proofs.Same.{text_tests_are}
 use Rattle.arc_expand.proofs.Authoring.{sets_are}
+use Rattle.arc_expand.proofs.NothingSaid.{no_sets}
 use Rattle.arc_expand.proofs.authored.variant_sets_in.Goals as goal
+
+pub returns-then-not-are_sets_said : goal.returns-then-not-are_sets_said
+returns-then-not-are_sets_said c = c.new.ensures ∙ no_sets c.args.opinions.now (sym c.are_sets_said.ensures ∙ c.if-not-are_sets_said.true)
 
 pub returns : goal.returns
 returns c =

@@ -1,0 +1,7 @@
+use Rattle.std.proofs.Common.{◌≡◌, drop}
+use Rattle.std.specs.List.{list_any}
+use Rattle.arc_expand.specs.Authoring.{says}
+use Rattle.arc_expand.proofs.authored.is_said.Given as goal
+
+abbrev pub invariant-loop-opinion : goal.invariant-loop-opinion
+invariant-loop-opinion l = list_any (says l.kind) (drop l.opinion-index l.opinions) ≡ list_any (says l.kind) l.opinions
