@@ -3,9 +3,16 @@ ghost use Rattle.std.specs.Prelude.{◌≡◌, IfOk};
 ghost use Rattle.spec_tables.specs.Forms.{form_entries, IsFew};
 
 use crate::form::Form;
-use plain_data::{ExactClone, ExactOrd};
+use plain_data::{ExactClone, ExactOrd, copy};
 use std::alloc::{AllocError, Global};
 use std::collections::BTreeMap;
+
+/// A copy of an entry.
+fn entry_copied<K: ExactClone, V: ExactClone>(entry: &(K, V)) -> Result<(K, V), AllocError>
+    ensures { IfOk result (λ copy. copy ≡ entry.now) }
+{
+    Ok((copy(&entry.0)?, copy(&entry.1)?))
+}
 
 /// A copy of a list.
 fn list_copied<K: ExactClone, V: ExactClone>(
@@ -35,6 +42,7 @@ pub(crate) fn copied<K: ExactOrd + ExactClone, V: ExactClone>(
 {
     match form {
         Form::Empty => Ok(Form::Empty),
+        Form::One(entry) => Ok(Form::One(Box::new(alloc, entry_copied(entry)?)?)),
         Form::Few(entries) => Ok(Form::Few(Box::new(alloc, list_copied(entries)?)?)),
         Form::Many(entries) => Ok(Form::Many(Box::new(alloc, tree_copied(entries)?)?)),
     }

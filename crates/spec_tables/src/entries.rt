@@ -6,14 +6,16 @@ ghost use Rattle.spec_tables.specs.Forms.{form_entries, IsFew};
 ghost use Rattle.spec_tables.specs.Rest.{rest_entries};
 ghost use Rattle.spec_tables.specs.Tables.{IsTable, entries_from};
 
-use crate::few;
 use crate::form::Form;
+use crate::{few, one};
 use std::collections::btree_map::{Iter, Range};
 use std::marker::Model;
 
 /// What is left of a table, in either form.
 #[derive(Drop)]
 pub(crate) enum Rest<'a, K, V> {
+    Done,
+    One(&'a (K, V)),
     Few(&'a [(K, V)]),
     Many(Iter<'a, K, V>),
     Part(Range<'a, K, V>),
@@ -25,7 +27,8 @@ pub(crate) fn all<K: Ord, V>(form: &Form<K, V>) -> Rest<'_, K, V>
     ensures bound { IsFew form.now → length (form_entries form.now) < 2 ^ 63 }
 {
     match form {
-        Form::Empty => Rest::Few(&[]),
+        Form::Empty => Rest::Done,
+        Form::One(entry) => Rest::One(entry),
         Form::Few(entries) => Rest::Few(entries),
         Form::Many(entries) => Rest::Many(entries.iter()),
     }
@@ -37,7 +40,8 @@ pub(crate) fn all_from<'a, K: Ord, V>(form: &'a Form<K, V>, key: &K) -> Rest<'a,
     ensures bound { IsFew form.now → length (rest_entries result) < 2 ^ 63 }
 {
     match form {
-        Form::Empty => Rest::Few(&[]),
+        Form::Empty => Rest::Done,
+        Form::One(entry) => one::from(entry, key),
         Form::Few(entries) => Rest::Few(few::from(entries, key)),
         Form::Many(entries) => Rest::Part(entries.range(key..)),
     }
@@ -69,6 +73,12 @@ impl<'a, K, V> Iterator for Entries<'a, K, V> {
 
     fn next(&mut self) -> Option<(&'a K, &'a V)> {
         match &mut self.rest {
+            Rest::Done => None,
+            Rest::One(entry) => {
+                let entry: &'a (K, V) = entry;
+                self.rest = Rest::Done;
+                Some((&entry.0, &entry.1))
+            }
             Rest::Few(entries) => {
                 let (entry, rest) = entries.split_first()?;
                 *entries = rest;
@@ -85,6 +95,12 @@ impl<'a, K, V> DoubleEndedIterator for Entries<'a, K, V> {
 
     fn next_back(&mut self) -> Option<(&'a K, &'a V)> {
         match &mut self.rest {
+            Rest::Done => None,
+            Rest::One(entry) => {
+                let entry: &'a (K, V) = entry;
+                self.rest = Rest::Done;
+                Some((&entry.0, &entry.1))
+            }
             Rest::Few(entries) => {
                 let (entry, rest) = entries.split_last()?;
                 *entries = rest;

@@ -1,12 +1,13 @@
 //! How an entry is put into a table, and how a list of entries becomes a tree.
-ghost use Rattle.std.specs.Prelude.{◌≡◌, ◌≤◌, ◌<◌, ◌+◌, [], ◌∷◌, ◌++◌, length, vec_len, vec_capacity, Some, None, IfOk, IfErr, OnOk, OnErr};
+ghost use Rattle.std.specs.Prelude.{◌≡◌, ◌≤◌, ◌<◌, ◌+◌, [], ◌∷◌, ◌++◌, length, vec_len, vec_capacity, Some, None, IfOk, IfErr, OnOk, OnErr, IsTrue, IsFalse};
 ghost use Rattle.spec_tables.specs.Tables.{IsTable, at_key, with_key};
-ghost use Rattle.spec_tables.specs.Forms.{form_entries, IsFew, HasRoom};
+ghost use Rattle.spec_tables.specs.Forms.{form_entries, IsFew, HasRoom, most_listed};
 
-use crate::few;
 use crate::form::Form;
+use crate::{few, one};
 use std::alloc::{AllocError, Global};
 use std::collections::BTreeMap;
+use std::mem;
 
 /// How many entries stand in a list at most.
 const MOST_LISTED: usize = 32;
@@ -55,13 +56,21 @@ fn move_to_tree<K: Ord + Drop, V: Drop>(
     }
 }
 
-/// A list of one entry.
-fn listed<K: Ord + Drop, V: Drop>(alloc: Global, key: K, value: V) -> Result<Form<K, V>, AllocError>
-    ensures { IfOk result (λ form. (form_entries form ≡ (key, value) ∷ []) × IsFew form) }
+/// Makes a single entry a list with room for another. After want of memory it is as before.
+fn make_list<K: Ord + Drop, V: Drop>(alloc: Global, form: &mut Form<K, V>) -> Result<(), AllocError>
+    ensures same { form_entries form.new ≡ form_entries form.old }
+    ensures few { IsFew form.old → IsFew form.new }
+    ensures room { length (form_entries form.old) < most_listed → OnOk result (HasRoom form.new) }
 {
-    let mut entries = Vec::with_capacity(alloc, 1)?;
-    entries.push((key, value))?;
-    Ok(Form::Few(Box::new(alloc, entries)?))
+    let mut entries = Box::new(alloc, Vec::with_capacity(alloc, 2)?)?;
+    match mem::replace(form, Form::Empty) {
+        Form::One(entry) => {
+            put_back(&mut entries, Box::into_inner(entry));
+            *form = Form::Few(entries);
+        }
+        other => *form = other,
+    }
+    Ok(())
 }
 
 /// The entries of a list as a tree. After want of memory the list is as before.
@@ -78,7 +87,22 @@ fn as_tree<K: Ord + Drop, V: Drop>(
     Ok(Form::Many(tree))
 }
 
-/// Makes a full list a tree, unless the key is there. After want of memory the entries are as before.
+/// Whether a value can be put at a key as the entries are kept: the key is there, or another entry finds its place.
+fn has_room<K: Ord, V>(form: &Form<K, V>, key: &K) -> bool
+    requires { IsTable K.cmp (form_entries form.now) }
+    ensures room { IsTrue result → at_key K.cmp key.now (form_entries form.now) ≡ None → HasRoom form.now }
+    ensures absent { IsFalse result → at_key K.cmp key.now (form_entries form.now) ≡ None }
+{
+    match form {
+        Form::Empty => true,
+        Form::One(entry) => one::get(entry, key).is_some(),
+        Form::Few(entries) => entries.len() < MOST_LISTED || few::get(entries, key).is_some(),
+        Form::Many(_) => true,
+    }
+}
+
+/// Makes room for a key, unless it is there: a single entry becomes a list, and a full list a tree. After want of memory the entries
+/// are as before.
 pub(crate) fn make_room<K: Ord + Drop, V: Drop>(
     alloc: Global,
     form: &mut Form<K, V>,
@@ -90,12 +114,18 @@ pub(crate) fn make_room<K: Ord + Drop, V: Drop>(
     ensures room { OnOk result (at_key K.cmp key.now (form_entries form.old) ≡ None → HasRoom form.new) }
     ensures absent { OnErr result (at_key K.cmp key.now (form_entries form.old) ≡ None) }
 {
-    if let Form::Few(entries) = form {
-        if entries.len() >= MOST_LISTED && few::get(entries, key).is_none() {
-            *form = as_tree(alloc, entries)?;
-        }
+    if has_room(form, key) {
+        return Ok(());
     }
-    Ok(())
+    match form {
+        Form::Empty => Ok(()),
+        Form::One(_) => make_list(alloc, form),
+        Form::Few(entries) => {
+            *form = as_tree(alloc, entries)?;
+            Ok(())
+        }
+        Form::Many(_) => Ok(()),
+    }
 }
 
 /// Puts a value at a key, and answers the one before. After want of memory, which comes only where the key is not there, the entries are
@@ -117,8 +147,12 @@ pub(crate) fn put<K: Ord + Drop, V: Drop>(
 {
     match form {
         Form::Empty => {
-            *form = listed(alloc, key, value)?;
+            *form = Form::One(Box::new(alloc, (key, value))?);
             Ok(None)
+        }
+        Form::One(entry) => {
+            drop(key);
+            Ok(Some(mem::replace(&mut entry.1, value)))
         }
         Form::Few(entries) => few::put(entries, key, value),
         Form::Many(entries) => Ok(entries.insert(key, value)?),

@@ -8,6 +8,7 @@ mod entries;
 mod few;
 mod form;
 mod insert;
+mod one;
 mod table;
 
 pub use entries::Entries;

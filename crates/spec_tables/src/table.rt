@@ -7,9 +7,9 @@ ghost use Rattle.plain_data.specs.Ends.{last};
 use crate::copied::copied;
 use crate::edits::{exchange, take};
 use crate::entries::{Entries, all, all_from};
-use crate::few;
 use crate::form::Form;
 use crate::insert::{make_room, put};
+use crate::{few, one};
 use plain_data::{ExactClone, ExactOrd};
 use std::alloc::{AllocError, Global};
 use std::marker::Model;
@@ -53,6 +53,7 @@ impl<K: Ord, V> OrderedTable<K, V> {
     {
         match &self.form {
             Form::Empty => 0,
+            Form::One(_) => 1,
             Form::Few(entries) => entries.len(),
             Form::Many(entries) => entries.len(),
         }
@@ -64,6 +65,7 @@ impl<K: Ord, V> OrderedTable<K, V> {
     {
         match &self.form {
             Form::Empty => true,
+            Form::One(_) => false,
             Form::Few(entries) => entries.is_empty(),
             Form::Many(entries) => entries.is_empty(),
         }
@@ -75,6 +77,7 @@ impl<K: Ord, V> OrderedTable<K, V> {
     {
         match &self.form {
             Form::Empty => None,
+            Form::One(entry) => one::get(entry, key),
             Form::Few(entries) => few::get(entries, key),
             Form::Many(entries) => entries.get(key),
         }
@@ -95,6 +98,10 @@ impl<K: Ord, V> OrderedTable<K, V> {
     {
         match &self.form {
             Form::Empty => None,
+            Form::One(entry) => match i {
+                0 => Some((&entry.0, &entry.1)),
+                _ => None,
+            },
             Form::Few(entries) => match entries.get(i) {
                 None => None,
                 Some(entry) => Some((&entry.0, &entry.1)),
@@ -133,6 +140,7 @@ impl<K: Ord, V> OrderedTable<K, V> {
     {
         match &self.form {
             Form::Empty => None,
+            Form::One(entry) => one::last_until(entry, key),
             Form::Few(entries) => few::last_until(entries, key),
             Form::Many(entries) => entries.range(..=key).next_back(),
         }

@@ -6,5 +6,5 @@ returns-in-Few-clause-few g c =
     let order = rw c.in-Few.is at c.requires.order in
     let few = rw c.in-Few.is at c.requires.few in
     let room = rw c.in-Few.is at c.requires.room in
-    let keeps = rw c.deref_mut.ensures.value at c.put.ensures.few in
+    let keeps = rw c.deref_mut-in-Few.ensures.value at c.put.ensures.few in
     keeps most_listed order few room
