@@ -7,8 +7,8 @@ use Rattle.std.specs.Prelude.{filter}
 use Rattle.std.specs.declared.cmp.Ordering.{Ordering}
 use Rattle.std.specs.declared.cmp.Ordering.TheVariants.{Less, Equal, Greater}
 use Rattle.spec_tables.specs.Tables.{IsTable, at_key, with_key, without_key, with_value}
-use Rattle.shared_tables.proofs.Order.{above_head, below_all, tail, table_with, table_without, table_value}
-use Rattle.shared_tables.proofs.Splits.{at_none}
+use Rattle.spec_tables.proofs.Order.{above_head, below_all, tail, table_with, table_without, table_value}
+use Rattle.spec_tables.proofs.Splits.{at_none}
 
 -- one more on both sides
 more : (b : Bool) (m n : ℕ) → m ≡ cond b n (suc n) → suc m ≡ cond b (suc n) (suc (suc n))

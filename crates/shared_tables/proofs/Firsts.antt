@@ -10,7 +10,8 @@ use Rattle.std.specs.declared.cmp.Ordering.{Ordering}
 use Rattle.std.specs.declared.cmp.Ordering.TheVariants.{Less, Equal, Greater}
 use Rattle.spec_tables.specs.Tables.{IsTable, entries_from}
 use Rattle.shared_tables.specs.Rest.{head, entries_after, onwards}
-use Rattle.shared_tables.proofs.Order.{AllAfter, AllBefore, above_head, tail, turned}
+use Rattle.spec_tables.specs.Places.{AllAfter, AllBefore}
+use Rattle.spec_tables.proofs.Order.{above_head, tail, turned}
 
 -- ---- in two parts with an entry between them
 

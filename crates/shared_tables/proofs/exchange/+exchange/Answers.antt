@@ -5,8 +5,8 @@ use Rattle.shared_tables.specs.Trees.{link_entries}
 use Rattle.shared_tables.specs.declared.node.Node.{out-Node}
 use Rattle.shared_tables.proofs.Exchanges.{tree_parts, lent, same_entries, any_err, failed, answered}
 use Rattle.shared_tables.proofs.Nodes.{if_made, put_left, put_middle, put_right}
-use Rattle.shared_tables.proofs.Order.{front, past}
-use Rattle.shared_tables.proofs.Splits.{at_left, at_middle, at_right, value_left, value_middle, value_right}
+use Rattle.spec_tables.proofs.Order.{front, past}
+use Rattle.spec_tables.proofs.Splits.{at_left, at_middle, at_right, value_left, value_middle, value_right}
 use Rattle.shared_tables.proofs.exchange.+exchange.Goals as goal
 
 pub returns-in_err-node-in-Some-clause-err : goal.returns-in_err-node-in-Some-clause-err

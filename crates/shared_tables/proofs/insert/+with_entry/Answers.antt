@@ -2,8 +2,8 @@ use Rattle.std.proofs.Common.{refl, sym, subst}
 use Rattle.spec_tables.specs.Tables.{IsTable, with_key}
 use Rattle.shared_tables.specs.Trees.{entries}
 use Rattle.shared_tables.proofs.Nodes.{tree_is, if_made, put_left, put_middle, put_right}
-use Rattle.shared_tables.proofs.Order.{front, past}
-use Rattle.shared_tables.proofs.Splits.{with_left, with_middle, with_right}
+use Rattle.spec_tables.proofs.Order.{front, past}
+use Rattle.spec_tables.proofs.Splits.{with_left, with_middle, with_right}
 use Rattle.shared_tables.proofs.insert.+with_entry.Goals as goal
 
 pub returns-in_ok-before-in-Less : goal.returns-in_ok-before-in-Less

@@ -2,8 +2,8 @@ use Rattle.std.proofs.Common.{refl, sym, subst, ap, ◌∙◌}
 use Rattle.spec_tables.specs.Tables.{IsTable, without_key}
 use Rattle.shared_tables.specs.Trees.{link_entries}
 use Rattle.shared_tables.proofs.Nodes.{tree_is, if_made, put_left, put_right}
-use Rattle.shared_tables.proofs.Order.{front, past}
-use Rattle.shared_tables.proofs.Splits.{without_left, without_middle, without_right}
+use Rattle.spec_tables.proofs.Order.{front, past}
+use Rattle.spec_tables.proofs.Splits.{without_left, without_middle, without_right}
 use Rattle.shared_tables.proofs.remove.+without_entry.Goals as goal
 
 pub returns-in_ok-tree-in-Less : goal.returns-in_ok-tree-in-Less

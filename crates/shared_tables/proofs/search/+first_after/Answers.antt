@@ -3,7 +3,7 @@ use Rattle.std.specs.Ordering.{is_lt}
 use Rattle.spec_tables.specs.Tables.{IsTable}
 use Rattle.shared_tables.proofs.Firsts.{first_at, first_less, first_past}
 use Rattle.shared_tables.proofs.Nodes.{tree_is}
-use Rattle.shared_tables.proofs.Order.{front, past, before_equal, before_greater}
+use Rattle.spec_tables.proofs.Order.{front, past, before_equal, before_greater}
 use Rattle.shared_tables.proofs.search.+first_after.Goals as goal
 
 pub returns-in-None-first_after : goal.returns-in-None-first_after

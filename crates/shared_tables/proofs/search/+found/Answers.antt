@@ -1,8 +1,8 @@
 use Rattle.std.proofs.Common.{Some, sym, ap, subst, ◌∙◌}
 use Rattle.spec_tables.specs.Tables.{IsTable, at_key}
 use Rattle.shared_tables.proofs.Nodes.{tree_is}
-use Rattle.shared_tables.proofs.Order.{front, past}
-use Rattle.shared_tables.proofs.Splits.{at_left, at_middle, at_right}
+use Rattle.spec_tables.proofs.Order.{front, past}
+use Rattle.spec_tables.proofs.Splits.{at_left, at_middle, at_right}
 use Rattle.shared_tables.proofs.search.+found.Goals as goal
 
 pub returns-in-Less : goal.returns-in-Less

@@ -1,6 +1,6 @@
 use Rattle.std.proofs.Common.{◌<◌, ◌^◌, List, length, subst, ap, ◌∙◌, arith}
 use Rattle.std.specs.Map.Iter.{deref_pair}
-use Rattle.shared_tables.proofs.Runs.{shows_in_order}
+use Rattle.spec_tables.proofs.Runs.{shows_in_order}
 use Rattle.spec_tables.specs.Tables.{IsTable}
 use Rattle.shared_tables.specs.Rest.{head}
 use Rattle.shared_tables.specs.Trees.{link_entries}

@@ -1,7 +1,7 @@
 use Rattle.std.proofs.Common.{◌<◌, ◌^◌, List, length, sym, subst, ap, ◌∙◌, arith}
 use Rattle.std.specs.Map.Iter.{deref_pair}
 use Rattle.std.specs.Ordering.{is_le}
-use Rattle.shared_tables.proofs.Runs.{shows_in_order}
+use Rattle.spec_tables.proofs.Runs.{shows_in_order}
 use Rattle.spec_tables.specs.Tables.{IsTable, entries_from}
 use Rattle.shared_tables.specs.Rest.{head}
 use Rattle.shared_tables.specs.Trees.{link_entries}

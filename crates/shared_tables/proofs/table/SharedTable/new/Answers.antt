@@ -1,5 +1,5 @@
 use Rattle.std.proofs.Common.{refl, arith}
-use Rattle.shared_tables.proofs.Order.{none}
+use Rattle.spec_tables.proofs.Order.{none}
 use Rattle.shared_tables.proofs.table.SharedTable.new.Goals as goal
 
 pub invariant_of-result : goal.invariant_of-result

@@ -1,7 +1,7 @@
 use Rattle.std.proofs.Common.{is_some, sym, ap, ◌∙◌}
 use Rattle.spec_tables.specs.Tables.{at_key}
 use Rattle.shared_tables.proofs.Counts.{holds_without}
-use Rattle.shared_tables.proofs.Splits.{without_absent}
+use Rattle.spec_tables.proofs.Splits.{without_absent}
 use Rattle.shared_tables.proofs.table.SharedTable.remove.Goals as goal
 
 pub invariant_of-self : goal.invariant_of-self
