@@ -7,17 +7,19 @@ ghost use Rattle.sdf_paths.specs.declared.element.Element.{Element};
 
 use crate::element::Element;
 use crate::fault::PathFault;
+use crate::shared::SharedItems;
 use crate::{edits, looks, reader};
-use plain_data::{ExactClone, ExactEq, ExactOrd, Items};
+use plain_data::{ExactClone, ExactEq, ExactOrd, copy};
 use std::alloc::{AllocError, Global};
 use std::marker::Model;
 
-/// A path from the root to a prim or to a property, with the variants that are selected on the way.
+/// A path from the root to a prim or to a property, with the variants that are selected on the way. Its copies share the elements, so
+/// that a copy takes no memory, and `/` takes none either.
 ///
 /// Contracts see it as the list of its elements, from the root down; `/` is the empty list.
 #[derive(Debug, Drop, PartialEq, Eq, PartialOrd, Ord)]
 pub struct Path {
-    elements: Items<Element>,
+    elements: SharedItems<Element>,
 }
 
 impl Model for Path {
@@ -40,9 +42,10 @@ impl Clone for Path {
 
     ghost is_clone = { λ p q. q ≡ p };
 
+    /// The same path once more, which takes no memory. It fails only where too many share its elements to be counted.
     fn clone(&self) -> Result<Path, AllocError> {
         Ok(Path {
-            elements: self.elements.copy()?,
+            elements: copy(&self.elements)?,
         })
     }
 }
@@ -69,7 +72,7 @@ impl Path {
         ensures { result ≡ [] }
     {
         Path {
-            elements: Items::new(alloc),
+            elements: SharedItems::new(alloc),
         }
     }
 
@@ -85,7 +88,9 @@ impl Path {
         ensures bad { IfErr result (λ e. IsFaultOf text.now e) }
     {
         match reader::read(alloc, text) {
-            Ok(elements) => Ok(Path { elements }),
+            Ok(elements) => Ok(Path {
+                elements: SharedItems::of(elements)?,
+            }),
             Err(fault) => Err(fault),
         }
     }
@@ -110,7 +115,7 @@ impl Path {
     pub fn is_root(&self) -> bool
         ensures { IsTrue result ↔ (self.now ≡ []) }
     {
-        self.elements.is_empty()
+        self.elements.as_slice().is_empty()
     }
 
     /// Whether the path is that of a property.
