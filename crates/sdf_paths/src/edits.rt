@@ -5,7 +5,7 @@ ghost use Rattle.sdf_paths.specs.Paths.{written, written_all, is_selection, is_p
 
 use crate::element::Element;
 use crate::fault::PathFault;
-use crate::looks::{depth, is_property_part, is_selection};
+use crate::looks::{depth, is_plain, is_selection};
 use crate::reader::{MAX_BYTES, MAX_NAMES};
 use crate::shared::SharedItems;
 use crate::variants::is_variant;
@@ -28,15 +28,6 @@ fn with_room(alloc: Global, room: usize) -> Result<Items<Element>, AllocError>
     ensures { IfOk result (λ out. out ≡ []) }
 {
     Ok(Items::from_vec(Vec::with_capacity(alloc, room)?))
-}
-
-/// A copy of the elements.
-pub fn copied(alloc: Global, elements: &[Element]) -> Result<SharedItems<Element>, AllocError>
-    ensures { IfOk result (λ out. out ≡ elements.now) }
-{
-    let mut out = with_room(alloc, elements.len())?;
-    push_all(&mut out, elements)?;
-    SharedItems::of(out)
 }
 
 /// The elements, and then those of `rest`.
@@ -100,26 +91,27 @@ fn plain_len(elements: &[Element]) -> usize {
         .count()
 }
 
-/// The elements but for the selections.
-pub fn plain(alloc: Global, elements: &[Element]) -> Result<SharedItems<Element>, AllocError>
+/// The elements but for the selections. Where there is none no memory is taken.
+#[tactic(auto, using(crate::proofs::Shapes::plain_itself))]
+pub fn plain(elements: &SharedItems<Element>) -> Result<SharedItems<Element>, AllocError>
+    ensures { IfOk result (λ out. out ≡ plain elements.now) }
+{
+    if is_plain(elements.as_slice()) {
+        return copy(elements);
+    }
+    without_selections(elements.allocator(), elements.as_slice())
+}
+
+/// A list of the elements that are no selections.
+fn without_selections(
+    alloc: Global,
+    elements: &[Element],
+) -> Result<SharedItems<Element>, AllocError>
     ensures { IfOk result (λ out. out ≡ plain elements.now) }
 {
     let mut out = with_room(alloc, plain_len(elements))?;
     for element in elements {
         if !is_selection(element) {
-            out.push(copy(element)?)?;
-        }
-    }
-    SharedItems::of(out)
-}
-
-/// The elements but for the property.
-pub fn owner(alloc: Global, elements: &[Element]) -> Result<SharedItems<Element>, AllocError>
-    ensures { IfOk result (λ out. out ≡ owner elements.now) }
-{
-    let mut out = with_room(alloc, elements.len())?;
-    for element in elements {
-        if !is_property_part(element) {
             out.push(copy(element)?)?;
         }
     }

@@ -1,4 +1,4 @@
-ghost use Rattle.std.specs.Prelude.{List, ◌≡◌, ◌⊎◌, [], ◌∷◌, ◌++◌, Ok, Err, IfOk, IfErr, OnOk, IsSomeAnd, false, string_bytes, IsTrue, ◌↔◌};
+ghost use Rattle.std.specs.Prelude.{List, ◌≡◌, ◌⊎◌, ◌-◌, [], ◌∷◌, ◌++◌, length, take, Ok, Err, IfOk, IfErr, OnOk, IsSomeAnd, false, string_bytes, IsTrue, ◌↔◌};
 ghost use Rattle.std.specs.Option.{option_copied, ForSome};
 ghost use Rattle.sdf_paths.specs.Paths.{IsPath, IsReadAs, printed, is_property, is_plain, depth, last_name, has_prefix, HasPrefix};
 ghost use Rattle.sdf_paths.specs.Refusal.{IsFaultOf};
@@ -165,14 +165,21 @@ impl Path {
     pub fn parent(&self) -> Result<Option<Path>, AllocError>
         ensures { IfOk result (λ above. above ≡ parent self.now) }
     {
-        let elements = self.elements.as_slice();
-        if elements.is_empty() {
+        if self.is_root() {
             return Ok(None);
         }
-        let above = &elements[..elements.len() - 1];
-        Ok(Some(Path {
-            elements: edits::copied(self.elements.allocator(), above)?,
-        }))
+        Ok(Some(self.up(1)?))
+    }
+
+    /// The path so many levels up: without its last elements, so many of them; `/` where it has no more. It takes no memory, and fails only
+    /// where too many paths share its elements to be counted.
+    pub fn up(&self, levels: usize) -> Result<Path, AllocError>
+        ensures { IfOk result (λ above. above ≡ take (length self.now - levels) self.now) }
+    {
+        let len = self.elements.as_slice().len();
+        Ok(Path {
+            elements: self.elements.front(len.saturating_sub(levels))?,
+        })
     }
 
     /// The path of a prim below this one.
@@ -240,16 +247,21 @@ impl Path {
         ensures path { IsPath (plain self.now) }
     {
         Ok(Path {
-            elements: edits::plain(self.elements.allocator(), self.elements.as_slice())?,
+            elements: edits::plain(&self.elements)?,
         })
     }
 
-    /// The path of the prim: without the name of the property, if there is one.
+    /// The path of the prim: without the name of the property, if there is one. It takes no memory, and fails only where too many paths
+    /// share its elements to be counted.
+    #[tactic(auto, using(crate::proofs::Shapes::owner_above, crate::proofs::Shapes::owner_itself))]
     pub fn owner(&self) -> Result<Path, AllocError>
         ensures { IfOk result (λ path. path ≡ owner self.now) }
     {
-        Ok(Path {
-            elements: edits::owner(self.elements.allocator(), self.elements.as_slice())?,
-        })
+        // By the contract of `elements` a property stands last.
+        if looks::is_property(self.elements()) {
+            self.up(1)
+        } else {
+            copy(self)
+        }
     }
 }

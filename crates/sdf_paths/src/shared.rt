@@ -1,5 +1,6 @@
 //! A list that its copies share.
-ghost use Rattle.std.specs.Prelude.{◌≡◌, [], IfOk};
+ghost use Rattle.std.specs.Prelude.{◌≡◌, [], IfOk, take};
+ghost use Rattle.sdf_paths.specs.Shared.{shared_items};
 
 use plain_data::{ExactClone, Items};
 use std::alloc::{AllocError, Global};
@@ -7,17 +8,19 @@ use std::cmp::Ordering;
 use std::marker::Model;
 use std::sync::Arc;
 
-/// A list whose copies share the items, so that a copy takes no memory. The empty list takes none either.
+/// A list whose copies and fronts share the items, so that neither takes memory. The empty list takes none either.
 ///
 /// Contracts see the list of the items.
 #[derive(Debug, Drop)]
 pub struct SharedItems<T> {
     list: Option<Arc<Items<T>>>,
+    /// How many items of `list` this is, from its beginning.
+    len: usize,
     alloc: Global,
 }
 
 impl<T> Model for SharedItems<T> {
-    ghost use Rattle.std.specs.Prelude.{List};
+    ghost use Rattle.std.specs.Prelude.{List, ◌≤◌, length, take};
     ghost use Rattle.std.specs.Coded.{coded_list};
 
     ghost Value = { List T };
@@ -26,7 +29,19 @@ impl<T> Model for SharedItems<T> {
 
     ghost use Rattle.sdf_paths.specs.Shared.{shared_items};
 
-    ghost view = { λ s. shared_items s.list };
+    ghost view = { λ s. take s.len (shared_items s.list) };
+
+    ghost invariant = { λ s. s.len ≤ length (shared_items s.list) };
+}
+
+/// The same list once more.
+fn shared<T: Drop>(list: &Option<Arc<Items<T>>>) -> Result<Option<Arc<Items<T>>>, AllocError>
+    ensures { IfOk result (λ other. shared_items other ≡ shared_items list.now) }
+{
+    match list {
+        None => Ok(None),
+        Some(items) => Ok(Some(Arc::try_clone(items)?)),
+    }
 }
 
 impl<T> SharedItems<T> {
@@ -34,7 +49,11 @@ impl<T> SharedItems<T> {
     pub fn new(alloc: Global) -> SharedItems<T>
         ensures { result ≡ [] }
     {
-        SharedItems { list: None, alloc }
+        SharedItems {
+            list: None,
+            len: 0,
+            alloc,
+        }
     }
 
     /// The allocator of the list.
@@ -48,7 +67,7 @@ impl<T> SharedItems<T> {
     {
         match &self.list {
             None => &[],
-            Some(items) => items.as_slice(),
+            Some(items) => &items.as_slice()[..self.len],
         }
     }
 }
@@ -59,12 +78,28 @@ impl<T: Drop> SharedItems<T> {
         ensures { IfOk result (λ shared. shared ≡ items) }
     {
         let alloc = items.allocator();
-        if items.is_empty() {
+        let len = items.len();
+        if len == 0 {
             return Ok(SharedItems::new(alloc));
         }
         Ok(SharedItems {
             list: Some(Arc::new(alloc, items)?),
+            len,
             alloc,
+        })
+    }
+
+    /// The first items, so many of them, which takes no memory. It fails only where too many share the list to be counted.
+    pub fn front(&self, len: usize) -> Result<SharedItems<T>, AllocError>
+        ensures { IfOk result (λ front. front ≡ take len self.now) }
+    {
+        if len == 0 {
+            return Ok(SharedItems::new(self.alloc));
+        }
+        Ok(SharedItems {
+            list: shared(&self.list)?,
+            len: len.min(self.len),
+            alloc: self.alloc,
         })
     }
 }
@@ -76,12 +111,9 @@ impl<T: Drop> Clone for SharedItems<T> {
 
     /// The same list once more, which takes no memory. It fails only where too many share it to be counted.
     fn clone(&self) -> Result<SharedItems<T>, AllocError> {
-        let list = match &self.list {
-            None => None,
-            Some(items) => Some(Arc::try_clone(items)?),
-        };
         Ok(SharedItems {
-            list,
+            list: shared(&self.list)?,
+            len: self.len,
             alloc: self.alloc,
         })
     }
