@@ -1,6 +1,5 @@
 //! A list that its copies share.
 ghost use Rattle.std.specs.Prelude.{◌≡◌, [], IfOk, take};
-ghost use Rattle.sdf_paths.specs.Shared.{shared_items};
 
 use plain_data::{ExactClone, Items};
 use std::alloc::{AllocError, Global};
@@ -8,40 +7,40 @@ use std::cmp::Ordering;
 use std::marker::Model;
 use std::sync::Arc;
 
+/// The most items of a list that is shared.
+const MAX_ITEMS: usize = 0xffff_ffff;
+
+/// The first items of a list.
+#[derive(Debug, Drop)]
+enum Front<T> {
+    /// No item.
+    Nothing,
+    /// The first items, so many of them, of a list that others may have too.
+    First { len: u32, list: Arc<Items<T>> },
+}
+
 /// A list whose copies and fronts share the items, so that neither takes memory. The empty list takes none either.
 ///
 /// Contracts see the list of the items.
 #[derive(Debug, Drop)]
 pub struct SharedItems<T> {
-    list: Option<Arc<Items<T>>>,
-    /// How many items of `list` this is, from its beginning.
-    len: usize,
+    front: Front<T>,
     alloc: Global,
 }
 
 impl<T> Model for SharedItems<T> {
-    ghost use Rattle.std.specs.Prelude.{List, ◌≤◌, length, take};
+    ghost use Rattle.std.specs.Prelude.{List};
     ghost use Rattle.std.specs.Coded.{coded_list};
 
     ghost Value = { List T };
 
     ghost coded = { coded_list T.code };
 
-    ghost use Rattle.sdf_paths.specs.Shared.{shared_items};
+    ghost use Rattle.sdf_paths.specs.Shared.{front_items, IsWithin};
 
-    ghost view = { λ s. take s.len (shared_items s.list) };
+    ghost view = { λ s. front_items s.front };
 
-    ghost invariant = { λ s. s.len ≤ length (shared_items s.list) };
-}
-
-/// The same list once more.
-fn shared<T: Drop>(list: &Option<Arc<Items<T>>>) -> Result<Option<Arc<Items<T>>>, AllocError>
-    ensures { IfOk result (λ other. shared_items other ≡ shared_items list.now) }
-{
-    match list {
-        None => Ok(None),
-        Some(items) => Ok(Some(Arc::try_clone(items)?)),
-    }
+    ghost invariant = { λ s. IsWithin s.front };
 }
 
 impl<T> SharedItems<T> {
@@ -50,8 +49,7 @@ impl<T> SharedItems<T> {
         ensures { result ≡ [] }
     {
         SharedItems {
-            list: None,
-            len: 0,
+            front: Front::Nothing,
             alloc,
         }
     }
@@ -65,15 +63,15 @@ impl<T> SharedItems<T> {
     pub fn as_slice(&self) -> &[T]
         ensures { result.now ≡ self.now }
     {
-        match &self.list {
-            None => &[],
-            Some(items) => &items.as_slice()[..self.len],
+        match &self.front {
+            Front::Nothing => &[],
+            Front::First { len, list } => &list.as_slice()[..*len as usize],
         }
     }
 }
 
 impl<T: Drop> SharedItems<T> {
-    /// A list that may be shared, which takes memory for the count of those who share it.
+    /// A list that may be shared. It takes memory for the count of those who share it; for 2^32 items or more there is none.
     pub fn of(items: Items<T>) -> Result<SharedItems<T>, AllocError>
         ensures { IfOk result (λ shared. shared ≡ items) }
     {
@@ -82,9 +80,13 @@ impl<T: Drop> SharedItems<T> {
         if len == 0 {
             return Ok(SharedItems::new(alloc));
         }
+        if len > MAX_ITEMS {
+            return Err(AllocError);
+        }
+        let len = len as u32;
+        let list = Arc::new(alloc, without_room(items))?;
         Ok(SharedItems {
-            list: Some(Arc::new(alloc, items)?),
-            len,
+            front: Front::First { len, list },
             alloc,
         })
     }
@@ -96,12 +98,27 @@ impl<T: Drop> SharedItems<T> {
         if len == 0 {
             return Ok(SharedItems::new(self.alloc));
         }
-        Ok(SharedItems {
-            list: shared(&self.list)?,
-            len: len.min(self.len),
-            alloc: self.alloc,
-        })
+        match &self.front {
+            Front::Nothing => Ok(SharedItems::new(self.alloc)),
+            Front::First { len: all, list } => {
+                let len = len.min(*all as usize) as u32;
+                let list = Arc::try_clone(list)?;
+                Ok(SharedItems {
+                    front: Front::First { len, list },
+                    alloc: self.alloc,
+                })
+            }
+        }
     }
+}
+
+/// The list without room for more items.
+fn without_room<T: Drop>(items: Items<T>) -> Items<T>
+    ensures { result ≡ items }
+{
+    let mut list = items.into_vec();
+    list.shrink_to_fit();
+    Items::from_vec(list)
 }
 
 impl<T: Drop> Clone for SharedItems<T> {
@@ -111,11 +128,16 @@ impl<T: Drop> Clone for SharedItems<T> {
 
     /// The same list once more, which takes no memory. It fails only where too many share it to be counted.
     fn clone(&self) -> Result<SharedItems<T>, AllocError> {
-        Ok(SharedItems {
-            list: shared(&self.list)?,
-            len: self.len,
-            alloc: self.alloc,
-        })
+        match &self.front {
+            Front::Nothing => Ok(SharedItems::new(self.alloc)),
+            Front::First { len, list } => {
+                let list = Arc::try_clone(list)?;
+                Ok(SharedItems {
+                    front: Front::First { len: *len, list },
+                    alloc: self.alloc,
+                })
+            }
+        }
     }
 }
 
