@@ -76,14 +76,13 @@ impl<T: Drop> SharedItems<T> {
         ensures { IfOk result (λ shared. shared ≡ items) }
     {
         let alloc = items.allocator();
-        let len = items.len();
-        if len == 0 {
+        if items.is_empty() {
             return Ok(SharedItems::new(alloc));
         }
-        if len > MAX_ITEMS {
+        if items.len() > MAX_ITEMS {
             return Err(AllocError);
         }
-        let len = len as u32;
+        let len = items.len() as u32;
         let list = Arc::new(alloc, without_room(items))?;
         Ok(SharedItems {
             front: Front::First { len, list },
