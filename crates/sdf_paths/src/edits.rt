@@ -1,7 +1,7 @@
 //! Lists of elements made of other lists.
 ghost use Rattle.std.specs.Prelude.{◌≡◌, ◌≤◌, ◌<◌, ◌+◌, ◌^◌, ◌↔◌, ◌++◌, ◌∷◌, [], IfOk, IfErr, OnOk, IsTrue, false, length, cond};
 ghost use Rattle.usd_names.specs.Names.{is_identifier};
-ghost use Rattle.sdf_paths.specs.Paths.{written, written_all, is_selection, is_property, is_property_part, ends_selected, depth, plain, owner, IsPath};
+ghost use Rattle.sdf_paths.specs.Paths.{written, written_all, is_selection, is_property, ends_selected, depth, plain, IsPath};
 
 use crate::element::Element;
 use crate::fault::PathFault;

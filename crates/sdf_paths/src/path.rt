@@ -13,8 +13,10 @@ use plain_data::{ExactClone, ExactEq, ExactOrd, copy};
 use std::alloc::{AllocError, Global};
 use std::marker::Model;
 
-/// A path from the root to a prim or to a property, with the variants that are selected on the way. Its copies share the elements, so
-/// that a copy takes no memory, and `/` takes none either.
+/// A path from the root to a prim or to a property, with the variants that are selected on the way.
+///
+/// A path is a front of a list of elements that several paths share: its copies and the paths above it take no memory, and hold the list
+/// as long as one of them lives. `/` has no list.
 ///
 /// Contracts see it as the list of its elements, from the root down; `/` is the empty list.
 #[derive(Debug, Drop, PartialEq, Eq, PartialOrd, Ord)]
