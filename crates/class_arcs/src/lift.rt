@@ -85,12 +85,5 @@ fn lifted_target(target: &Path, author: &Path, path: &Path) -> Result<Option<Pat
 pub fn path_above(path: &Path, levels: usize) -> Result<Path, AllocError>
     ensures { IfOk result (λ above. above ≡ up path.now levels) }
 {
-    let mut above = copy(path)?;
-    for _level in 0..levels {
-        match above.parent()? {
-            Some(parent) => above = parent,
-            None => return Ok(above),
-        }
-    }
-    Ok(above)
+    path.up(levels)
 }

@@ -1,14 +1,15 @@
 -- Parts of paths, and paths that are put together.
-use Rattle.std.proofs.Common.{◌≡◌, ℕ, ◌+◌, ◌<◌, ◌≤◌, Bool, true, false, cond, not, ◌||◌, List, [], ◌∷◌, ◌++◌, Option, Some, None, refl, sym, ap, ◌∙◌, subst, append_assoc, append-nil, arith, length, length-append}
+use Rattle.std.proofs.Common.{◌≡◌, ℕ, zero, suc, ◌+◌, ◌<◌, ◌≤◌, Bool, true, false, cond, not, ◌||◌, List, [], ◌∷◌, ◌++◌, Option, Some, None, refl, sym, ap, ◌∙◌, subst, append_assoc, append-nil, arith, length, length-append, ◌-◌, take, drop}
 use Rattle.std.specs.List.{list_all}
 use Rattle.std.proofs.lemmas.Bool.{and_from, and_parts}
 pub use Rattle.std.proofs.lemmas.Bool.{and_from as both_hold}
+use Rattle.std.proofs.lemmas.List.{take-append-drop}
 use Rattle.std.proofs.lemmas.List.Folds.{list_all-append}
 use Rattle.std.proofs.lemmas.List.Sums.{sum_by-append, sum_by-cons}
 use Rattle.std.proofs.lemmas.Slice.Eq.{bytes_eq-Decides}
 use Rattle.std.specs.Str.{bytes_eq}
 use Rattle.std.specs.Option.{is_some}
-use Rattle.sdf_paths.specs.Paths.{same_element, rest_after, has_prefix, HasPrefix, MayFollow, is_selection, is_well_named, is_ordered, is_empty, is_property, is_prim_name, depth, written, written_all, printed, ends_selected, plain, owner, IsPath}
+use Rattle.sdf_paths.specs.Paths.{same_element, rest_after, has_prefix, HasPrefix, MayFollow, is_selection, is_well_named, is_ordered, is_empty, is_property, is_prim_name, depth, written, written_all, printed, ends_selected, plain, is_plain, owner, IsPath}
 use Rattle.usd_names.specs.Names.{is_identifier}
 use Rattle.sdf_paths.specs.declared.element.Element.{Element}
 use Rattle.sdf_paths.specs.declared.element.Element.TheVariants.{Prim, Property, Selection}
@@ -58,6 +59,10 @@ pub path_front : (xs ys : List Element) → IsPath (xs ++ ys) → IsPath xs
 path_front xs ys h = path_of xs (ordered_front xs ys false h.well_formed.ordered) (named_front xs ys h.well_formed.named)
     (omega (arith, h.well_formed.few, depth_joined xs ys)) (omega (arith, h.short, length_printed (xs ++ ys), length_joined xs ys false))
 
+-- so are the first elements, however many
+pub path_taken : (path : List Element) (n : ℕ) → IsPath path → IsPath (take n path)
+path_taken path n h = path_front (take n path) (drop n path) (subst IsPath (sym (take-append-drop n path)) h)
+
 -- ---- without selections, without the property
 
 plain_ordered : (path : List Element) (named : Bool) → is_ordered named path ≡ true → is_ordered named (plain path) ≡ true
@@ -100,16 +105,43 @@ pub plain_path : (path : List Element) → IsPath path → IsPath (plain path)
 plain_path path h = path_of (plain path) (plain_ordered path false h.well_formed.ordered) (plain_named path h.well_formed.named)
     (omega (arith, h.well_formed.few, plain_depth path)) (omega (arith, h.short, plain_length path false, length_printed path))
 
--- only the last element may be a property
-owner_split : (path : List Element) (named : Bool) → is_ordered named path ≡ true → (back : List Element) × (path ≡ owner path ++ back)
-owner_split [] named h = ([], refl)
-owner_split (Prim n ∷ path) named h = let rest = owner_split path true h in (rest.0, ap (λ l. Prim n ∷ l) rest.1)
-owner_split (Selection s v ∷ path) named h = let rest = owner_split path true (and_parts named (is_ordered true path) h).1 in (rest.0, ap (λ l. Selection s v ∷ l) rest.1)
-owner_split (Property n ∷ []) named h = (Property n ∷ [], refl)
-owner_split (Property n ∷ e ∷ path) named h = absurd (cc (and_parts named false h).1)
+-- a path that selects no variant is the same without selections
+pub plain_itself : (path : List Element) → is_plain path ≡ true → path ≡ plain path
+plain_itself [] h = refl
+plain_itself (Prim n ∷ path) h = ap (λ l. Prim n ∷ l) (plain_itself path h)
+plain_itself (Property n ∷ path) h = ap (λ l. Property n ∷ l) (plain_itself path h)
+plain_itself (Selection s v ∷ path) h = absurd cc
 
-pub owner_path : (path : List Element) → IsPath path → IsPath (owner path)
-owner_path path h = let split = owner_split path false h.well_formed.ordered in path_front (owner path) split.0 (subst IsPath split.1 h)
+-- a path without a property is its own prim's
+pub owner_itself : (path : List Element) → is_property path ≡ false → path ≡ owner path
+owner_itself [] h = refl
+owner_itself (Prim n ∷ path) h = ap (λ l. Prim n ∷ l) (owner_itself path h)
+owner_itself (Selection s v ∷ path) h = ap (λ l. Selection s v ∷ l) (owner_itself path h)
+owner_itself (Property n ∷ path) h = absurd cc
+
+-- where no element is left there is no property
+some_left : (path : List Element) → length path ≡ 0 → is_property path ≡ true → ⊥
+some_left [] len is = cc
+some_left (e ∷ path) len is = omega (arith, len)
+
+property_last : (path : List Element) (named : Bool) (n : ℕ) → n + 1 ≡ length path → is_ordered named path ≡ true → is_property path ≡ true → take n path ≡ owner path
+property_last [] named n len h is = absurd cc
+property_last (Prim a ∷ path) named zero len h is = absurd (some_left path (omega (arith, len)) is)
+property_last (Prim a ∷ path) named (suc n) len h is = ap (λ l. Prim a ∷ l) (property_last path true n (omega (arith, len)) h is)
+property_last (Selection s v ∷ path) named zero len h is = absurd (some_left path (omega (arith, len)) is)
+property_last (Selection s v ∷ path) named (suc n) len h is =
+    ap (λ l. Selection s v ∷ l) (property_last path true n (omega (arith, len)) (and_parts named (is_ordered true path) h).1 is)
+property_last (Property a ∷ []) named zero len h is = refl
+property_last (Property a ∷ []) named (suc n) len h is = absurd (omega (arith, len))
+property_last (Property a ∷ e ∷ path) named n len h is = absurd (cc (and_parts named false h).1)
+
+some_length : (path : List Element) → is_property path ≡ true → (length path - 1) + 1 ≡ length path
+some_length [] is = absurd cc
+some_length (e ∷ path) is = omega arith
+
+-- a property stands last, so the prim's path is the one above
+pub owner_above : (path : List Element) → IsPath path → is_property path ≡ true → take (length path - 1) path ≡ owner path
+owner_above path h is = property_last path false (length path - 1) (some_length path is) h.well_formed.ordered is
 
 -- ---- a name more
 

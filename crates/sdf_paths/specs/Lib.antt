@@ -4,4 +4,5 @@ pub mod PathOrder
 pub mod Paths
 pub mod Reader
 pub mod Refusal
+pub mod Shared
 pub mod Variants

@@ -1,12 +1,13 @@
 //! Lists of elements made of other lists.
 ghost use Rattle.std.specs.Prelude.{◌≡◌, ◌≤◌, ◌<◌, ◌+◌, ◌^◌, ◌↔◌, ◌++◌, ◌∷◌, [], IfOk, IfErr, OnOk, IsTrue, false, length, cond};
 ghost use Rattle.usd_names.specs.Names.{is_identifier};
-ghost use Rattle.sdf_paths.specs.Paths.{written, written_all, is_selection, is_property, is_property_part, ends_selected, depth, plain, owner, IsPath};
+ghost use Rattle.sdf_paths.specs.Paths.{written, written_all, is_selection, is_property, ends_selected, depth, plain, IsPath};
 
 use crate::element::Element;
 use crate::fault::PathFault;
-use crate::looks::{depth, is_property_part, is_selection};
+use crate::looks::{depth, is_plain, is_selection};
 use crate::reader::{MAX_BYTES, MAX_NAMES};
+use crate::shared::SharedItems;
 use crate::variants::is_variant;
 use plain_data::{Items, Text, copy};
 use std::alloc::{AllocError, Global};
@@ -22,76 +23,99 @@ fn push_all(out: &mut Items<Element>, elements: &[Element]) -> Result<(), AllocE
     Ok(())
 }
 
-/// A copy of the elements.
-pub fn copied(alloc: Global, elements: &[Element]) -> Result<Items<Element>, AllocError>
-    ensures { IfOk result (λ out. out ≡ elements.now) }
+/// An empty list with room for so many elements.
+fn with_room(alloc: Global, room: usize) -> Result<Items<Element>, AllocError>
+    ensures { IfOk result (λ out. out ≡ []) }
 {
-    let mut out = Items::new(alloc);
-    push_all(&mut out, elements)?;
-    Ok(out)
+    Ok(Items::from_vec(Vec::with_capacity(alloc, room)?))
 }
 
 /// The elements, and then those of `rest`.
-pub fn joined(by: &Items<Element>, rest: &[Element]) -> Result<Items<Element>, PathFault>
+pub fn joined(
+    by: &SharedItems<Element>,
+    rest: &[Element],
+) -> Result<SharedItems<Element>, PathFault>
     ensures err { IfErr result (λ e. e ≡ PathFault.NoMemory) }
     ensures ok { IfOk result (λ out. out ≡ by.now ++ rest.now) }
 {
-    let mut out = by.copy()?;
+    if rest.is_empty() {
+        return Ok(copy(by)?);
+    }
+    let elements = by.as_slice();
+    let mut out = with_room(by.allocator(), elements.len() + rest.len())?;
+    push_all(&mut out, elements)?;
     push_all(&mut out, rest)?;
-    Ok(out)
+    Ok(SharedItems::of(out)?)
+}
+
+/// The elements, and then one more.
+fn pushed(by: &SharedItems<Element>, element: Element) -> Result<SharedItems<Element>, AllocError>
+    ensures { IfOk result (λ out. out ≡ by.now ++ element ∷ []) }
+{
+    let elements = by.as_slice();
+    let mut out = with_room(by.allocator(), elements.len() + 1)?;
+    push_all(&mut out, elements)?;
+    out.push(element)?;
+    SharedItems::of(out)
 }
 
 /// The elements, and then a prim's name.
-pub fn appended(elements: &Items<Element>, name: &str) -> Result<Items<Element>, PathFault>
+pub fn appended(by: &SharedItems<Element>, name: &str) -> Result<SharedItems<Element>, PathFault>
     ensures err { IfErr result (λ e. e ≡ PathFault.NoMemory) }
-    ensures ok { IfOk result (λ out. out ≡ elements.now ++ Element.Prim name.now ∷ []) }
+    ensures ok { IfOk result (λ out. out ≡ by.now ++ Element.Prim name.now ∷ []) }
 {
-    let mut out = elements.copy()?;
-    out.push(Element::Prim(Text::of(elements.allocator(), name)?))?;
-    Ok(out)
+    let name = Text::of(by.allocator(), name)?;
+    Ok(pushed(by, Element::Prim(name))?)
 }
 
 /// The elements, and then a selection.
 pub fn selected(
-    elements: &Items<Element>,
+    by: &SharedItems<Element>,
     set: &str,
     variant: &str,
-) -> Result<Items<Element>, PathFault>
+) -> Result<SharedItems<Element>, PathFault>
     ensures err { IfErr result (λ e. e ≡ PathFault.NoMemory) }
-    ensures ok { IfOk result (λ out. out ≡ elements.now ++ Element.Selection set.now variant.now ∷ []) }
+    ensures ok { IfOk result (λ out. out ≡ by.now ++ Element.Selection set.now variant.now ∷ []) }
 {
-    let alloc = elements.allocator();
-    let mut out = elements.copy()?;
+    let alloc = by.allocator();
     let set = Text::of(alloc, set)?;
     let variant = Text::of(alloc, variant)?;
-    out.push(Element::Selection { set, variant })?;
-    Ok(out)
+    Ok(pushed(by, Element::Selection { set, variant })?)
 }
 
-/// The elements but for the selections.
-pub fn plain(alloc: Global, elements: &[Element]) -> Result<Items<Element>, AllocError>
+/// How many elements are no selections.
+fn plain_len(elements: &[Element]) -> usize {
+    elements
+        .iter()
+        .filter(|element| !is_selection(element))
+        .count()
+}
+
+/// The elements but for the selections. Where there is none no memory is taken.
+#[tactic(auto, using(crate::proofs::Shapes::plain_itself))]
+pub fn plain(elements: &SharedItems<Element>) -> Result<SharedItems<Element>, AllocError>
     ensures { IfOk result (λ out. out ≡ plain elements.now) }
 {
-    let mut out = Items::new(alloc);
+    if is_plain(elements.as_slice()) {
+        return copy(elements);
+    }
+    without_selections(elements.allocator(), elements.as_slice())
+}
+
+/// A list of the elements that are no selections.
+fn without_selections(
+    alloc: Global,
+    elements: &[Element],
+) -> Result<SharedItems<Element>, AllocError>
+    ensures { IfOk result (λ out. out ≡ plain elements.now) }
+{
+    let mut out = with_room(alloc, plain_len(elements))?;
     for element in elements {
         if !is_selection(element) {
             out.push(copy(element)?)?;
         }
     }
-    Ok(out)
-}
-
-/// The elements but for the property.
-pub fn owner(alloc: Global, elements: &[Element]) -> Result<Items<Element>, AllocError>
-    ensures { IfOk result (λ out. out ≡ owner elements.now) }
-{
-    let mut out = Items::new(alloc);
-    for element in elements {
-        if !is_property_part(element) {
-            out.push(copy(element)?)?;
-        }
-    }
-    Ok(out)
+    SharedItems::of(out)
 }
 
 /// How many bytes an element has in print.

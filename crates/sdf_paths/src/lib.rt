@@ -10,6 +10,7 @@ mod fault;
 mod looks;
 mod path;
 mod reader;
+mod shared;
 mod texts;
 mod variants;
 

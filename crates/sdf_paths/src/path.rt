@@ -1,4 +1,4 @@
-ghost use Rattle.std.specs.Prelude.{List, ◌≡◌, ◌⊎◌, [], ◌∷◌, ◌++◌, Ok, Err, IfOk, IfErr, OnOk, IsSomeAnd, false, string_bytes, IsTrue, ◌↔◌};
+ghost use Rattle.std.specs.Prelude.{List, ◌≡◌, ◌⊎◌, ◌-◌, [], ◌∷◌, ◌++◌, length, take, Ok, Err, IfOk, IfErr, OnOk, IsSomeAnd, false, string_bytes, IsTrue, ◌↔◌};
 ghost use Rattle.std.specs.Option.{option_copied, ForSome};
 ghost use Rattle.sdf_paths.specs.Paths.{IsPath, IsReadAs, printed, is_property, is_plain, depth, last_name, has_prefix, HasPrefix};
 ghost use Rattle.sdf_paths.specs.Refusal.{IsFaultOf};
@@ -7,17 +7,21 @@ ghost use Rattle.sdf_paths.specs.declared.element.Element.{Element};
 
 use crate::element::Element;
 use crate::fault::PathFault;
+use crate::shared::SharedItems;
 use crate::{edits, looks, reader};
-use plain_data::{ExactClone, ExactEq, ExactOrd, Items};
+use plain_data::{ExactClone, ExactEq, ExactOrd, copy};
 use std::alloc::{AllocError, Global};
 use std::marker::Model;
 
 /// A path from the root to a prim or to a property, with the variants that are selected on the way.
 ///
+/// A path is a front of a list of elements that several paths share: its copies and the paths above it take no memory, and hold the list
+/// as long as one of them lives. `/` has no list.
+///
 /// Contracts see it as the list of its elements, from the root down; `/` is the empty list.
 #[derive(Debug, Drop, PartialEq, Eq, PartialOrd, Ord)]
 pub struct Path {
-    elements: Items<Element>,
+    elements: SharedItems<Element>,
 }
 
 impl Model for Path {
@@ -40,9 +44,10 @@ impl Clone for Path {
 
     ghost is_clone = { λ p q. q ≡ p };
 
+    /// The same path once more, which takes no memory. It fails only where too many share its elements to be counted.
     fn clone(&self) -> Result<Path, AllocError> {
         Ok(Path {
-            elements: self.elements.copy()?,
+            elements: copy(&self.elements)?,
         })
     }
 }
@@ -69,7 +74,7 @@ impl Path {
         ensures { result ≡ [] }
     {
         Path {
-            elements: Items::new(alloc),
+            elements: SharedItems::new(alloc),
         }
     }
 
@@ -85,7 +90,9 @@ impl Path {
         ensures bad { IfErr result (λ e. IsFaultOf text.now e) }
     {
         match reader::read(alloc, text) {
-            Ok(elements) => Ok(Path { elements }),
+            Ok(elements) => Ok(Path {
+                elements: SharedItems::of(elements)?,
+            }),
             Err(fault) => Err(fault),
         }
     }
@@ -110,7 +117,7 @@ impl Path {
     pub fn is_root(&self) -> bool
         ensures { IsTrue result ↔ (self.now ≡ []) }
     {
-        self.elements.is_empty()
+        self.elements.as_slice().is_empty()
     }
 
     /// Whether the path is that of a property.
@@ -160,14 +167,21 @@ impl Path {
     pub fn parent(&self) -> Result<Option<Path>, AllocError>
         ensures { IfOk result (λ above. above ≡ parent self.now) }
     {
-        let elements = self.elements.as_slice();
-        if elements.is_empty() {
+        if self.is_root() {
             return Ok(None);
         }
-        let above = &elements[..elements.len() - 1];
-        Ok(Some(Path {
-            elements: edits::copied(self.elements.allocator(), above)?,
-        }))
+        Ok(Some(self.up(1)?))
+    }
+
+    /// The path so many levels up: without its last elements, so many of them; `/` where it has no more. It takes no memory, and fails only
+    /// where too many paths share its elements to be counted.
+    pub fn up(&self, levels: usize) -> Result<Path, AllocError>
+        ensures { IfOk result (λ above. above ≡ take (length self.now - levels) self.now) }
+    {
+        let len = self.elements.as_slice().len();
+        Ok(Path {
+            elements: self.elements.front(len.saturating_sub(levels))?,
+        })
     }
 
     /// The path of a prim below this one.
@@ -235,16 +249,21 @@ impl Path {
         ensures path { IsPath (plain self.now) }
     {
         Ok(Path {
-            elements: edits::plain(self.elements.allocator(), self.elements.as_slice())?,
+            elements: edits::plain(&self.elements)?,
         })
     }
 
-    /// The path of the prim: without the name of the property, if there is one.
+    /// The path of the prim: without the name of the property, if there is one. It takes no memory, and fails only where too many paths
+    /// share its elements to be counted.
+    #[tactic(auto, using(crate::proofs::Shapes::owner_above, crate::proofs::Shapes::owner_itself))]
     pub fn owner(&self) -> Result<Path, AllocError>
         ensures { IfOk result (λ path. path ≡ owner self.now) }
     {
-        Ok(Path {
-            elements: edits::owner(self.elements.allocator(), self.elements.as_slice())?,
-        })
+        // By the contract of `elements` a property stands last.
+        if looks::is_property(self.elements()) {
+            self.up(1)
+        } else {
+            copy(self)
+        }
     }
 }

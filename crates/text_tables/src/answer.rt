@@ -13,7 +13,7 @@ use crate::lists::{
 use crate::names::{push_anchored_call, push_compared_call, push_kind_call, push_name_call};
 use crate::paths::{
     push_append_call, push_looks_call, push_move_call, push_ordered_call, push_path_call,
-    push_prefix_call, push_sort_call,
+    push_prefix_call, push_sort_call, push_up_call,
 };
 use crate::table::Row;
 use crate::tokens::{
@@ -92,6 +92,7 @@ fn push_made_paths(alloc: Global, out: &mut String, call: Call<'_>) -> Result<()
         "move" => push_move_call(alloc, out, words, text),
         "ordered" => push_ordered_call(alloc, out, text),
         "prefix" => push_prefix_call(alloc, out, words, text),
+        "up" => push_up_call(alloc, out, words, text),
         _ => push_names(alloc, out, call),
     }
 }

@@ -58,6 +58,22 @@ pub(crate) fn push_looks_call(
     told
 }
 
+/// `up LEVELS`: the path so many levels above the path.
+pub(crate) fn push_up_call(
+    alloc: Global,
+    out: &mut String,
+    levels: &str,
+    text: &str,
+) -> Result<(), CallFault> {
+    let Ok(levels) = levels.parse::<usize>() else {
+        return Err(CallFault::Bad);
+    };
+    let path = path_of(alloc, text)?;
+    let above = path.up(levels);
+    drop(path);
+    push_made(out, Ok(above?))
+}
+
 /// Appends a word where something holds.
 fn push_if(out: &mut String, holds: bool, word: &str) -> Result<(), AllocError> {
     if holds {

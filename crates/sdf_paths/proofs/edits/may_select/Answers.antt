@@ -1,4 +1,4 @@
-use Rattle.std.proofs.Common.{◌≡◌, ◌≤◌, ◌+◌, ℕ, true, arith, sym, ◌∙◌, leb}
+use Rattle.std.proofs.Common.{◌≡◌, ◌≤◌, ℕ, true, arith, sym, ◌∙◌, leb}
 use Rattle.std.proofs.lemmas.Bool.Decides.{nat_tests}
 use Rattle.sdf_paths.proofs.Selections.{select_path, select_short, some_elements}
 use Rattle.sdf_paths.proofs.edits.may_select.Goals as goal

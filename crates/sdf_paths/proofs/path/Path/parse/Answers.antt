@@ -1,9 +1,9 @@
-use Rattle.std.proofs.Common.{◌≡◌, ◌⊎◌, Ok, Err, List, ℕ, Result, inl, inr, ap, refl, sym}
+use Rattle.std.proofs.Common.{◌≡◌, ◌⊎◌, Ok, Err, List, ℕ, Result, inl, inr, ap, refl, sym, subst, ◌∙◌}
 use Rattle.std.specs.Str.{IsUtf8}
 use Rattle.sdf_paths.specs.declared.element.Element.{Element}
 use Rattle.sdf_paths.specs.declared.fault.PathFault.{PathFault}
 use Rattle.sdf_paths.specs.declared.fault.PathFault.TheVariants.{Bad, NoMemory}
-use Rattle.sdf_paths.specs.Paths.{IsReadAs}
+use Rattle.sdf_paths.specs.Paths.{IsPath, IsReadAs}
 use Rattle.sdf_paths.specs.Refusal.{IsFaultOf}
 use Rattle.sdf_paths.specs.Reader.{StopsAsTold}
 use Rattle.sdf_paths.proofs.ParseExact.{is_read, read_once, is_refused, path_of_read}
@@ -19,13 +19,18 @@ not_read text (Bad at) utf8 h path read = absurd ((is_refused text at utf8 h).un
 not_read text NoMemory utf8 h path read = inr refl
 
 pub invariant_of-result : goal.invariant_of-result
-invariant_of-result c = path_of_read c.args.text.now c.in-Ok.elements (is_read c.args.text.now c.in-Ok.elements c.utf8.text c.in-Ok.ensures.ok)
+invariant_of-result c =
+    let read = is_read c.args.text.now c.in-Ok.elements c.utf8.text c.in-Ok.ensures.ok in
+    subst IsPath (sym c.in_ok-of-in-Ok.ensures) (path_of_read c.args.text.now c.in-Ok.elements read)
 
-pub returns-in-Ok-clause-ok : goal.returns-in-Ok-clause-ok
-returns-in-Ok-clause-ok c = is_read c.args.text.now c.in-Ok.elements c.utf8.text c.in-Ok.ensures.ok
+pub returns-in_ok-of-in-Ok-clause-ok : goal.returns-in_ok-of-in-Ok-clause-ok
+returns-in_ok-of-in-Ok-clause-ok c =
+    let read = is_read c.args.text.now c.in-Ok.elements c.utf8.text c.in-Ok.ensures.ok in
+    subst (IsReadAs c.args.text.now) (sym c.in_ok-of-in-Ok.ensures) read
 
-pub returns-in-Ok-clause-read : goal.returns-in-Ok-clause-read
-returns-in-Ok-clause-read c = λ path read. inl (ap Ok (sym (read_once c.args.text.now c.in-Ok.elements path c.utf8.text c.in-Ok.ensures.ok read)))
+pub returns-in_ok-of-in-Ok-clause-read : goal.returns-in_ok-of-in-Ok-clause-read
+returns-in_ok-of-in-Ok-clause-read c =
+    λ path read. inl (ap Ok (c.in_ok-of-in-Ok.ensures ∙ sym (read_once c.args.text.now c.in-Ok.elements path c.utf8.text c.in-Ok.ensures.ok read)))
 
 pub returns-in-Err-clause-bad : goal.returns-in-Err-clause-bad
 returns-in-Err-clause-bad c = fault_is c.args.text.now c.in-Err.fault c.utf8.text c.in-Err.ensures.bad
