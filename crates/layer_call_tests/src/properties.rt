@@ -347,3 +347,56 @@ fn a_selection_is_found(rt: HostRuntime) -> Result<(), Fail> {
     assert!(rt; answer?);
     Ok(())
 }
+
+/// Names of more properties than are found by going over them.
+const MANY: [&str; 12] = ["a", "b", "c", "d", "e", "f", "g", "h", "i", "j", "k", "l"];
+
+fn all_are_new(alloc: Global, properties: &mut Properties) -> Result<bool, Fail> {
+    for name in &MANY {
+        if !is_new(alloc, properties, name)? {
+            return Ok(false);
+        }
+    }
+    Ok(true)
+}
+
+fn all_are_found(alloc: Global, properties: &Properties) -> Result<bool, Fail> {
+    for name in &MANY {
+        if !has(alloc, properties, name)? {
+            return Ok(false);
+        }
+    }
+    Ok(true)
+}
+
+fn many_stand(alloc: Global, properties: &mut Properties) -> Result<bool, Fail> {
+    Ok(
+        all_are_new(alloc, properties)?
+            && all_are_found(alloc, properties)?
+            && is_copied(properties)?,
+    )
+}
+
+/// Whether the first of many is removed, and those behind it are found in their places.
+fn others_move(alloc: Global, properties: &mut Properties) -> Result<bool, Fail> {
+    drop(properties.remove(&Text::of(alloc, "a")?));
+    let is_gone = !has(alloc, properties, "a")? && has(alloc, properties, "l")?;
+    Ok(is_gone && is_attribute(alloc, properties.at(10), "l", false)?)
+}
+
+fn keep_their_order(alloc: Global, properties: &mut Properties) -> Result<bool, Fail> {
+    Ok(many_stand(alloc, properties)? && others_move(alloc, properties)?)
+}
+
+fn many_keep_order(alloc: Global) -> Result<bool, Fail> {
+    let mut properties = Properties::new(alloc);
+    let answer = keep_their_order(alloc, &mut properties);
+    drop(properties);
+    answer
+}
+
+#[test]
+fn many_properties_keep_their_order(rt: HostRuntime) -> Result<(), Fail> {
+    assert!(rt; many_keep_order(rt.alloc())?);
+    Ok(())
+}

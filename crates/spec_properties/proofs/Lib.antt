@@ -1,2 +1,3 @@
 pub mod NamedLists
-pub mod SameEntries
+pub mod Once
+pub mod Places

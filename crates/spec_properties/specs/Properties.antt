@@ -41,7 +41,3 @@ without_property name (p ∷ ps) = cond (same_name name (property_name p)) ps (p
 -- the relationship of a name that says nothing
 abbrev pub blank_relationship : List ℕ → Property
 blank_relationship name = Rel name false no_edits []
-
--- each property with its name
-abbrev pub named : List Property → List (List ℕ × Property)
-named properties = map (λ p. (property_name p, p)) properties

@@ -1,6 +1,7 @@
 //! Properties of scene description: metadata, samples and selections as tables, and properties by name in their order.
 #![tactic(auto)]
 
+mod names;
 mod properties;
 mod property;
 mod small;

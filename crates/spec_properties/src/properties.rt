@@ -1,11 +1,12 @@
-ghost use Rattle.std.specs.Prelude.{◌≡◌, ◌↔◌, ◌<◌, ◌^◌, [], length, slice_get, is_some, Some, None, IfOk, IfErr, IfSome, OnOk, OnErr, IsTrue};
+ghost use Rattle.std.specs.Prelude.{◌≡◌, ◌↔◌, ◌<◌, ◌^◌, [], ◌∷◌, ◌++◌, length, slice_get, is_some, Some, None, IfOk, IfErr, IfSome, OnOk, OnErr, IsTrue};
 ghost use Rattle.std.specs.Iterator.Adapters.{IterYieldsInOrder, IterYieldsInReverse};
 ghost use Rattle.std.specs.Option.{option_copied};
 ghost use Rattle.std.specs.Slice.Iter.{iter_rest};
 ghost use Rattle.spec_properties.specs.Properties.{AreProperties, property_name, property_at, with_property, without_property, blank_relationship};
+ghost use Rattle.spec_properties.specs.Places.{IsAbsent, IsPlace};
 
+use crate::names::{FEW, NameIndex};
 use crate::property::Property;
-use indexmap::IndexMap;
 use plain_data::{ExactClone, ExactEq, Text, copy};
 use std::alloc::{AllocError, Global};
 use std::marker::Model;
@@ -16,24 +17,25 @@ use std::{mem, slice};
 /// Contracts see the list of properties in order, each name once.
 #[derive(Debug, Drop)]
 pub struct Properties {
-    by_name: IndexMap<Text, Property>,
+    list: Vec<Property>,
+    index: NameIndex,
 }
 
 impl Model for Properties {
-    ghost use Rattle.std.specs.Prelude.{◌≡◌, List};
+    ghost use Rattle.std.specs.Prelude.{List};
     ghost use Rattle.std.specs.Coded.{codes};
-    ghost use Rattle.std.specs.Map.{values_of};
     ghost use Rattle.spec_properties.specs.declared.property.Property.{Property};
     ghost use Rattle.spec_properties.specs.contracts.property.Property as property;
-    ghost use Rattle.spec_properties.specs.Properties.{named};
+    ghost use Rattle.spec_properties.specs.Properties.{AreProperties};
+    ghost use Rattle.spec_properties.specs.Places.{Indexes};
 
     ghost Value = { List Property };
 
     ghost coded = { Prim.hlevel (codes, property.the_row.coded) };
 
-    ghost view = { λ t. values_of t.by_name.entries };
+    ghost view = { λ t. t.list.items };
 
-    ghost invariant = { λ t. t.by_name.entries ≡ named (values_of t.by_name.entries) };
+    ghost invariant = { λ t. AreProperties t.list.items × Indexes t.index t.list.items };
 }
 
 impl Properties {
@@ -42,7 +44,8 @@ impl Properties {
         ensures { result ≡ [] }
     {
         Properties {
-            by_name: IndexMap::new(alloc),
+            list: Vec::new(alloc),
+            index: NameIndex::new(),
         }
     }
 
@@ -51,14 +54,14 @@ impl Properties {
         ensures len { result ≡ length self.now }
         ensures distinct { AreProperties self.now }
     {
-        self.by_name.len()
+        self.list.len()
     }
 
     /// Whether there is no property.
     pub fn is_empty(&self) -> bool
         ensures { IsTrue result ↔ (self.now ≡ []) }
     {
-        self.by_name.is_empty()
+        self.list.is_empty()
     }
 
     /// The property of a name.
@@ -66,14 +69,15 @@ impl Properties {
         ensures property { option_copied result ≡ property_at name.now self.now }
         ensures named { IfSome result (λ p. property_name p.now ≡ name.now) }
     {
-        self.by_name.get(name)
+        let place = self.place(name)?;
+        self.at(place)
     }
 
     /// Whether there is a property of a name.
     pub fn has(&self, name: &Text) -> bool
         ensures { result ≡ is_some (property_at name.now self.now) }
     {
-        self.by_name.contains_key(name)
+        self.place(name).is_some()
     }
 
     /// The properties in their order.
@@ -81,8 +85,7 @@ impl Properties {
         ensures same { result.now ≡ self.now }
         ensures distinct { AreProperties self.now }
     {
-        let entries = self.by_name.as_slice();
-        entries.values().as_slice()
+        self.list.as_slice()
     }
 
     /// The property at this place, counted from 0; nothing past the end. It needs no walk.
@@ -109,11 +112,11 @@ impl Properties {
         ensures ok { OnOk result (self.new ≡ with_property property self.old) }
         ensures err { OnErr result (self.new ≡ self.old) }
     {
-        match copy(property.name()) {
-            Ok(name) => Ok(self.by_name.insert(name, property)?),
-            Err(error) => {
-                drop(property);
-                Err(error)
+        match self.place(property.name()) {
+            Some(place) => Ok(Some(mem::replace(&mut self.list[place], property))),
+            None => {
+                self.append(property)?;
+                Ok(None)
             }
         }
     }
@@ -126,8 +129,8 @@ impl Properties {
         ensures absent { IfErr result (λ back. (back ≡ property) × (property_at (property_name property) self.old ≡ None)) }
         ensures err { OnErr result (self.new ≡ self.old) }
     {
-        match self.by_name.get_mut(property.name()) {
-            Some(slot) => Ok(mem::replace(slot, property)),
+        match self.place(property.name()) {
+            Some(place) => Ok(mem::replace(&mut self.list[place], property)),
             None => Err(property),
         }
     }
@@ -140,7 +143,7 @@ impl Properties {
         ensures absent { result ≡ Ok None → self.new ≡ self.old }
         ensures err { OnErr result (self.new ≡ self.old) }
     {
-        let blank = Property::blank_relationship(*self.by_name.allocator(), copy(name)?);
+        let blank = Property::blank_relationship(*self.list.allocator(), copy(name)?);
         match self.replace(blank) {
             Ok(taken) => Ok(Some(taken)),
             Err(blank) => {
@@ -155,15 +158,61 @@ impl Properties {
         ensures before { result ≡ property_at name.now self.old }
         ensures removed { self.new ≡ without_property name.now self.old }
     {
-        self.by_name.shift_remove(name)
+        let place = self.place(name)?;
+        self.index.remove(name);
+        Some(self.list.remove(place))
+    }
+
+    /// The place of the property of a name.
+    fn place(&self, name: &Text) -> Option<usize>
+        ensures { IsPlace name.now self.now result }
+    {
+        self.index.place(self.list.as_slice(), name)
+    }
+
+    /// Puts a property of a new name at the end. After want of memory the properties are as before.
+    fn append(&mut self, property: Property) -> Result<(), AllocError>
+        requires { IsAbsent (property_name property) self.old }
+        ensures ok { OnOk result (self.new ≡ self.old ++ property ∷ []) }
+        ensures err { OnErr result (self.new ≡ self.old) }
+    {
+        let alloc = *self.list.allocator();
+        match self
+            .index
+            .note(alloc, self.list.as_slice(), property.name())
+        {
+            Ok(()) => match push_within(&mut self.list, property) {
+                Ok(()) => Ok(()),
+                Err(error) => {
+                    self.index.clear();
+                    Err(error)
+                }
+            },
+            Err(error) => {
+                drop(property);
+                Err(error)
+            }
+        }
     }
 }
 
-/// A copy of a map.
-fn copied<V: ExactClone>(by_name: &IndexMap<Text, V>) -> Result<IndexMap<Text, V>, AllocError>
-    ensures { IfOk result (λ copy. copy.entries ≡ by_name.now.entries) }
+/// Puts an item at the end of a list, which has no more room than its items take while they are few.
+fn push_within<T: Drop>(list: &mut Vec<T>, item: T) -> Result<(), AllocError>
+    ensures ok { OnOk result (list.new.items ≡ list.old.items ++ item ∷ []) }
+    ensures err { OnErr result (list.new.items ≡ list.old.items) }
 {
-    by_name.clone()
+    if list.len() < FEW {
+        list.reserve_exact(1)?;
+    }
+    list.push(item)?;
+    Ok(())
+}
+
+/// A copy of a list.
+fn copied<T: ExactClone>(list: &Vec<T>) -> Result<Vec<T>, AllocError>
+    ensures { IfOk result (λ copy. copy.items ≡ list.now.items) }
+{
+    list.clone()
 }
 
 impl Clone for Properties {
@@ -172,8 +221,10 @@ impl Clone for Properties {
     ghost is_clone = { λ x y. y ≡ x };
 
     fn clone(&self) -> Result<Properties, AllocError> {
+        let index = self.index.copy()?;
         Ok(Properties {
-            by_name: copied(&self.by_name)?,
+            list: copied(&self.list)?,
+            index,
         })
     }
 }
@@ -182,11 +233,11 @@ impl ExactClone for Properties {
     ghost copy_is_same = { λ x y h. h };
 }
 
-/// Whether two maps have the same entries in the same order.
-fn same_entries<V: ExactEq>(a: &IndexMap<Text, V>, b: &IndexMap<Text, V>) -> bool
-    ensures { IsTrue result ↔ (a.now.entries ≡ b.now.entries) }
+/// Whether two lists are one.
+fn same_items<T: ExactEq>(a: &Vec<T>, b: &Vec<T>) -> bool
+    ensures { IsTrue result ↔ (a.now.items ≡ b.now.items) }
 {
-    a.as_slice() == b.as_slice()
+    a == b
 }
 
 impl PartialEq for Properties {
@@ -221,5 +272,5 @@ impl ExactEq for Properties {
 fn same_properties(a: &Properties, b: &Properties) -> bool
     ensures { IsTrue result ↔ (a.now ≡ b.now) }
 {
-    same_entries(&a.by_name, &b.by_name)
+    same_items(&a.list, &b.list)
 }

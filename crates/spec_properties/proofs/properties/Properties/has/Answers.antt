@@ -1,8 +1,6 @@
-use Rattle.std.proofs.Common.{◌∙◌, ap, Option}
-use Rattle.std.specs.Option.{is_some}
-use Rattle.spec_properties.specs.declared.property.Property.{Property}
-use Rattle.spec_properties.proofs.NamedLists.{found}
+use Rattle.std.proofs.Common.{◌∙◌}
+use Rattle.spec_properties.proofs.Places.{has_place}
 use Rattle.spec_properties.proofs.properties.Properties.has.Goals as goal
 
 pub returns : goal.returns
-returns c = c.contains_key.ensures ∙ ap (λ (o : Option Property). is_some o) (found c.self.inside.by_name.entries c.args.self.now c.self.invariant c.self.view_is c.args.name.now)
+returns c = c.is_some.ensures ∙ has_place c.args.name.now c.args.self.now c.place.result c.place.ensures

@@ -1,23 +1,37 @@
-use Rattle.std.proofs.Common.{◌∙◌, ap, ℕ, List}
-use Rattle.spec_properties.specs.Properties.{with_property, property_at}
-use Rattle.indexmap.specs.IndexMap.{insert_entry}
-use Rattle.spec_properties.specs.Properties.{same_name}
-use Rattle.spec_properties.proofs.NamedLists.{found, inserted, are_values, are_named}
+use Rattle.std.proofs.Common.{◌≡◌, ◌∙◌, ◌<◌, ap, sym, subst, length, get_or, slice_set, arith, ℕ, List, Some}
+use Rattle.spec_properties.specs.declared.property.Property.{Property}
+use Rattle.spec_properties.specs.Properties.{property_name, property_at}
+use Rattle.spec_properties.specs.Places.{StandsAt}
+use Rattle.spec_properties.proofs.Places.{read_at, at_no_place, within, exchanged, appended}
+use Rattle.spec_properties.proofs.Once.{fits_exchanged}
 use Rattle.spec_properties.proofs.properties.Properties.insert.Goals as goal
 
-pub invariant_of-self-in-Ok : goal.invariant_of-self-in-Ok
-invariant_of-self-in-Ok c = are_named c.insert.new.self.entries (with_property c.args.property c.args.self.now)
-    (c.in_ok-insert-in-Ok.ensures.entries
-    ∙ (ap (λ (n : List ℕ). insert_entry same_name c.self.inside.by_name.entries n c.args.property) (c.in-Ok.ensures ∙ c.name.ensures)
-    ∙ inserted c.self.inside.by_name.entries c.args.self.now c.self.invariant c.self.view_is c.args.property))
+pub index_mut-requires : goal.index_mut-requires
+index_mut-requires c =
+    let inside : c.in-Some.place < length c.self.inside.list.items =
+    subst (λ (ps : List Property). c.in-Some.place < length ps) (sym c.self.view_is) (within c.name.result.now c.args.self.now c.in-Some.place c.in-Some.ensures) in
+    omega (arith, inside)
 
-pub returns-in_ok-insert-in-Ok-clause-before : goal.returns-in_ok-insert-in-Ok-clause-before
-returns-in_ok-insert-in-Ok-clause-before c = c.in_ok-insert-in-Ok.ensures.old
-    ∙ (found c.self.inside.by_name.entries c.args.self.now c.self.invariant c.self.view_is c.in-Ok.name
-    ∙ ap (λ (n : List ℕ). property_at n c.args.self.now) (c.in-Ok.ensures ∙ c.name.ensures))
+pub invariant_of-self : goal.invariant_of-self
+invariant_of-self c =
+    fits_exchanged c.self.inside.index c.args.property c.replace.new.dest c.self.inside.list.items c.in-Some.place c.replace.ensures.after
+    (rw (c.self.view_is, ← c.name.ensures) c.in-Some.ensures) c.self.invariant
 
-pub returns-in_ok-insert-in-Ok-clause-ok : goal.returns-in_ok-insert-in-Ok-clause-ok
-returns-in_ok-insert-in-Ok-clause-ok c = are_values c.insert.new.self.entries (with_property c.args.property c.args.self.now)
-    (c.in_ok-insert-in-Ok.ensures.entries
-    ∙ (ap (λ (n : List ℕ). insert_entry same_name c.self.inside.by_name.entries n c.args.property) (c.in-Ok.ensures ∙ c.name.ensures)
-    ∙ inserted c.self.inside.by_name.entries c.args.self.now c.self.invariant c.self.view_is c.args.property))
+pub returns-in-Some-clause-before : goal.returns-in-Some-clause-before
+returns-in-Some-clause-before c =
+    let at : StandsAt (property_name c.args.property) c.args.self.now c.in-Some.place = rw (← c.name.ensures) c.in-Some.ensures in
+    let there : c.index_mut.result.now ≡ get_or c.args.self.now c.in-Some.place c.index_mut.result.now =
+    c.index_mut.ensures.value ∙ ap (λ (ps : List Property). get_or ps c.in-Some.place c.index_mut.result.now) c.self.view_is in
+    ap Some c.replace.ensures.value ∙ read_at (property_name c.args.property) c.args.self.now c.in-Some.place c.index_mut.result.now at there
+
+pub returns-in-Some-clause-ok : goal.returns-in-Some-clause-ok
+returns-in-Some-clause-ok c =
+    let at : StandsAt (property_name c.args.property) c.args.self.now c.in-Some.place = rw (← c.name.ensures) c.in-Some.ensures in
+    ap (λ (ps : List Property). slice_set ps c.in-Some.place c.replace.new.dest) c.self.view_is
+    ∙ (ap (λ (q : Property). slice_set c.args.self.now c.in-Some.place q) c.replace.ensures.after ∙ exchanged c.args.property c.args.self.now c.in-Some.place at)
+
+pub returns-in_ok-append-in-None-clause-before : goal.returns-in_ok-append-in-None-clause-before
+returns-in_ok-append-in-None-clause-before c = sym (ap (λ (n : List ℕ). property_at n c.args.self.now) (sym c.name.ensures) ∙ at_no_place c.name.result.now c.args.self.now c.in-None.ensures)
+
+pub returns-in_ok-append-in-None-clause-ok : goal.returns-in_ok-append-in-None-clause-ok
+returns-in_ok-append-in-None-clause-ok c = c.in_ok-append-in-None.ensures.ok ∙ appended c.args.property c.args.self.now (rw (← c.name.ensures) c.in-None.ensures)
