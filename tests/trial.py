@@ -3,7 +3,8 @@
 
     python3 tests/trial.py
 
-The copy has what `./usdstage` needs and the examples, and no program. The first command compiles the trial, the others run it.
+The copy has what `./usdstage` needs and the examples, and no program. The first command compiles the trial, the others run it. The last run
+is the one of a kit that gives no trial to keep.
 """
 import os
 import shutil
@@ -30,10 +31,10 @@ RUNS = [
 ]
 
 
-def ran(program, top, words, script):
+def ran(command, top, words, script):
     """The exit status of a run, what it wrote and what it said."""
     with open(os.path.join(TOP, SHOT, script), "rb") as given:
-        done = subprocess.run([program, *words.split()], cwd=os.path.join(top, SHOT), stdin=given, capture_output=True, timeout=1200)
+        done = subprocess.run([*command, *words.split()], cwd=os.path.join(top, SHOT), stdin=given, capture_output=True, timeout=1200)
     return done.returncode, done.stdout, done.stderr
 
 
@@ -43,14 +44,15 @@ def main():
         scratch.write(folder, ["usdstage"])
         shutil.copytree(os.path.join(TOP, "tools"), os.path.join(folder, "tools"))
         shutil.copytree(os.path.join(TOP, "examples"), os.path.join(folder, "examples"))
-        command = shutil.copy2(os.path.join(TOP, "usdstage"), folder)
-        for words, script in RUNS:
-            status, written, said = ran(BUILT, TOP, words, script)
+        launcher = shutil.copy2(os.path.join(TOP, "usdstage"), folder)
+        once = [sys.executable, os.path.join(folder, "tools", "try_program.py"), "run"]
+        for command, line, words, script in [([launcher], LINE, *run) for run in RUNS] + [(once, b"", *RUNS[1])]:
+            status, written, said = ran([BUILT], TOP, words, script)
             got = ran(command, folder, words, script)
-            if got != (status, written, LINE + said):
+            if got != (status, written, line + said):
                 failed += 1
-                print(f"{words} <{script}: {got} (wanted {(status, written, LINE + said)})")
-    print(f"{len(RUNS) - failed} passed, {failed} failed")
+                print(f"{command} {words} <{script}: {got} (wanted {(status, written, line + said)})")
+    print(f"{len(RUNS) + 1 - failed} passed, {failed} failed")
     sys.exit(1 if failed else 0)
 
 
