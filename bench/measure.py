@@ -184,7 +184,7 @@ def run_cases(program, cases, only):
 
 def program_of(path):
     if not os.path.exists(path):
-        sys.exit("build the program first: cd examples/shot && ../../usdstage flatten shot.usda")
+        sys.exit("build the program first: ./usdstage --build")
     sys.setrecursionlimit(10000)
     return os.path.abspath(path)
 

@@ -27,8 +27,8 @@ expect() {
     compare "$name" "$status" "$output" "$line" $?
 }
 
-# the first run may prove and build the program, which it says
-(cd "$folder" && "$top/usdstage" >/dev/null 2>&1 </dev/null)
+# the program has to be built, since a trial says that it is one
+"$top/usdstage" --build || exit 1
 
 printf '#usda 1.0\n' >"$folder/empty.usda"
 printf '#usda 1.0\ndef "A" { int x = 007 } # the end' >"$folder/a.usda"
@@ -42,7 +42,15 @@ mkdir "$folder/folder.usda"
 
 expect "an empty layer" 0 '#usda 1.0' '' flatten empty.usda
 expect "a prim" 0 $'#usda 1.0\n\ndef "A"\n{\n    int x = 7\n}' '' flatten a.usda
-expect "no words" 2 '' 'usdstage: not a command'
+page=$("$top/usdstage" help)
+expect "no words" 2 '' $'usdstage: not a command\n'"$page"
+expect "the page of help" 0 "$page" '' --help
+expect "a word behind that for help" 2 '' 'usdstage: not a command' help a.usda
+expect "a program that is built already" 0 '' '' --build
+case $page in
+    *'flatten ROOT'*'session ROOT'*'--build'*'Exit status'*) passed=$((passed + 1)) ;;
+    *) failed=$((failed + 1)); echo "the page of help: $page" ;;
+esac
 expect "another word" 2 '' 'usdstage: not a command' flat a.usda
 expect "a word too many" 2 '' 'usdstage: not a command' flatten a.usda a.usda
 expect "an option" 2 '' 'usdstage: not a command' flatten --help

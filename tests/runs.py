@@ -13,7 +13,7 @@ import tempfile
 import termios
 import tty
 
-from shared import FIRST, PROGRAM
+from shared import BUILT, FIRST, PROGRAM
 
 READING = "usdstage: reading failed\n"
 WRITING = "usdstage: writing failed\n"
@@ -92,7 +92,7 @@ REFUSED = [
 
 # words that are no command; a blank parts two words
 NO_COMMAND = [
-    "", "flatten", "session", "flatten ", "flatten -", "flatten --", "flatten -root.usda", "flatten root.usda root.usda",
+    "flatten", "session", "flatten ", "flatten -", "flatten --", "flatten -root.usda", "flatten root.usda root.usda",
     "flatten root.usda --", "flatten root.usda --session", "flatten root.usda --session=", "flatten root.usda --sess root.usda",
     "flatten root.usda --session root.usda --session=root.usda", "flatten --session root.usda", "flat root.usda", "Flatten root.usda",
     "root.usda flatten", "--session root.usda flatten root.usda",
@@ -169,7 +169,7 @@ def layers_in(folder, layers):
 
 
 def words_of(command):
-    return command.split(" ") if command else []
+    return command.split(" ")
 
 
 class Runs:
@@ -291,6 +291,9 @@ def main():
         runs.expect(command, layers, "publish", 5, "", f"usdstage: {said}\n")
     for command in NO_COMMAND:
         runs.expect(command, {"root.usda": ""}, "publish", 2, "", "usdstage: not a command\n")
+    # without words the launcher prints its page of help, so the program itself is run
+    none = subprocess.run([BUILT], stdin=subprocess.DEVNULL, capture_output=True, timeout=600)
+    runs.compare("no words", (none.returncode, none.stdout, none.stderr), (2, b"", b"usdstage: not a command\n"))
     for script, replies in ANSWERED:
         runs.expect("session root.usda", ONE_PRIM, script, 0, OPENING + replies, "")
         runs.expect_bytewise(script, OPENING + replies)

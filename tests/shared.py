@@ -5,7 +5,8 @@ import sys
 
 TOP = os.path.dirname(os.path.dirname(os.path.abspath(__file__)))
 FIRST = "#usda 1.0\n"
-# the program: the script's first word where it has one, and else the command of the repository, which builds it where it is not built
+# the program: the script's first word where it has one, and else the command of the repository, after `./usdstage --build`: a trial says that it
+# is one, which is not what is wanted here
 PROGRAM = os.path.abspath(sys.argv[1]) if len(sys.argv) > 1 else os.path.join(TOP, "usdstage")
 # the program itself, for runs in so little memory that the command does not run
 BUILT = PROGRAM if len(sys.argv) > 1 else os.path.join(TOP, "crates", "usdstage", "out", "usdstage")

@@ -1,6 +1,6 @@
 #!/usr/bin/env python3
-"""Runs the commands of every transcript in the README and in docs/, or in the documents that are named, and compares what they write
-with what stands there.
+"""Runs the commands of every transcript in the pages (README.md, CONTRIBUTING.md, docs/ and bench/README.md), or in those that are named,
+and compares what they write with what stands there.
 
 A transcript is a block of the kind `console`: a line that begins with `$ ` is a command, what follows up to the next one is what it
 writes, on standard output and standard error together. Each block begins at the top of the repository; `$ cd FOLDER` goes to a folder.
@@ -63,9 +63,9 @@ def differences(path):
 
 def main():
     pages = sorted("docs/" + name for name in os.listdir(os.path.join(TOP, "docs")) if name.endswith(".md"))
-    documents = sys.argv[1:] or ["README.md"] + pages
+    documents = sys.argv[1:] or ["README.md", "CONTRIBUTING.md"] + pages + ["bench/README.md"]
     total, failed = 0, 0
-    subprocess.run([os.path.join(TOP, "usdstage")], capture_output=True)  # the first run may prove and build the program
+    subprocess.run([os.path.join(TOP, "usdstage"), "--build"], check=True)  # a trial says that it is one
     for document in documents:
         count, wrong = differences(os.path.join(TOP, document))
         total += count
