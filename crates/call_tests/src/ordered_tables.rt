@@ -99,3 +99,47 @@ fn a_removal_takes_one_entry(rt: HostRuntime) -> Result<(), Fail> {
     assert!(rt; is_removed && leaves_two);
     Ok(())
 }
+
+/// The table of the keys below a count, put from the last to the first, each with itself.
+fn keys_below(alloc: Global, count: u64) -> Result<OrderedTable<u64, u64>, Fail> {
+    let mut table = OrderedTable::new(alloc);
+    for key in (0..count).rev() {
+        table.insert(key, key)?;
+    }
+    Ok(table)
+}
+
+/// Whether forty entries are found from either end, and by their keys.
+fn has_forty(table: &OrderedTable<u64, u64>) -> bool {
+    table.len() == 40
+        && table.iter().count() == 40
+        && table.iter().next() == Some((&0, &0))
+        && table.iter().next_back() == Some((&39, &39))
+        && table.at(7) == Some((&7, &7))
+        && table.iter_from(&35).count() == 5
+        && table.last_until(&50) == Some((&39, &39))
+}
+
+#[test]
+fn many_entries_stand_in_the_order_of_keys(rt: HostRuntime) -> Result<(), Fail> {
+    let mut table = keys_below(rt.alloc(), 40)?;
+    let is_in_order = has_forty(&table);
+    let exchanges = exchanges_one(&mut table);
+    let is_removed = table.remove(&7) == Some(7) && !table.has(&7) && table.len() == 39;
+    drop(table);
+    assert!(rt; is_in_order && exchanges? && is_removed);
+    Ok(())
+}
+
+#[test]
+fn a_single_entry_is_found_and_taken_out(rt: HostRuntime) -> Result<(), Fail> {
+    let mut table = keys_below(rt.alloc(), 1)?;
+    let is_found = table.iter().next() == Some((&0, &0))
+        && table.iter_from(&1).next().is_none()
+        && table.last_until(&1) == Some((&0, &0))
+        && table.at(1).is_none();
+    let is_removed = table.remove(&1).is_none() && table.remove(&0) == Some(0) && table.is_empty();
+    drop(table);
+    assert!(rt; is_found && is_removed);
+    Ok(())
+}

@@ -11,7 +11,7 @@ use crate::{few, one};
 use std::collections::btree_map::{Iter, Range};
 use std::marker::Model;
 
-/// What is left of a table, in either form.
+/// What is left of a table, by how its entries are kept.
 #[derive(Drop)]
 pub(crate) enum Rest<'a, K, V> {
     Done,
