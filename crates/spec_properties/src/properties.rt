@@ -163,6 +163,13 @@ impl Properties {
         Some(self.list.remove(place))
     }
 
+    /// Gives back the room beyond what the properties take, where the allocator takes it. It cannot fail.
+    pub fn fit(&mut self)
+        ensures { self.new ≡ self.old }
+    {
+        self.list.shrink_to_fit();
+    }
+
     /// The place of the property of a name.
     fn place(&self, name: &Text) -> Option<usize>
         ensures { IsPlace name.now self.now result }
