@@ -65,17 +65,21 @@ fn all_faults(
     faults_after(alloc, faults, children)
 }
 
-/// A view of these parts.
+/// A view of these parts, whose lists stay with no more room than they need.
 fn joined(
     fields: PrimFields,
-    properties: Items<PropertyView>,
-    children: Items<Text>,
+    mut properties: Items<PropertyView>,
+    mut children: Items<Text>,
     choices: Choices,
-    sites: Items<Site>,
-    faults: Items<PrimFault>,
+    mut sites: Items<Site>,
+    mut faults: Items<PrimFault>,
 ) -> PrimView
     ensures { result ≡ record { specifier = fields.specifier; type_name = fields.type_name; meta = fields.meta; api_schemas = fields.api_schemas; clip_sets = fields.clip_sets; properties = properties; children = children; choices = choices; sites = sites; faults = faults; since = 0 } }
 {
+    properties.fit();
+    children.fit();
+    sites.fit();
+    faults.fit();
     PrimView {
         specifier: fields.specifier,
         type_name: fields.type_name,

@@ -63,7 +63,7 @@ impl Owner {
         })
     }
 
-    /// The spec that the statements make; takes no memory.
+    /// The spec that the statements make, whose lists stay with no more room than they need; takes no memory.
     #[tactic(auto, unfolding(crate::specs::Owners::spec_of))]
     pub(crate) fn into_spec(self) -> Spec
         ensures { result ≡ spec_of self }
@@ -71,8 +71,8 @@ impl Owner {
         let Owner {
             said,
             type_name,
-            children,
-            properties,
+            mut children,
+            mut properties,
             marks,
             sets,
             set_names,
@@ -85,6 +85,8 @@ impl Owner {
             ..
         } = said;
         drop((path, base, marks, set_names, set));
+        children.fit();
+        properties.fit();
         drop(mem::replace(&mut spec.body.type_name, type_name));
         drop(mem::replace(&mut spec.body.children, children));
         drop(mem::replace(&mut spec.body.properties, properties));
