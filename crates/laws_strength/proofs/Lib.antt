@@ -1,0 +1,4 @@
+pub mod Last
+pub mod Lists
+pub mod Livrps
+pub mod Once

@@ -1,0 +1,9 @@
+//! Laws of strength in the words of a USD engineer, over the definition of the strength order: LIVRPS, specializes last, each site once.
+//!
+//! `specs/Laws.antt` has the laws, each the clause of a function that does nothing. The crate knows `composition` alone, and no program
+//! stands on it.
+#![tactic(auto)]
+
+mod laws;
+
+pub use laws::{each_site_stands_once, specializes_come_last, strength_is_livrps};
