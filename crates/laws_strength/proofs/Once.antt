@@ -88,14 +88,14 @@ as_trees (e ∷ es) apart = (any_tree e.0 es ∙ apart.0, as_trees es apart.1)
 
 module _ (l : Limits) where
   -- the two tests of a place
-  abbrev beaten : Ranked → List Ranked → Bool
+  abbrev pub beaten : Ranked → List Ranked → Bool
   beaten e before = list_any (λ x. both (nat_le x.1 e.1) (same_place x.0 e.0)) before
 
-  abbrev beaten_later : Ranked → List Ranked → Bool
+  abbrev pub beaten_later : Ranked → List Ranked → Bool
   beaten_later e after = list_any (λ x. both (nat_lt x.1 e.1) (same_place x.0 e.0)) after
 
   -- a place and those that are kept behind it, by its two tests
-  abbrev kept_if : Bool → Bool → Ranked → List Ranked → List Ranked
+  abbrev pub kept_if : Bool → Bool → Ranked → List Ranked → List Ranked
   kept_if one two e es = elim one as (λ _. List Ranked) [ true ↦ es | false ↦ elim two as (λ _. List Ranked) [ true ↦ es | false ↦ e ∷ es ] ]
 
   within : (P : Ranked → Type 0) (before es : List Ranked) → Each P es → Each P (best_places l before es)

@@ -6,4 +6,6 @@
 
 mod laws;
 
-pub use laws::{each_site_stands_once, specializes_come_last, strength_is_livrps};
+pub use laws::{
+    each_node_stands_at_a_site, each_site_stands_once, specializes_come_last, strength_is_livrps,
+};
