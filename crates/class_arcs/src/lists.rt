@@ -7,7 +7,7 @@ ghost use Rattle.prim_trees.specs.Meant.{meant, trees_of};
 
 use crate::class::{Class, same_kind};
 use crate::lift::push_lifted;
-use list_ops::firsts_ordered;
+use list_ops::once_ordered;
 use path_maps::ArcKind;
 use plain_data::{Items, copy};
 use prim_nodes::Node;
@@ -107,8 +107,5 @@ fn hands_up(classes: ArcKind, arc: ArcKind) -> bool
 fn first_of_each(all: Items<Class>) -> Result<Items<Class>, AllocError>
     ensures { IfOk result (λ kept. kept ≡ firsts same_class all) }
 {
-    if all.is_empty() {
-        return Ok(all);
-    }
-    firsts_ordered(all.allocator(), all.as_slice())
+    once_ordered(all.allocator(), all)
 }

@@ -38,8 +38,8 @@ abbrev pub StrengthIsLivrps : Type 0
 StrengthIsLivrps =
     (l : Limits) (n i v r p s : Node) (h hi hv hr hp hs : Here) (inherits variant reference payload specializes : Branch)
     → (let own : Trees =
-          child (of_kind Specializes specializes) (leaf s hs)
-          (child (of_kind Payload payload) (leaf p hp)
-          (child (of_kind Reference reference) (leaf r hr) (child (of_kind Variant variant) (leaf v hv) (child (of_kind Inherits inherits) (leaf i hi) none)))) in
-       let top : Tree = node n h own none in
-       listing l top ≡ top ∷ leaf i hi ∷ leaf v hv ∷ leaf r hr ∷ leaf p hp ∷ leaf s hs ∷ [])
+    child (of_kind Specializes specializes) (leaf s hs)
+    (child (of_kind Payload payload) (leaf p hp)
+    (child (of_kind Reference reference) (leaf r hr) (child (of_kind Variant variant) (leaf v hv) (child (of_kind Inherits inherits) (leaf i hi) none)))) in
+    let top : Tree = node n h own none in
+    listing l top ≡ top ∷ leaf i hi ∷ leaf v hv ∷ leaf r hr ∷ leaf p hp ∷ leaf s hs ∷ [])

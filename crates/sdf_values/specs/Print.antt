@@ -1,10 +1,10 @@
 -- The canonical text of values.
-use Rattle.std.specs.Prelude.{ℕ, zero, suc, Bool, true, false, if◌then◌else◌, ◌+◌, ◌-◌, ◌*◌, ◌/◌, ◌%◌, ◌^◌, ◌==◌, ◌||◌, nat_le, nat_lt, min, List, [], ◌∷◌, ◌++◌, replicate, codes, ℤ, pos, negsuc, unsigned_abs}
+use Rattle.std.specs.Prelude.{ℕ, zero, suc, Bool, true, false, if◌then◌else◌, ◌+◌, ◌-◌, ◌*◌, ◌/◌, ◌%◌, ◌^◌, ◌==◌, ◌||◌, ◌&&◌, nat_le, nat_lt, min, List, [], ◌∷◌, ◌++◌, replicate, codes, ℤ, pos, negsuc, unsigned_abs}
 use Rattle.std.specs.List.{list_any}
 use Rattle.std.specs.Fmt.{decimal, signed_decimal}
 use Rattle.sdf_values.specs.Numbers.{DecimalNumber}
 use Rattle.sdf_values.specs.Scales.{Offset, is_identity}
-use Rattle.usd_names.specs.Names.{is_name}
+use Rattle.usd_names.specs.Names.{is_name, is_identifier}
 use Rattle.sdf_values.specs.TypeNames.{type_text}
 use Rattle.sdf_values.specs.declared.decimal.Num.{Num}
 use Rattle.sdf_values.specs.declared.decimal.Num.TheVariants as num
@@ -109,9 +109,13 @@ is_long_asset t = list_any (λ c. (c == 64) || (c == 10)) t
 abbrev pub asset_text : List ℕ → List ℕ
 asset_text t = if is_long_asset t then codes "@@@" ++ t ++ codes "@@@" else codes "@" ++ t ++ codes "@"
 
--- a dictionary's key: a string where it is no name
+-- a dictionary's key that stands for itself: an identifier, and no word that is a number; names joined by colons are none
+abbrev pub is_plain_key : List ℕ → Bool
+is_plain_key t = is_name t && is_identifier t
+
+-- a dictionary's key: a string where it does not stand for itself
 abbrev pub key_text : List ℕ → List ℕ
-key_text t = if is_name t then t else quoted t
+key_text t = if is_plain_key t then t else quoted t
 
 -- the type of an entry: a value type, or the word `dictionary`
 abbrev pub dict_type_text : DictType → List ℕ

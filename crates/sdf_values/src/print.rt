@@ -1,6 +1,6 @@
 //! The canonical text of values.
 ghost use Rattle.std.specs.Prelude.{◌≡◌, ◌++◌, ◌+◌, ◌*◌, ◌<◌, ◌∷◌, OnOk, IfOk, map, string_bytes, []};
-ghost use Rattle.sdf_values.specs.Print.{print, print_item, listed, lines, dict_text, blanks, quoted, escaped, escape, asset_text, key_text, dict_type_text, hex_digit, is_escaped, is_long_asset};
+ghost use Rattle.sdf_values.specs.Print.{print, print_item, listed, lines, dict_text, blanks, quoted, escaped, escape, asset_text, is_plain_key, key_text, dict_type_text, hex_digit, is_escaped, is_long_asset};
 ghost use Rattle.sdf_values.specs.TypeNames.{type_text};
 ghost use Rattle.sdf_values.specs.declared.value.DictItem.{out-DictItem};
 
@@ -8,7 +8,7 @@ use crate::numeral::{push_num, push_time, push_whole};
 use crate::type_name::TypeName;
 use crate::value::{DictItem, DictType, Value};
 use std::alloc::{AllocError, Global};
-use usd_names::is_name;
+use usd_names::{is_identifier, is_name};
 
 /// The canonical text of a value. The entries of a dictionary stand on lines of their own, `indent` levels of four
 /// blanks and one more in.
@@ -138,10 +138,17 @@ pub fn push_type(out: &mut String, ty: TypeName) -> Result<(), AllocError>
     Ok(())
 }
 
+/// Whether a key of a dictionary stands for itself. Names that are joined by colons do not: other programs do not read them there.
+fn is_plain_key(key: &str) -> bool
+    ensures { result ≡ is_plain_key key.now }
+{
+    is_name(key) && is_identifier(key)
+}
+
 fn push_key(out: &mut String, key: &str) -> Result<(), AllocError>
     ensures { OnOk result (string_bytes out.new ≡ string_bytes out.old ++ key_text key.now) }
 {
-    if is_name(key) {
+    if is_plain_key(key) {
         out.push_str(key)
     } else {
         push_string(out, key)

@@ -15,7 +15,7 @@ use crate::keeping::places;
 use crate::order::listing;
 use crate::sizes::is_overgrown;
 use crate::tables::{ChoiceTable, choice_table, opinion_table};
-use list_ops::{firsts_ordered, push_all};
+use list_ops::{once_ordered, push_all};
 use plain_data::{Items, Text, copy, same};
 use prim_trees::Tree;
 use prim_view::Choices;
@@ -54,7 +54,7 @@ fn sets_met(alloc: Global, tree: &Tree) -> Result<Items<Text>, AllocError>
 {
     let nodes = listing(alloc, tree)?;
     let all = all_sets(alloc, nodes.as_slice())?;
-    first_of_each(alloc, all.as_slice())
+    first_of_each(alloc, all)
 }
 
 fn all_sets(alloc: Global, nodes: &[&Tree]) -> Result<Items<Text>, AllocError>
@@ -77,10 +77,10 @@ fn push_sets(out: &mut Items<Text>, node: &Tree) -> Result<(), AllocError>
 
 /// The first of each text.
 #[tactic(auto, using(crate::proofs::Choosing::firsts_are))]
-fn first_of_each(alloc: Global, all: &[Text]) -> Result<Items<Text>, AllocError>
-    ensures { IfOk result (λ kept. kept ≡ firsts same_text all.now) }
+fn first_of_each(alloc: Global, all: Items<Text>) -> Result<Items<Text>, AllocError>
+    ensures { IfOk result (λ kept. kept ≡ firsts same_text all) }
 {
-    firsts_ordered(alloc, all)
+    once_ordered(alloc, all)
 }
 
 /// The sets that have no choice. Choices are looked up in a table, made once.

@@ -6,8 +6,8 @@ use Rattle.std.specs.Str.{chars, is_utf8, IsUtf8, encode_utf8_all}
 use lib.Utf8.{scalar, scalars}
 use Rattle.std.proofs.lemmas.Bool.{and_parts}
 use Rattle.std.proofs.lemmas.Str.{IsUtf8-encode, chars-encodes, encode_ascii}
-use Rattle.usd_names.specs.Names.{is_name, spells_identifier, spells_variant, is_identifier, is_variant}
-use Rattle.sdf_values.specs.Print.{hex_digit, is_escaped, escape, escaped, quoted, is_long_asset, asset_text, key_text}
+use Rattle.usd_names.specs.Names.{spells_identifier, spells_variant, is_identifier, is_variant}
+use Rattle.sdf_values.specs.Print.{hex_digit, is_escaped, escape, escaped, quoted, is_long_asset, asset_text, is_plain_key, key_text}
 use Rattle.sdf_values.proofs.Escapes.{escaped_ascii}
 use Rattle.value_texts.proofs.AsciiTests.{no_byte}
 use Rattle.value_texts.proofs.QuotedNames.{as_it_is}
@@ -68,7 +68,7 @@ asset_valid t h =
 
 -- the key of a dictionary
 pub key_valid : (t : List ℕ) → is_utf8 t ≡ true → IsValid (key_text t)
-key_valid t h = either (is_name t) (tested t h) (string_valid t h)
+key_valid t h = either (is_plain_key t) (tested t h) (string_valid t h)
 
 -- names between quotes
 name_valid : (t : List ℕ) → is_utf8 t ≡ true → IsValid (quoted_name t)

@@ -4,11 +4,10 @@ use Rattle.std.specs.Prelude.{if◌then◌else◌, codes}
 use Rattle.std.specs.Str.{is_utf8}
 use Rattle.std.proofs.lemmas.Bool.Decides.{nat_tests}
 use Rattle.std.proofs.lemmas.Bool.{and_parts}
-use Rattle.usd_names.specs.Names.{is_name}
 use Rattle.sdf_values.proofs.Elements.{type_is_found}
 use Rattle.sdf_values.specs.Proper.{is_below, all_true, are_keys_behind, are_keys_in_order, all_proper, keys_of}
 use Rattle.sdf_values.specs.TypeNames.{element_name, find_element}
-use Rattle.sdf_values.specs.Print.{quoted}
+use Rattle.sdf_values.specs.Print.{quoted, is_plain_key}
 use Rattle.sdf_values.specs.declared.refusal.RefusalKind.TheVariants.{ValueShape, TooDeep, DuplicateSpec}
 use Rattle.sdf_values.specs.declared.type_name.ElementType.{ElementType}
 use Rattle.sdf_values.specs.declared.type_name.TheConstants.{ELEMENTS}
@@ -96,7 +95,7 @@ module _ (item : Shape) (key : List ℕ) (ty : DictType) (entries : Table) (oute
 
   key_token : (k : List ℕ) (p : Place) → keys p ≡ true → is_utf8 k ≡ true → value_act (key_said k).kind (key_said k).text (in_dict p item key ty entries outer) ≡ key_act (Some k) (in_dict p item key ty entries outer)
   unfolding value_act
-  key_token k p h u = test (is_name k) p h
+  key_token k p h u = test (is_plain_key k) p h
     where
       test : (b : Bool) (p : Place) → keys p ≡ true
           → act_at p (if b then name_said k else string_said (quoted k)).kind (if b then name_said k else string_said (quoted k)).text (in_dict p item key ty entries outer) ≡ key_act (Some k) (in_dict p item key ty entries outer)

@@ -6,13 +6,13 @@ use Rattle.std.specs.Str.{chars, is_utf8}
 use Rattle.std.proofs.lemmas.Str.{chars-nil}
 use Rattle.std.proofs.lemmas.Bool.Decides.{nat_tests}
 use Rattle.unicode_ident.proofs.Computing.{unicode_ident}
-use Rattle.usd_names.specs.Names.{is_start, spells_joined, is_number_word, is_name}
+use Rattle.usd_names.specs.Names.{is_start, spells_joined, is_number_word, is_name, is_identifier}
 use Rattle.std.proofs.lemmas.Bool.{and_parts, not-true}
 use Rattle.sdf_values.specs.Numbers.{DecimalNumber, IsDecimal, zero_number}
 use Rattle.sdf_values.proofs.Powers.{same_parts}
 use Rattle.sdf_values.specs.NumberTexts.{is_number}
 use Rattle.sdf_values.specs.Scales.{IsTime}
-use Rattle.sdf_values.specs.Print.{decimal_text, num_text, time_text, whole_text, quoted, asset_text, is_long_asset, key_text, blanks}
+use Rattle.sdf_values.specs.Print.{decimal_text, num_text, time_text, whole_text, quoted, asset_text, is_long_asset, is_plain_key, key_text, blanks}
 use Rattle.sdf_values.specs.declared.decimal.Num.{Num}
 use Rattle.sdf_values.specs.declared.decimal.Num.TheVariants as num
 use Rattle.usda_lexer.specs.declared.token.TokenKind.TheVariants as kind
@@ -208,8 +208,8 @@ asset_cut at t rest w h = test (is_long_asset t) (asset_found at t rest w h)
 
 -- a key of a dictionary
 pub key_cut : (at : ℕ) (k rest : List ℕ) → is_utf8 k ≡ true → ends_name rest ≡ true → begins_not 34 rest ≡ true → IsCut at (key_text k) (key_said k ∷ []) rest
-key_cut at k rest u h s = test (is_name k) refl
+key_cut at k rest u h s = test (is_plain_key k) refl
   where
-    test : (b : Bool) → is_name k ≡ b → IsCut at (if b then k else quoted k) ((if b then name_said k else string_said (quoted k)) ∷ []) rest
-    test true e = word_cut at k rest u e h
+    test : (b : Bool) → is_plain_key k ≡ b → IsCut at (if b then k else quoted k) ((if b then name_said k else string_said (quoted k)) ∷ []) rest
+    test true e = word_cut at k rest u (and_parts (is_name k) (is_identifier k) e).0 h
     test false e = string_cut at k rest s

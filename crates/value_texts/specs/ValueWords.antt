@@ -1,8 +1,7 @@
 -- The tokens of a value's text.
 use Rattle.std.specs.Prelude.{ℕ, if◌then◌else◌, List, [], ◌∷◌, ◌++◌, codes}
-use Rattle.usd_names.specs.Names.{is_name}
 use Rattle.sdf_values.specs.TypeNames.{element_name}
-use Rattle.sdf_values.specs.Print.{num_text, time_text, whole_text, quoted, asset_text}
+use Rattle.sdf_values.specs.Print.{num_text, time_text, whole_text, quoted, asset_text, is_plain_key}
 use Rattle.sdf_values.specs.declared.type_name.TypeName.{TypeName}
 use Rattle.sdf_values.specs.declared.value.DictType.{DictType}
 use Rattle.sdf_values.specs.declared.value.DictType.TheVariants as dict_type
@@ -95,7 +94,7 @@ dict_type_said dict_type.Dictionary = name_said (codes "dictionary") ∷ []
 
 -- a key is a name or a string
 abbrev pub key_said : List ℕ → Said
-key_said k = if is_name k then name_said k else string_said (quoted k)
+key_said k = if is_plain_key k then name_said k else string_said (quoted k)
 
 -- one value, with the tokens of each value inside it in its place
 abbrev pub said_step : Value-F (List Said) (List Said) → List Said
