@@ -5,7 +5,7 @@
 
 ROOT and LAYER are named from the current folder. Each fault is a line on standard output, `PRIM: FAULT`, with the faults of docs/COMPOSITION.md;
 the sublayers of the stage are those of `/`. The exit status is 0 where there is none, 1 where there is one, and the program's where the stage
-does not open: the program's line then stands on standard error.
+does not open: the program's line then stands on standard error. A status of 70 is that of this script: what it wrote to was closed.
 """
 import os
 import re
@@ -65,6 +65,7 @@ class Stage:
 
 
 def main():
+    sys.stdout.reconfigure(encoding="utf-8")
     stage, found = Stage(sys.argv[1:]), False
     left = ["/"]
     try:
@@ -75,8 +76,12 @@ def main():
                 found = True
             left += [prim.rstrip("/") + "/" + name for name in reversed(stage.children(prim))]
         stage.end()
+        sys.stdout.flush()
     except Unanswered as ended:
         return ended.args[0]
+    except BrokenPipeError:
+        os.dup2(os.open(os.devnull, os.O_WRONLY), sys.stdout.fileno())  # nothing more is written at the end
+        return 70
     return 1 if found else 0
 
 

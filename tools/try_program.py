@@ -21,7 +21,7 @@ CRATE = os.path.join(scratch.TOP, "crates", "usdstage")
 OUT = os.path.join(CRATE, "out")
 TRIAL = os.path.join(OUT, "trial")
 # the sample: a session whose script takes long enough for the trial to be met while it runs
-PUBLISHES = 100
+PUBLISHES = 1000
 SCRIPT = PUBLISHES * "publish\n"
 REPLIES = "".join(f"published {k}: batches 0, prims 1\n" for k in range(PUBLISHES + 1))
 LAYER = '#usda 1.0\ndef "A" {}\n'
@@ -64,7 +64,10 @@ def keep():
                     time.sleep(0.01)
                     program = None if os.path.exists(kept) else met(place)
                     if program:
-                        os.link(program, kept)
+                        try:
+                            os.link(program, kept)
+                        except FileNotFoundError:
+                            pass  # it was removed meanwhile
             finally:
                 tried.terminate()
                 tried.wait()
@@ -84,7 +87,8 @@ def layers_below(words):
         folders.sort()
         for name in sorted(names):
             path = os.path.normpath(os.path.join(place, name))
-            if name.endswith((".usda", ".usd")) or path in map(os.path.normpath, words):
+            is_layer = name.endswith((".usda", ".usd")) or path in map(os.path.normpath, words)
+            if is_layer and os.path.isfile(path) and "=" not in path:
                 count += os.path.getsize(path)
                 found.append((path, os.path.abspath(path)))
                 if len(found) > FILES or count > BYTES:

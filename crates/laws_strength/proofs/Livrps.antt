@@ -16,5 +16,9 @@ class_itself : (c : Class) → same_class c c ≡ true
 class_itself c = both_hold (c.0 == c.0) (same_path c.1 c.1) (level_itself c.0) (path_itself c.1)
 
 pub is_livrps : StrengthIsLivrps
-is_livrps l n i v r p s h hi hv hr hp hs inherits variant reference payload specializes =
-    rw (class_itself (inherits.level, inherits.lead.target), class_itself (specializes.level, specializes.lead.target), part_of, is_class_of) refl
+is_livrps = record {
+  in_order = λ l n i v r p s h hi hv hr hp hs inherits variant reference payload specializes.
+      rw (class_itself (inherits.level, inherits.lead.target), class_itself (specializes.level, specializes.lead.target), part_of, is_class_of) refl;
+  reversed = λ l n i v r p s h hi hv hr hp hs inherits variant reference payload specializes.
+      rw (class_itself (inherits.level, inherits.lead.target), class_itself (specializes.level, specializes.lead.target), part_of, is_class_of) refl;
+}

@@ -33,13 +33,20 @@ leaf n h = node n h none none
 abbrev pub of_kind : ArcKind → Branch → Branch
 of_kind k b = record b { kind = k }
 
--- a node with one arc of each kind, none of which leads on, in whatever order they stand in its tree: here the reverse one
-abbrev pub StrengthIsLivrps : Type 0
-StrengthIsLivrps =
-    (l : Limits) (n i v r p s : Node) (h hi hv hr hp hs : Here) (inherits variant reference payload specializes : Branch)
-    → (let own : Trees =
-    child (of_kind Specializes specializes) (leaf s hs)
-    (child (of_kind Payload payload) (leaf p hp)
-    (child (of_kind Reference reference) (leaf r hr) (child (of_kind Variant variant) (leaf v hv) (child (of_kind Inherits inherits) (leaf i hi) none)))) in
-    let top : Tree = node n h own none in
-    listing l top ≡ top ∷ leaf i hi ∷ leaf v hv ∷ leaf r hr ∷ leaf p hp ∷ leaf s hs ∷ [])
+-- a node with one arc of each kind, none of which leads on: its own children stand in the order in which composition follows arcs, or in
+-- the reverse one
+pub record StrengthIsLivrps : Type 0 where
+  pub in_order : (l : Limits) (n i v r p s : Node) (h hi hv hr hp hs : Here) (inherits variant reference payload specializes : Branch)
+      → (let own : Trees =
+      child (of_kind Inherits inherits) (leaf i hi)
+      (child (of_kind Variant variant) (leaf v hv)
+      (child (of_kind Reference reference) (leaf r hr) (child (of_kind Payload payload) (leaf p hp) (child (of_kind Specializes specializes) (leaf s hs) none)))) in
+      let top : Tree = node n h own none in
+      listing l top ≡ top ∷ leaf i hi ∷ leaf v hv ∷ leaf r hr ∷ leaf p hp ∷ leaf s hs ∷ [])
+  pub reversed : (l : Limits) (n i v r p s : Node) (h hi hv hr hp hs : Here) (inherits variant reference payload specializes : Branch)
+      → (let own : Trees =
+      child (of_kind Specializes specializes) (leaf s hs)
+      (child (of_kind Payload payload) (leaf p hp)
+      (child (of_kind Reference reference) (leaf r hr) (child (of_kind Variant variant) (leaf v hv) (child (of_kind Inherits inherits) (leaf i hi) none)))) in
+      let top : Tree = node n h own none in
+      listing l top ≡ top ∷ leaf i hi ∷ leaf v hv ∷ leaf r hr ∷ leaf p hp ∷ leaf s hs ∷ [])

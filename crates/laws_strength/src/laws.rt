@@ -1,13 +1,13 @@
 //! The laws as clauses of functions that do nothing.
 ghost use Rattle.laws_strength.specs.Laws.{SpecializesComeLast, EachSiteOnce, EachNodeAtASite, StrengthIsLivrps};
 
-/// In the listing of a prim's nodes all that are reached without a specializes arc come first, and then all that are reached through one,
-/// however deep the arc stands.
+/// A listing is a strong part and then a weak one: to each node of the first a way leads without a specializes arc, to each node of the
+/// second one with such an arc, however deep the arc stands.
 pub fn specializes_come_last()
     ensures { SpecializesComeLast }
 {}
 
-/// Of the sites of a prim no two are one: no layer stack is read at one path twice.
+/// Of the sites of a prim no two are of one layer stack and path.
 pub fn each_site_stands_once()
     ensures { EachSiteOnce }
 {}
@@ -18,7 +18,7 @@ pub fn each_node_stands_at_a_site()
 {}
 
 /// A node with one arc of each kind, of which none leads on: the node itself, what it inherits, its variant, its reference, its payload,
-/// and last what it specializes, in whatever order its layers author them.
+/// and last what it specializes. So it is where its arcs stand in the order in which composition follows them, and in the reverse one.
 pub fn strength_is_livrps()
     ensures { StrengthIsLivrps }
 {}

@@ -65,7 +65,7 @@ fn all_faults(
     faults_after(alloc, faults, children)
 }
 
-/// A view of these parts, whose lists stay with no more room than they need.
+/// A view of these parts, whose properties, children, sites and faults stay with no more room than they need.
 fn joined(
     fields: PrimFields,
     mut properties: Items<PropertyView>,

@@ -63,7 +63,7 @@ impl Owner {
         })
     }
 
-    /// The spec that the statements make, whose lists stay with no more room than they need; takes no memory.
+    /// The spec that the statements make, whose children and properties stay with no more room than they need; takes no memory.
     #[tactic(auto, unfolding(crate::specs::Owners::spec_of))]
     pub(crate) fn into_spec(self) -> Spec
         ensures { result ≡ spec_of self }

@@ -343,13 +343,13 @@ pub fn run_tool<R, F: LayerFiles, S: Source, K: Sink, G: Gate + Sync>(
     ensures untouched { command_of (map string_bytes words.now) ≡ None → (files.new ≡ files.old) × (script.new ≡ script.old) × (out.new ≡ out.old) }
     // `flatten` reads no script.
     ensures unread { IfSome (command_of (map string_bytes words.now)) (λ c. c.verb ≡ verbs.Flatten → script.new ≡ script.old) }
-    // `flatten` asks for no file but those of the names that are met from its layers, and for each of these once.
+    // `flatten` asks for no file but those of the names that are met from its layers, and for each of these at most once.
     ensures asks { IfSome (command_of (map string_bytes words.now)) (λ c. c.verb ≡ verbs.Flatten
         → IfSome (F.files files.old) (λ told. AsksMet told c.root c.session (F.asked files.old) (F.asked files.new))) }
     // A session that is done has read its script to the end.
     ensures end { IfSome (command_of (map string_bytes words.now)) (λ c. c.verb ≡ verbs.Session → result ≡ Status.Done
         → BothTold (S.left script.old) (S.left script.new) (λ _ left. left ≡ [])) }
-    // A fault ends the run: `ReadFault` is answered where one fetch or one read failed, and only there; the same of writes. None is tried again.
+    // `ReadFault` is answered where one fetch or one read failed, and only there; the same of writes.
     ensures reads { AreCounted (result ≡ Status.ReadFault) (F.faults files.old) (F.faults files.new) (S.faults script.old) (S.faults script.new) }
     // Where reading the script fails, the replies to all whole lines that were read of it before were written.
     ensures script_fault { result ≡ Status.ReadFault → (Rose (F.faults files.old) (F.faults files.new) → ⊥) → ByFiles (F.files files.old) (λ held size. BothTold (S.left script.old) (S.left script.new)
