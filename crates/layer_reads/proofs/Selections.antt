@@ -6,12 +6,11 @@ use Rattle.std.specs.Option.{is_some}
 use Rattle.std.specs.Str.{is_utf8}
 use Rattle.std.proofs.lemmas.Cmp.{nat_list_cmp_total}
 use Rattle.std.specs.List.Sorted.{IsStrictlySortedBy}
-use Rattle.usd_names.specs.Names.{is_name}
 use Rattle.sdf_paths.specs.Order.{text_cmp}
 use Rattle.sdf_paths.specs.declared.element.Element.{Element}
 use Rattle.sdf_values.proofs.Elements.{type_is_found}
 use Rattle.sdf_values.specs.TypeNames.{find_element}
-use Rattle.sdf_values.specs.Print.{quoted}
+use Rattle.sdf_values.specs.Print.{quoted, is_plain_key}
 use Rattle.sdf_values.specs.declared.refusal.RefusalKind.TheVariants.{NumberTooLong, DuplicateSpec}
 use Rattle.sdf_values.specs.declared.type_name.ElementType.TheVariants as element
 use Rattle.sdf_values.specs.declared.type_name.TheConstants.{ELEMENTS}
@@ -169,7 +168,7 @@ module _ (base : List Element) (item : Shape) (key : List ℕ) (ty : DictType) (
   key_is_given : (k : List ℕ) → is_utf8 k ≡ true → is_some (at_key text_cmp k entries) ≡ false
       → given base (key_said k).kind (key_said k).text (in_selections place.BehindType item key string_type entries) ≡ Ok (in_selections place.Equals item k string_type entries)
   unfolding value_act
-  key_is_given k utf8 none = by (is_name k)
+  key_is_given k utf8 none = by (is_plain_key k)
     where
       d : OpenValue
       d = in_selections place.BehindType item key string_type entries
@@ -207,7 +206,7 @@ entry_all_said s ss said = ap (λ l. (l ++ entries_said (map words_of_item (map 
 
 -- a key is a name or a string
 key_step : (k : List ℕ) (below : List Symbol) → step (symbol.MaybeBrackets ∷ symbol.EntryKey ∷ below) (as_word (key_said k)).kind ≡ Some (symbol.EntryKey, below)
-key_step k below = by (is_name k)
+key_step k below = by (is_plain_key k)
   where
     by : (b : Bool) → step (symbol.MaybeBrackets ∷ symbol.EntryKey ∷ below) (as_word (if b then name_said k else string_said (quoted k))).kind ≡ Some (symbol.EntryKey, below)
     by true = refl

@@ -3,9 +3,8 @@ use Rattle.std.proofs.Common.{◌≡◌, ◌∙◌, ℕ, Bool, true, false, List
 use Rattle.std.specs.Prelude.{if◌then◌else◌}
 use Rattle.std.proofs.lemmas.List.{map-append}
 use Rattle.std.proofs.lemmas.Bool.{and_parts}
-use Rattle.usd_names.specs.Names.{is_name}
 use Rattle.sdf_values.specs.Proper.{all_true}
-use Rattle.sdf_values.specs.Print.{quoted}
+use Rattle.sdf_values.specs.Print.{quoted, is_plain_key}
 use Rattle.sdf_values.specs.TypeNames.{element_name}
 use Rattle.sdf_values.specs.declared.value.DictType.{DictType}
 use Rattle.sdf_values.specs.declared.value.DictType.TheVariants as dict_type
@@ -132,7 +131,7 @@ type_stepped dict_type.Dictionary true below = (false, refl)
 type_stepped dict_type.Dictionary false below = (false, refl)
 
 key_stepped : (k : List ℕ) (p : Bool) (below : List Symbol) → Behind (BeforeKey p below) (kinds_of (key_said k ∷ equals ∷ [])) (symbol.Value ∷ front true below)
-key_stepped k p below = by (is_name k) p
+key_stepped k p below = by (is_plain_key k) p
   where
     by : (n p : Bool) → Behind (BeforeKey p below) (kinds_of ((if n then name_said k else string_said (quoted k)) ∷ equals ∷ [])) (symbol.Value ∷ front true below)
     by true true = refl

@@ -4,10 +4,9 @@ use Rattle.std.specs.Prelude.{if◌then◌else◌, codes}
 use Rattle.std.specs.Cmp.Lexicographic.{bytes_decides}
 use Rattle.std.specs.Option.{option_map}
 use Rattle.std.proofs.lemmas.Bool.{and_parts}
-use Rattle.usd_names.specs.Names.{is_name}
 use Rattle.sdf_paths.specs.Paths.{printed}
 use Rattle.sdf_paths.specs.declared.element.Element.{Element}
-use Rattle.sdf_values.specs.Print.{quoted}
+use Rattle.sdf_values.specs.Print.{quoted, is_plain_key}
 use Rattle.sdf_values.specs.Proper.{all_true}
 use Rattle.sdf_values.specs.TypeNames.{element_name}
 use Rattle.sdf_values.specs.declared.value.DictItem.{DictItem}
@@ -95,7 +94,7 @@ module _ (base : List Element) where
   type_fixed dict_type.Dictionary = (tt, tt)
 
   key_fixed : (k : List ℕ) (ws : List Said) → AreFixed base ws → AreFixed base (key_said k ∷ equals ∷ ws)
-  key_fixed k ws fixed = by (is_name k)
+  key_fixed k ws fixed = by (is_plain_key k)
     where
       by : (b : Bool) → AreFixed base ((if b then name_said k else string_said (quoted k)) ∷ equals ∷ ws)
       by true = (tt, (tt, fixed))

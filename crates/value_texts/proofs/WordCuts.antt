@@ -5,8 +5,7 @@ use Rattle.std.specs.List.{list_all}
 use Rattle.std.proofs.lemmas.List.{map-append}
 use Rattle.std.proofs.lemmas.List.Folds.{list_all-append}
 use Rattle.std.proofs.lemmas.Bool.{and_parts, not-true}
-use Rattle.usd_names.specs.Names.{is_name}
-use Rattle.sdf_values.specs.Print.{print, quoted}
+use Rattle.sdf_values.specs.Print.{print, quoted, is_plain_key}
 use Rattle.sdf_values.specs.TypeNames.{element_name}
 use Rattle.sdf_values.specs.declared.value.DictType.{DictType}
 use Rattle.sdf_values.specs.declared.value.DictType.TheVariants as dict_type
@@ -98,7 +97,7 @@ type_dotless (dict_type.Plain t) = test t.array
 type_dotless dict_type.Dictionary = refl
 
 key_dotless : (k : List ℕ) (ws : List Said) → NoDots ws → NoDots (key_said k ∷ equals ∷ ws)
-key_dotless k ws h = test (is_name k)
+key_dotless k ws h = test (is_plain_key k)
   where
     test : (b : Bool) → NoDots ((if b then name_said k else string_said (quoted k)) ∷ equals ∷ ws)
     test true = h
