@@ -21,7 +21,7 @@ CRATE = os.path.join(scratch.TOP, "crates", "usdstage")
 OUT = os.path.join(CRATE, "out")
 TRIAL = os.path.join(OUT, "trial")
 # the sample: a session whose script takes long enough for the trial to be met while it runs
-PUBLISHES = 1000
+PUBLISHES = 100
 SCRIPT = PUBLISHES * "publish\n"
 REPLIES = "".join(f"published {k}: batches 0, prims 1\n" for k in range(PUBLISHES + 1))
 LAYER = '#usda 1.0\ndef "A" {}\n'
