@@ -103,7 +103,7 @@ class Best:
                 for _ in range(runs)]
         self.seconds = max(min(one[0] for one in took) / 1e6, 1e-3)
         self.peak = min(one[1] for one in took) * 1024
-        self.status = took[0][2]
+        self.status = max(one[2] for one in took)
         with open(out, "rb") as f:
             self.out = f.read()
 
@@ -130,7 +130,7 @@ def main():
     words = argparse.ArgumentParser()
     words.add_argument("peer", metavar="PEER", help="the other program, or the folder of its C++ source")
     words.add_argument("program", nargs="?", default=PROGRAM)
-    words.add_argument("--only", nargs="+", default=[], metavar="CASE", help=" ".join(shape[0] for shape in SHAPES))
+    words.add_argument("--only", nargs="+", default=[], metavar="CASE", choices=[shape[0] for shape in SHAPES], help=" ".join(shape[0] for shape in SHAPES))
     words.add_argument("--runs", type=int, default=3, metavar="N")
     given = words.parse_args()
     program = program_of(given.program)
