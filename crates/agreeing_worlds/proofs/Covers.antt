@@ -20,7 +20,7 @@ use Rattle.composition.specs.World.{World, Root, rule_or_loaded, is_loaded}
 use Rattle.composition.specs.Stacks.{LayerStack, stack}
 use Rattle.composition.specs.Arcs.{Opinion, opinions_at}
 use Rattle.composition.specs.Nodes.{Node, here, frame_at}
-use Rattle.composition.specs.Trees.{Tree, node, node_of}
+use Rattle.composition.specs.Trees.{Tree, node, Trees, none, cut, child, node_of, nodes_of, nodes_among}
 use Rattle.composition.specs.Strength.{listing, sites}
 use Rattle.composition.specs.Compose.{stage_tree, is_overgrown_on_the_way}
 use Rattle.composition.specs.Opinions.{Site, Said, said_at, said_at_all}
@@ -31,12 +31,12 @@ use Rattle.composition.specs.Views.{PrimView, empty_view, head_meta, root_site, 
 use Rattle.composition.specs.Keys.{Key, load, head, body, keys_at, bodies_at, site_bodies, visits_for, prim_reads, reads, Agree}
 use Rattle.agreeing_worlds.specs.Laws.{ReadsCover}
 use Rattle.agreeing_worlds.proofs.Values.{rule_in, body_in, roots_in}
-use Rattle.agreeing_worlds.proofs.Each.{Each, front_of, back_of, of_map, in_map, of_parts, weaker, same_parts}
+use Rattle.agreeing_worlds.proofs.Each.{Each, front_of, back_of, joined, of_map, in_map, of_parts, weaker, same_parts}
 use Rattle.agreeing_worlds.proofs.Good.{Below}
 use Rattle.agreeing_worlds.proofs.Levels.{each_level, at_level, at_zero}
 use Rattle.agreeing_worlds.proofs.Stacks.{SameAt, same_stack, same_heads, first_asked, session_alike}
 use Rattle.agreeing_worlds.proofs.Heres.{SameKey, good_here, same_here, same_keys_here, stack_here}
-use Rattle.agreeing_worlds.proofs.Growing.{AndBelow, same_stage_tree, same_stage_visits, covers_stage}
+use Rattle.agreeing_worlds.proofs.Growing.{InTree, InAmong, AndBelow, same_stage_tree, same_stage_visits, covers_stage}
 use Rattle.agreeing_worlds.proofs.Sites.{in_sites}
 use Rattle.agreeing_worlds.proofs.Bodies.{bare, bare_view}
 
@@ -59,7 +59,7 @@ no_selections (Prim name ∷ p) h = no_selections p h
 no_selections (Property name ∷ p) h = absurd (true≢false (sym h))
 no_selections (Selection set variant ∷ p) h = absurd (true≢false (sym h))
 
-plain_levels : (e : Element) (p : Path) → list_all is_prim_name (e ∷ p) ≡ true → levels (e ∷ p) ≡ length (e ∷ p)
+pub plain_levels : (e : Element) (p : Path) → list_all is_prim_name (e ∷ p) ≡ true → levels (e ∷ p) ≡ length (e ∷ p)
 plain_levels (Prim name) p h = ap (λ (b : Bool). elim b as (λ _. ℕ) [ true ↦ levels p | false ↦ length (Prim name ∷ p) ]) (no_selections p h)
 plain_levels (Property name) p h = absurd (true≢false (sym h))
 plain_levels (Selection set variant) p h = absurd (true≢false (sym h))
@@ -69,6 +69,18 @@ same_firsts f g [] h = refl
 same_firsts {X} {Y} f g (x ∷ xs) h =
     let rest : first_of f xs ≡ first_of g xs = same_firsts f g xs h.1 in
     λ i. elim (h.0 i) as (λ _. Option Y) [ Some y ↦ Some y | None ↦ rest i ]
+
+-- ---- the nodes of a tree
+
+module _ (P : Node → Type 0) where
+  mutual
+    in_nodes : (t : Tree) → InTree P t → Each P (nodes_of t)
+    in_nodes (node n h own lifted) is = (is.0, joined P (nodes_among own) (nodes_among lifted) (in_nodes_among own is.1) (in_nodes_among lifted is.2))
+
+    in_nodes_among : (ts : Trees) → InAmong P ts → Each P (nodes_among ts)
+    in_nodes_among none is = tt
+    in_nodes_among cut is = tt
+    in_nodes_among (child b t ts) is = joined P (nodes_of t) (nodes_among ts) (in_nodes t is.0) (in_nodes_among ts is.1)
 
 -- ---- what stands at keys
 
@@ -157,13 +169,24 @@ module _ (l : Limits) (w v : World) where
   GoodIndex None = Unit {0}
   GoodIndex (Some i) = Each GoodSite i.sites
 
-  same_site_bodies : (i : Option Index) → GoodIndex i → site_bodies l v i ≡ site_bodies l w i
-  same_site_bodies None good = refl
-  same_site_bodies (Some i) good =
+  -- the worlds have the same stack at a node
+  abbrev GoodNode : Node → Type 0
+  GoodNode n = stack l v n.stack ≡ stack l w n.stack
+
+  same_node_bodies : (ns : List Node) → Each GoodNode ns → flat_map (λ n. bodies_at l v n.stack n.path) ns ≡ flat_map (λ n. bodies_at l w n.stack n.path) ns
+  same_node_bodies ns good =
+      same_parts (λ n. bodies_at l v n.stack n.path) (λ n. bodies_at l w n.stack n.path) ns
+      (weaker GoodNode (λ n. bodies_at l v n.stack n.path ≡ bodies_at l w n.stack n.path) (λ n is. ap (λ (st : LayerStack). map (λ e. body e.0 n.path) st.layers) is) ns good)
+
+  same_site_bodies : (p : Path) (i : Option Index) → GoodIndex i → stage_tree l (here l v) (is_loaded v) p ≡ stage_tree l (here l w) (is_loaded w) p
+      → Each GoodNode (nodes_of (stage_tree l (here l w) (is_loaded w) p)) → site_bodies l v p i ≡ site_bodies l w p i
+  same_site_bodies p None good tree nodes =
+      ap (λ (t : Tree). flat_map (λ n. bodies_at l v n.stack n.path) (nodes_of t)) tree ∙ same_node_bodies (nodes_of (stage_tree l (here l w) (is_loaded w) p)) nodes
+  same_site_bodies p (Some i) good tree nodes =
       same_parts (λ s. bodies_at l v s.stack s.path) (λ s. bodies_at l w s.stack s.path) i.sites
       (weaker GoodSite (λ s. bodies_at l v s.stack s.path ≡ bodies_at l w s.stack s.path) (λ s is. ap (λ (st : LayerStack). map (λ e. body e.0 s.path) st.layers) is.0) i.sites good)
 
-  same_by_index : (p : Path) (i : Option Index) → GoodIndex i → Each (SameKey w v) (site_bodies l w i) → view_by_index l v p i ≡ view_by_index l w p i
+  same_by_index : (p : Path) (i : Option Index) → GoodIndex i → Each (SameKey w v) (site_bodies l w p i) → view_by_index l v p i ≡ view_by_index l w p i
   same_by_index p None good h = refl
   same_by_index p (Some i) good h =
       sym (bare_view l v p i (said_at_all l v i.sites))
@@ -183,7 +206,7 @@ module _ (l : Limits) (w v : World) (e : Element) (p : Path) (plain : list_all i
   node_keys x = flat_map (λ j. flat_map (keys_at l x) (visits_for l x (up (e ∷ p) j))) (levels_of (e ∷ p))
 
   abbrev body_keys : List Key
-  body_keys = site_bodies l w (index l w (e ∷ p))
+  body_keys = site_bodies l w (e ∷ p) (index l w (e ∷ p))
 
   rules_read : (j : ℕ) → j < length (e ∷ p) → w.rule (up (e ∷ p) j) ≡ v.rule (up (e ∷ p) j)
   rules_read j less =
@@ -235,12 +258,19 @@ module _ (l : Limits) (w v : World) (e : Element) (p : Path) (plain : list_all i
   its_site : (t : Tree) → AndBelow P (node_of t) → GoodSite l w v (site_of t)
   its_site (node n h own lifted) is = (stack_here l w v n is.0, is.1)
 
+  covered_tree : InTree (AndBelow P) (stage_tree l (here l w) (is_loaded w) (e ∷ p))
+  covered_tree = covers_stage P l (here l w) (here l v) (good_here l w) tells (is_loaded w) (is_loaded v) e p whole_loads whole_read
+
   good_sites : Each (GoodSite l w v) (map site_of (sites l (stage_tree l (here l w) (is_loaded w) (e ∷ p))))
   good_sites =
       let t : Tree = stage_tree l (here l w) (is_loaded w) (e ∷ p) in
       in_map (GoodSite l w v) site_of (sites l t)
-      (weaker (λ s. AndBelow P (node_of s)) (λ s. GoodSite l w v (site_of s)) its_site (sites l t)
-      (in_sites (AndBelow P) l t (covers_stage P l (here l w) (here l v) (good_here l w) tells (is_loaded w) (is_loaded v) e p whole_loads whole_read)))
+      (weaker (λ s. AndBelow P (node_of s)) (λ s. GoodSite l w v (site_of s)) its_site (sites l t) (in_sites (AndBelow P) l t covered_tree))
+
+  good_nodes : Each (GoodNode l w v) (nodes_of (stage_tree l (here l w) (is_loaded w) (e ∷ p)))
+  good_nodes =
+      let t : Tree = stage_tree l (here l w) (is_loaded w) (e ∷ p) in
+      weaker (AndBelow P) (GoodNode l w v) (λ n is. stack_here l w v n is.0) (nodes_of t) (in_nodes (AndBelow P) t covered_tree)
 
   good_index : GoodIndex l w v (index l w (e ∷ p))
   good_index = by (is_overgrown_on_the_way (stage_tree l (here l w) (is_loaded w) (e ∷ p)))
@@ -270,8 +300,8 @@ module _ (l : Limits) (w v : World) (e : Element) (p : Path) (plain : list_all i
       let nodes : node_keys v ≡ node_keys w =
       same_parts (λ j. flat_map (keys_at l v) (visits_for l v (up (e ∷ p) j))) (λ j. flat_map (keys_at l w) (visits_for l w (up (e ∷ p) j))) (levels_of (e ∷ p))
       (each_level (λ j. flat_map (keys_at l v) (visits_for l v (up (e ∷ p) j)) ≡ flat_map (keys_at l w) (visits_for l w (up (e ∷ p) j))) (e ∷ p) keys_of_level) in
-      let bodies : site_bodies l v (index l v (e ∷ p)) ≡ body_keys =
-      ap (λ (i : Option Index). site_bodies l v i) same_index ∙ same_site_bodies l w v (index l w (e ∷ p)) good_index in
+      let bodies : site_bodies l v (e ∷ p) (index l v (e ∷ p)) ≡ body_keys =
+      ap (λ (i : Option Index). site_bodies l v (e ∷ p) i) same_index ∙ same_site_bodies l w v (e ∷ p) (index l w (e ∷ p)) good_index same_tree good_nodes in
       λ i. rule_keys ++ nodes i ++ bodies i
 
 -- ---- `/`
@@ -331,7 +361,7 @@ not_root (e ∷ p) h = tt
 agreed : (w v : World) (keys : List Key) → Agree w v keys → Each (SameKey w v) keys
 agreed w v keys h = recursion_from_All (SameKey w v) keys h
 
-view_covered : (l : Limits) (w v : World) (p : Path) → Agree w v (reads l w p) → view l v p ≡ view l w p
+pub view_covered : (l : Limits) (w v : World) (p : Path) → Agree w v (reads l w p) → view l v p ≡ view l w p
 view_covered l w v [] h = same_root_view l w v (agreed w v (reads l w []) h)
 view_covered l w v (e ∷ p) h = by (list_all is_prim_name (e ∷ p)) refl (agreed w v (reads l w (e ∷ p)) h)
   where
@@ -341,7 +371,7 @@ view_covered l w v (e ∷ p) h = by (list_all is_prim_name (e ∷ p)) refl (agre
     by true plain read = same_prim l w v e p plain read
     by false plain read = refl
 
-reads_covered : (l : Limits) (w v : World) (p : Path) → Agree w v (reads l w p) → reads l v p ≡ reads l w p
+pub reads_covered : (l : Limits) (w v : World) (p : Path) → Agree w v (reads l w p) → reads l v p ≡ reads l w p
 reads_covered l w v [] h = same_root_reads l w v (agreed w v (reads l w []) h)
 reads_covered l w v (e ∷ p) h = by (list_all is_prim_name (e ∷ p)) refl (agreed w v (reads l w (e ∷ p)) h)
   where

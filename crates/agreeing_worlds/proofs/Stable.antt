@@ -27,18 +27,18 @@ by_code {A} c x y h = by (same_value c x y) refl
 through : {A B : Type 0} (f : A → B) (x y : A) → ¬ (¬ (x ≡ y)) → ¬ (¬ (f x ≡ f y))
 through f x y h g = h (λ e. g (ap f e))
 
-head_code : Coded LayerHead
+pub head_code : Coded LayerHead
 head_code = hlevel (codes, of_sublayer.the_row.coded, of_value.the_row.coded)
 
-names_code : Coded RootNames
+pub names_code : Coded RootNames
 names_code = hlevel codes
 
-abbrev head_in : LayerHead → Heading → LayerHead
+abbrev pub head_in : LayerHead → Heading → LayerHead
 head_in other (headed h) = h
 head_in other no_layer = other
 head_in other (refused r) = other
 
-abbrev refusal_in : Refusal → Heading → Refusal
+abbrev pub refusal_in : Refusal → Heading → Refusal
 refusal_in other (headed h) = other
 refusal_in other no_layer = other
 refusal_in other (refused r) = r

@@ -11,6 +11,8 @@ use Rattle.composition.specs.World.{World, Heading, headed, no_layer, refused, R
 use Rattle.composition.specs.Stacks.{stack}
 use Rattle.composition.specs.Arcs.{Source, own, named, unanchored}
 use Rattle.composition.specs.Nodes.{Node, here}
+use Rattle.composition.specs.Trees.{nodes_of}
+use Rattle.composition.specs.Compose.{stage_tree}
 use Rattle.composition.specs.Faults.{wants_prim, Index, index}
 use Rattle.composition.specs.Visits.{stage_visits}
 
@@ -59,10 +61,10 @@ module _ (l : Limits) (w : World) where
   abbrev pub bodies_at : StackName → Path → List Key
   bodies_at s p = map (λ e. body e.0 p) (stack l w s).layers
 
-  -- the bodies at a prim's sites; an overgrown prim has no index, and its view no sites
-  abbrev pub site_bodies : Option Index → List Key
-  site_bodies None = []
-  site_bodies (Some i) = flat_map (λ s. bodies_at s.stack s.path) i.sites
+  -- the bodies at a prim's sites; an overgrown prim has no index, and its sites are the first nodes of its listing
+  abbrev pub site_bodies : Path → Option Index → List Key
+  site_bodies p None = flat_map (λ n. bodies_at n.stack n.path) (nodes_of (stage_tree l (here l w) (is_loaded w) p))
+  site_bodies p (Some i) = flat_map (λ s. bodies_at s.stack s.path) i.sites
 
   -- each node that is visited for the last listing of a prim, and in the rounds of choices of the prim and those above it
   abbrev pub visits_for : Path → List Node
@@ -73,7 +75,7 @@ module _ (l : Limits) (w : World) where
   prim_reads q =
       map (λ j. load (up q j)) (levels_of q)
       ++ flat_map (λ j. flat_map keys_at (visits_for (up q j))) (levels_of q)
-      ++ site_bodies (index l w q)
+      ++ site_bodies q (index l w q)
 
   -- the keys that the view of a path reads; the path of a property, or one with variant selections, reads none
   abbrev pub reads : Path → List Key

@@ -44,6 +44,7 @@ pub mod World116
 pub mod World119
 pub mod World120
 pub mod WorldABlockOverSamples
+pub mod WorldAChainOfClasses
 pub mod WorldAChainOfSixtyFive
 pub mod WorldAChainOfSixtyFour
 pub mod WorldAClassBelowItself

@@ -2,7 +2,8 @@
 ghost use Rattle.std.specs.Prelude.{codes, pos, [], ◌∷◌};
 ghost use Rattle.composition.specs.Dates.{IsSince};
 ghost use Rattle.composition.specs.Paths.{limits};
-ghost use Rattle.composition_worlds.specs.Short.{prims};
+ghost use Rattle.composition_worlds.specs.Short.{prims, with_room_for};
+ghost use Rattle.composition_worlds.specs.WorldAChainOfClasses.{chain};
 ghost use Rattle.composition_worlds.specs.WorldDates.{two, three, opened, after};
 
 /// In the first version each prim is as it is since then.
@@ -28,4 +29,10 @@ pub fn a_new_prim_is_dated()
     ensures new_prim { IsSince limits (after [] (three (pos 2)) ∷ opened (two (pos 2)) ∷ []) (prims (codes "C" ∷ [])) 1 }
     ensures above { IsSince limits (after [] (three (pos 2)) ∷ opened (two (pos 2)) ∷ []) [] 1 }
     ensures beside { IsSince limits (after [] (three (pos 2)) ∷ opened (two (pos 2)) ∷ []) (prims (codes "B" ∷ [])) 0 }
+{}
+
+/// A chain of fifteen inherits overgrows a prim, whose classes are listed in each place to which they are handed up. A batch that gives another
+/// value in the deepest class dates the prim anew: the class is one of the first nodes of the listing.
+pub fn an_edit_dates_an_overgrown_prim()
+    ensures { IsSince (with_room_for 16) (after [] (chain (pos 3)) ∷ opened (chain (pos 2)) ∷ []) (prims (codes "c0" ∷ [])) 1 }
 {}

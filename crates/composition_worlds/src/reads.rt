@@ -22,15 +22,17 @@ pub fn a_prim_reads_its_classes_in_both_stacks()
 {}
 
 /// Where a listing has room for three nodes, that prim is overgrown, an `over` with this one fault: it reads what was visited up to
-/// then and no bodies. With room for its four nodes it reads all.
+/// then, and the bodies at these three nodes. With room for its four nodes it reads all.
 #[tactic(auto, unfolding(composition::specs::Compose::meaning, composition::specs::Visits::visits))]
-pub fn an_overgrown_prim_reads_no_bodies()
+pub fn an_overgrown_prim_reads_the_bodies_at_its_first_nodes()
     ensures is_over { view (with_room_for 3) across_a_reference (Prim (codes "World") ∷ Prim (codes "char") ∷ []) ≡ record empty_view { faults = overgrown ∷ [] } }
-    ensures no_bodies { same_keys (reads (with_room_for 3) across_a_reference (Prim (codes "World") ∷ Prim (codes "char") ∷ []))
+    ensures first_bodies { same_keys (reads (with_room_for 3) across_a_reference (Prim (codes "World") ∷ Prim (codes "char") ∷ []))
         (load (Prim (codes "World") ∷ Prim (codes "char") ∷ []) ∷ load (Prim (codes "World") ∷ [])
         ∷ arcs (codes "root.usda") (Prim (codes "World") ∷ Prim (codes "char") ∷ []) ∷ arcs (codes "root.usda") (Prim (codes "World") ∷ [])
         ∷ arcs (codes "m.usda") (Prim (codes "Model") ∷ []) ∷ arcs (codes "m.usda") (Prim (codes "_class") ∷ [])
-        ∷ head (codes "root.usda") ∷ head (codes "m.usda") ∷ []) ≡ true }
+        ∷ head (codes "root.usda") ∷ head (codes "m.usda")
+        ∷ body (codes "root.usda") (Prim (codes "World") ∷ Prim (codes "char") ∷ [])
+        ∷ body (codes "m.usda") (Prim (codes "Model") ∷ []) ∷ body (codes "m.usda") (Prim (codes "_class") ∷ []) ∷ []) ≡ true }
     ensures with_room { reads (with_room_for 4) across_a_reference (Prim (codes "World") ∷ Prim (codes "char") ∷ [])
         ≡ reads limits across_a_reference (Prim (codes "World") ∷ Prim (codes "char") ∷ []) }
 {}

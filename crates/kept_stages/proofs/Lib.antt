@@ -2,3 +2,4 @@ pub mod Machine
 pub mod Views
 pub mod Dates
 pub mod DatedViews
+pub mod Compared

@@ -1,4 +1,5 @@
 //! The laws as the clauses of functions that do nothing.
+ghost use Rattle.kept_stages.specs.Exact.{ExactTest};
 ghost use Rattle.kept_stages.specs.DatedViews.{ViewsAreDated};
 ghost use Rattle.kept_stages.specs.Dates.{DatesAreRight};
 ghost use Rattle.kept_stages.specs.Laws.{KeptIsComposed, ViewsAreComposed};
@@ -25,4 +26,9 @@ pub fn the_dates_of_a_kept_stage_are_right<World, Place, Key, Entry>()
 /// Of the views of composition they are its dates, by a test that sees exactly the changes of keys.
 pub fn views_are_dated_by_what_they_read()
     ensures { ViewsAreDated }
+{}
+
+/// There is a test that sees exactly the changes of keys: it compares what stands there. So the two laws on views are not about nothing.
+pub fn a_comparison_tells_changes_exactly()
+    ensures { ExactTest }
 {}

@@ -7,6 +7,7 @@
 mod laws;
 
 pub use laws::{
-    a_kept_stage_is_the_composed_one, the_dates_of_a_kept_stage_are_right,
-    views_are_dated_by_what_they_read, views_are_settled_by_what_they_read,
+    a_comparison_tells_changes_exactly, a_kept_stage_is_the_composed_one,
+    the_dates_of_a_kept_stage_are_right, views_are_dated_by_what_they_read,
+    views_are_settled_by_what_they_read,
 };
