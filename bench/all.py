@@ -1,7 +1,7 @@
 #!/usr/bin/env python3
 """Runs every size and speed check, and prints one table.
 
-    python3 bench/all.py [PROGRAM] [--only CASE ..] [--built]
+    python3 bench/all.py [PROGRAM] [--only CASE ..] [--built] [--share N]
 
 First come the cases of flatten.py, session.py, opening.py, views.py and index.py, which need the built program alone: with --built these
 are all, and --only picks some. Then come the calls of leaf_crates.py, layers.py, edits.py and text.py, each a program in a scratch

@@ -1,7 +1,7 @@
 #!/usr/bin/env python3
 """Times batches of edits, and prints a table.
 
-    python3 bench/edits.py [--in FOLDER] [CALL ..]
+    python3 bench/edits.py [--in FOLDER] [--share N] [CALL ..]
 
 The program that makes the calls is built in a scratch repository, which --in keeps in FOLDER: see measure.py.
 Seconds are the processor's; what comes before the call, as the making of the world, is taken off. CALL picks lines of the table, as

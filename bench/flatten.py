@@ -1,12 +1,12 @@
 #!/usr/bin/env python3
 """Times `usdstage flatten` on large stages, and prints a table.
 
-    python3 bench/flatten.py [PROGRAM] [--only CASE ..]
+    python3 bench/flatten.py [PROGRAM] [--only CASE ..] [--share N]
 
 Each input is made in a temporary folder. Seconds are the processor's, and peak memory is that of the process. Four times the prims
 should take little more than four times the time.
 """
-from measure import Case, main, nested, tree
+from measure import Case, main, nested, share, tree
 
 
 def wide(children):
@@ -25,7 +25,7 @@ def classes(prims):
 
 def arrays(size):
     """Arrays of numbers, a million bytes each, up to about this many bytes."""
-    row = "[" + ", ".join(f"{i}.5" for i in range(130000)) + "]"
+    row = "[" + ", ".join(f"{i}.5" for i in range(share(130_000))) + "]"
     body = "".join(f"    double[] values_{i} = {row}\n" for i in range(size // len(row)))
     return 'def "A" {\n' + body + "}\n"
 
@@ -35,7 +35,7 @@ def long_text(size):
     out, length, prim = [], 10, 0
     while length < size:
         part = [f'def Xform "prim_{prim}" {{ # a comment that the reader passes over\n']
-        part += [f"    int attribute_number_{i} = {i}\n" for i in range(1000)]
+        part += [f"    int attribute_number_{i} = {i}\n" for i in range(share(1000))]
         part.append("}\n")
         text = "".join(part)
         out.append(text)

@@ -1,12 +1,14 @@
 #!/usr/bin/env python3
 """Times the program on worlds in which the index of one prim is large, or prims are deep, and prints a table.
 
-    python3 bench/index.py [PROGRAM] [--only CASE ..]
+    python3 bench/index.py [PROGRAM] [--only CASE ..] [--share N]
 
 Each case is a session with an empty script: the world is opened, its stage is composed and published. What a prim refers to lies in a
 layer of its own, so that it is no part of the stage, but for prims that refer to each other. Seconds are the processor's, and peak memory
 is that of the process.
 """
+from math import isqrt
+
 from measure import Case, listed, main, nested, no_lines
 
 
@@ -45,8 +47,8 @@ def wide(count):
 
 
 def bushy(nodes):
-    """A prim with so many nodes: it refers to some prims, each of which refers to the same others."""
-    first = {1024: 31, 4096: 63}[nodes]
+    """A prim with so many nodes, a square: it refers to some prims, each of which refers to the same others, one more."""
+    first = max(isqrt(nodes) - 1, 1)
     below = listed(f"</d{j}>" for j in range(first + 1))
     return referring([f"b{i}" for i in range(first)], prims("b", first, f" (references = {below})") + prims("d", first + 1))
 

@@ -1,7 +1,7 @@
 #!/usr/bin/env python3
 """Times layers as tables, and arrays that are read as values, and prints a table.
 
-    python3 bench/layers.py [--in FOLDER] [CALL ..]
+    python3 bench/layers.py [--in FOLDER] [--share N] [CALL ..]
 
 The program that makes the calls is built in a scratch repository, which --in keeps in FOLDER: see measure.py.
 Seconds are the processor's; what comes before the call, as the making of the layer, is taken off. CALL picks lines of the table, as

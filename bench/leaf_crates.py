@@ -1,7 +1,7 @@
 #!/usr/bin/env python3
 """Times list edits, the printing of values, and paths, and prints a table.
 
-    python3 bench/leaf_crates.py [--in FOLDER] [CALL ..]
+    python3 bench/leaf_crates.py [--in FOLDER] [--share N] [CALL ..]
 
 The program that makes the calls is built in a scratch repository, which --in keeps in FOLDER: see measure.py.
 Seconds are the processor's. CALL picks lines of the table, as `apply`.

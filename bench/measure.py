@@ -21,6 +21,29 @@ import scratch_repository as scratch  # of the folder that was added
 PROGRAM = scratch.program_in(TOP, "usdstage")
 FIRST = "#usda 1.0\n"
 
+# Shares
+
+SHARE = 1  # how many times as small sizes are, as --share says
+
+
+def with_share(words):
+    """A command line that takes --share."""
+    words.add_argument("--share", type=int, default=1, metavar="N", help="makes all sizes N times as small")
+    return words
+
+
+def taken(words):
+    """What a command line says; its share holds from here on."""
+    global SHARE
+    given = words.parse_args()
+    SHARE = max(given.share, 1)
+    return given
+
+
+def share(size):
+    """A size as it is made: at least one, and N times as small with --share N."""
+    return max(size // SHARE, 1)
+
 # Layers
 
 
@@ -164,7 +187,7 @@ def told(took, less):
 def run_case(program, case):
     """Prints a line for each size of a case; growth is told where a size is four times the one before it."""
     before = None
-    for size in case.sizes:
+    for size in map(share, case.sizes):
         layers = case.layers(size)
         script = case.script(size) if case.script else None
         length = sum(len(FIRST) + len(text) for text in layers.values()) + len(script or "")
@@ -191,12 +214,13 @@ def program_of(path):
 
 def main(cases, scripts=()):
     """The command line of a script with cases, and with scripts that make calls of crates, which run where no case is picked."""
-    words = argparse.ArgumentParser()
+    words = with_share(argparse.ArgumentParser())
     words.add_argument("program", nargs="?", default=PROGRAM)
-    words.add_argument("--only", nargs="+", default=[], metavar="CASE", help=" ".join(sorted({case.word for case in cases})))
+    every = sorted({case.word for case in cases})
+    words.add_argument("--only", nargs="+", default=[], metavar="CASE", choices=every, help=" ".join(every))
     if scripts:
         words.add_argument("--built", action="store_true", help="runs what needs the built program alone")
-    given = words.parse_args()
+    given = taken(words)
     heading()
     run_cases(program_of(given.program), cases, given.only)
     if scripts and not given.only and not given.built:
@@ -311,10 +335,10 @@ fn put(layer: &mut Layer, alloc: Global, path: &Path) -> Result<(), Fault> {
 def calls(table, run):
     """The command line of a script whose program makes calls: `--in FOLDER` keeps the scratch repository, other words pick lines of
     the table. `run` is given the folder and the lines that are picked."""
-    words = argparse.ArgumentParser()
+    words = with_share(argparse.ArgumentParser())
     words.add_argument("--in", dest="folder", metavar="FOLDER", help="where the scratch repository stays")
     words.add_argument("call", nargs="*", help=" ".join(line[0] for line in table))
-    given = words.parse_args()
+    given = taken(words)
     picked = [entry for entry in table if not given.call or entry[0] in given.call]
     heading()
     if given.folder:
@@ -331,7 +355,7 @@ def compare(program, table, unit, scale):
     has so many."""
     for call, before, count, times in table:
         shorter = None
-        for items in (count, 4 * count):
+        for items in (share(count), 4 * share(count)):
             took = measured([program, call, str(items)], ".")
             first = measured([program, before, str(items)], ".").seconds if before else 0
             seconds = max(took.seconds - first, 0)

@@ -1,7 +1,7 @@
 #!/usr/bin/env python3
 """Times how worlds of many layers are opened by the built program, and prints a table.
 
-    python3 bench/opening.py [PROGRAM] [--only CASE ..]
+    python3 bench/opening.py [PROGRAM] [--only CASE ..] [--share N]
 
 Each case is a root with so many layers, as files in a folder of their own, which `usdstage session` opens, composes and publishes
 before it reads its empty script. Where the layers are named only by deleted references nothing is composed of them, so that the time

@@ -1,12 +1,13 @@
 #!/usr/bin/env python3
 """Runs `usdstage` with its first allocation failing, then its second, and so on, until it needs no more.
 
-    python3 bench/out_of_memory.py [PROGRAM]
+    python3 bench/out_of_memory.py [PROGRAM] [--share N]
 
 Each run has to end as the one with ample memory does, with all of its output, or with want of memory (status 9) and the front of it.
 The allocations are made to fail by a small library that is put before the C library; it needs `cc`. So the built program is tried with
-all numbers in seconds to minutes; `rt try --fail-alloc N` tries one number, on the interpreter, in a minute.
+all numbers in seconds to minutes, with --share N every N-th; `rt try --fail-alloc N` tries one number, on the interpreter, in a minute.
 """
+import argparse
 import os
 import subprocess
 import sys
@@ -70,7 +71,7 @@ def tried(program, folder, words, script, library):
     """Counts the runs by status; stops once three runs in a row did not reach the failing allocation."""
     whole = run_once(program, folder, words, script)
     counts, same = {}, 0
-    for at in range(1, 1000000):
+    for at in range(1, 1000000, measure.SHARE):
         run = run_once(program, folder, words, script, {"LD_PRELOAD": library, "FAIL_AT": str(at)})
         is_same = (run.returncode, run.stdout, run.stderr) == (whole.returncode, whole.stdout, whole.stderr)
         is_front = run.returncode == 9 and whole.stdout.startswith(run.stdout)
@@ -81,12 +82,14 @@ def tried(program, folder, words, script, library):
         if same == 3:
             if 9 not in counts:
                 sys.exit("no allocation failed: the library was not used")
-            return at, counts
+            return sum(counts.values()), counts
     sys.exit("the program never stops allocating")
 
 
 def main():
-    program = measure.program_of(sys.argv[1] if len(sys.argv) > 1 else measure.PROGRAM)
+    words = measure.with_share(argparse.ArgumentParser())
+    words.add_argument("program", nargs="?", default=measure.PROGRAM)
+    program = measure.program_of(measure.taken(words).program)
     with tempfile.TemporaryDirectory() as folder:
         source, library = os.path.join(folder, "failing.c"), os.path.join(folder, "failing.so")
         with open(source, "w") as f:

@@ -1,21 +1,25 @@
 #!/usr/bin/env python3
 """Times `usdstage flatten` beside another program that flattens layers, and prints a table of both with the ratios.
 
-    python3 bench/peer.py PEER [PROGRAM] [--only CASE ..] [--runs N]
+    python3 bench/peer.py PEER [PROGRAM] [--only CASE ..] [--runs N] [--share N]
 
 PEER is a program with the same command line, or a folder with the C++ source of one, `peer.cpp`, which is built with g++ first. Both run
 on the same layers, made in a temporary folder, one after the other, N times each (3 where nothing is said): of the user seconds the
 fewest count, of the peak memory the least. Each shape has two sizes, and growth is how many times as long the larger takes. Where the two
 write other bytes, the line says so, and the exit status is 1.
+
+Of the shapes `defaults` and `kinds` the program runs a session that publishes ten times, after one edit each, and the peer flattens the
+layers once: its seconds are those of one flattening times the publishes, the first one of the session too, and nothing is compared.
 """
 import argparse
 import os
+import shutil
 import subprocess
 import sys
 import tempfile
 
 import flatten
-from measure import PROGRAM, listed, program_of, tree, write
+from measure import PROGRAM, listed, path_in_tree, program_of, share, taken, tree, with_share, write
 
 # The options that the peer's README names.
 OPTIONS = ["-std=c++20", "-O3", "-Wno-class-memaccess"]
@@ -31,8 +35,9 @@ METER = r"""
 int main(int, char** words) {
     pid_t child = fork();
     if (child == 0) {
-        dup2(open(words[1], O_WRONLY | O_CREAT | O_TRUNC, 0644), 1);
-        execv(words[2], words + 2);
+        dup2(open(words[1], O_RDONLY), 0);
+        dup2(open(words[2], O_WRONLY | O_CREAT | O_TRUNC, 0644), 1);
+        execv(words[3], words + 3);
         _exit(127);
     }
     int status;
@@ -69,7 +74,30 @@ def a_set(references):
     return {"root": f'(subLayers = {names})\ndef "set" {{\n{places}}}\n', "asset": asset(), "parts": 'def "parts" { def "extra" { int x = 1 } }\n', **layers}
 
 
-# A word that picks the shape, what it counts, two sizes, and the layers of a size.
+PUBLISHES = 10
+
+
+def read_by_all(prims):
+    """A tree of prims, each of which inherits one class."""
+    return 'class "kinds" { int kind = 0 }\n' + tree(prims, lambda i: f'def "p{i}" (inherits = </kinds>) {{ int a = {i % 1000}\n')
+
+
+def edited(line):
+    """The script of a session with an edit before each publish."""
+    return lambda size: "".join(f"begin\nset @root.usda@ {line(size, k)}\ncommit\npublish\n" for k in range(PUBLISHES))
+
+
+def own_default(size, k):
+    """The default of one prim of a tree, another one each time."""
+    return f"{path_in_tree(k * 7919 % size)}.a {k}"
+
+
+def shared_default(_size, k):
+    """What all prims of a tree inherit."""
+    return f"/kinds.kind {k + 1}"
+
+
+# A word that picks the shape, what it counts, two sizes, the layers of a size, and the script of a session, where it is one.
 SHAPES = [
     ("tree", "prims in a tree", (20_000, 80_000), alone(tree)),
     ("classes", "prims in a tree with 8 classes", (20_000, 80_000), alone(flatten.classes)),
@@ -77,6 +105,8 @@ SHAPES = [
     ("set", "references to an asset of 30 prims", (500, 2_000), a_set),
     ("arrays", "bytes of arrays of numbers", (15_000_000, 60_000_000), alone(flatten.arrays)),
     ("text", "bytes of text in few prims", (15_000_000, 60_000_000), alone(flatten.long_text)),
+    ("defaults", "prims, 10 publishes of one default", (20_000, 80_000), alone(tree), edited(own_default)),
+    ("kinds", "prims, 10 publishes of a class", (20_000, 80_000), alone(read_by_all), edited(shared_default)),
 ]
 
 
@@ -95,11 +125,14 @@ def meter_in(folder):
 
 
 class Best:
-    """The best of some runs of a program in a folder."""
+    """The best of some runs of a program in a folder: of `flatten`, or of `session` with a script."""
 
-    def __init__(self, meter, program, folder, runs):
-        out = os.path.join(folder, "out")
-        took = [list(map(int, subprocess.run([meter, out, program, "flatten", "root.usda"], cwd=folder, stdout=subprocess.PIPE, check=True).stdout.split()))
+    def __init__(self, meter, program, folder, runs, script=None):
+        out, lines = os.path.join(folder, "out"), os.path.join(folder, "script")
+        with open(lines, "w") as f:
+            f.write(script or "")
+        command = [meter, lines, out, program, "flatten" if script is None else "session", "root.usda"]
+        took = [list(map(int, subprocess.run(command, cwd=folder, stdout=subprocess.PIPE, check=True).stdout.split()))
                 for _ in range(runs)]
         self.seconds = max(min(one[0] for one in took) / 1e6, 1e-3)
         self.peak = min(one[1] for one in took) * 1024
@@ -110,13 +143,18 @@ class Best:
 
 def run_shape(meter, programs, shape, runs):
     """Prints a line for each size of a shape; whether both programs wrote the same bytes."""
-    _word, name, sizes, layers = shape
+    _word, name, sizes, layers, *session = shape
     before, alike = None, True
-    for size in sizes:
+    for size in map(share, sizes):
         with tempfile.TemporaryDirectory() as folder:
             write(folder, layers(size))
-            own, other = (Best(meter, program, folder, runs) for program in programs)
-        same = (own.out, own.status) == (other.out, other.status)
+            own = Best(meter, programs[0], folder, runs, *(script(size) for script in session))
+            other = Best(meter, programs[1], folder, runs)
+        if session:
+            other.seconds *= PUBLISHES + 1
+            same = own.status == other.status == 0 and own.out.count(b"published ") == PUBLISHES + 1
+        else:
+            same = (own.out, own.status) == (other.out, other.status)
         alike = alike and same
         growth = "" if before is None else f"{own.seconds / before:.1f}"
         print(f"{size:>11,} {name:36} {own.seconds:8.2f} {other.seconds:8.3f} {own.seconds / other.seconds:7.1f} {growth:>7} "
@@ -127,12 +165,16 @@ def run_shape(meter, programs, shape, runs):
 
 
 def main():
-    words = argparse.ArgumentParser()
+    words = with_share(argparse.ArgumentParser())
     words.add_argument("peer", metavar="PEER", help="the other program, or the folder of its C++ source")
     words.add_argument("program", nargs="?", default=PROGRAM)
     words.add_argument("--only", nargs="+", default=[], metavar="CASE", choices=[shape[0] for shape in SHAPES], help=" ".join(shape[0] for shape in SHAPES))
     words.add_argument("--runs", type=int, default=3, metavar="N")
-    given = words.parse_args()
+    given = taken(words)
+    if os.path.isdir(given.peer) and not shutil.which("g++"):
+        sys.exit("there is no g++, which builds the peer and what measures it")
+    if not os.path.exists(given.peer):
+        sys.exit(f"there is no peer at {given.peer}")
     program = program_of(given.program)
     print(f"{'input':48} {'seconds':>8} {'peer':>8} {'ratio':>7} {'growth':>7} {'peak MiB':>9} {'peer':>9} {'ratio':>7} {'memory each':>11}")
     with tempfile.TemporaryDirectory() as folder:

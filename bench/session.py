@@ -2,7 +2,7 @@
 """Times `usdstage session` on long scripts, on stages of 1,000 and 131,072 prims and of many root prims, in worlds of many load rules and
 of many names, and on an empty script, and prints a table.
 
-    python3 bench/session.py [PROGRAM] [--only CASE ..]
+    python3 bench/session.py [PROGRAM] [--only CASE ..] [--share N]
 
 Seconds are the processor's, and peak memory is that of the process. Four times the script should take little more than four times
 the time. 65,537 batches are one more than a session takes; a script of the most bytes is read, and one of one byte more is refused; a
@@ -13,7 +13,7 @@ A batch copies the names of the root prims of the layer that it edits (`roots`) 
 more of them there are. Load rules it shares (`rules`, `ruled`). Four times as many removals (`removed`) take up to sixteen times as long, since
 each goes over the names beside.
 """
-from measure import Case, main, no_lines, path_in_tree, tree, unasked
+from measure import Case, main, no_lines, path_in_tree, share, tree, unasked
 
 PRIMS = 1000
 LARGE = 131_072
@@ -27,9 +27,10 @@ def path(i):
 def sets(size):
     """Batches of a thousand `set` lines, up to about this many bytes, with a publish at the end."""
     out, length, i = [], 0, 0
-    while length < size - 70000:
-        batch = "begin\n" + "".join(f"set @root.usda@ {path(i + k)}.a {i + k}\n" for k in range(1000)) + "commit\n"
-        i += 1000
+    lines = share(1000)
+    while length < size - 70 * lines:
+        batch = "begin\n" + "".join(f"set @root.usda@ {path(i + k)}.a {i + k}\n" for k in range(lines)) + "commit\n"
+        i += lines
         out.append(batch)
         length += len(batch)
     return "".join(out) + "publish\n"
@@ -44,14 +45,14 @@ def batches(count):
     out = []
     for i in range(count):
         out.append(batch(path(i), i))
-        if (i + 1) % (count // 4) == 0:
+        if (i + 1) % max(count // 4, 1) == 0:
             out.append("publish\n")
     return "".join(out)
 
 
 def large_batches(count):
     """So many batches of one `set`, each of another prim of a large tree."""
-    return "".join(batch(path_in_tree(i * 7919 % LARGE), i) for i in range(count))
+    return "".join(batch(path_in_tree(i * 7919 % share(LARGE)), i) for i in range(count))
 
 
 def root_batches(count):
@@ -102,7 +103,7 @@ def stage(_size):
 
 
 def large_stage(_size):
-    return {"root": tree(LARGE)}
+    return {"root": tree(share(LARGE))}
 
 
 def root_prims_with_values(count):

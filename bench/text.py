@@ -1,7 +1,7 @@
 #!/usr/bin/env python3
 """Times the reading and writing of large texts of the whole format, and prints a table.
 
-    python3 bench/text.py [--in FOLDER] [CALL ..]
+    python3 bench/text.py [--in FOLDER] [--share N] [CALL ..]
 
 CALL is one of bytes (a plain count), tokens, words, read and written. The program that makes the calls is built in a scratch repository,
 which --in keeps in FOLDER: see measure.py. Seconds are the processor's, and peak memory is that of the process, the text itself included.
@@ -150,7 +150,8 @@ def run_one(program, call, folder, name, text, before):
 
 
 def run(folder, table):
-    texts = [("prims", prims(15_000_000), prims(60_000_000)), ("arrays", arrays(2_000_000), arrays(8_000_000))]
+    texts = [(name, *(make(measure.share(size)) for size in sizes))
+             for name, make, sizes in (("prims", prims, (15_000_000, 60_000_000)), ("arrays", arrays, (2_000_000, 8_000_000)))]
     program = measure.build(folder, "text_speed", USES, PROGRAM)
     for (call,) in table:
         for name, *sizes in texts:

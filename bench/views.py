@@ -1,14 +1,17 @@
 #!/usr/bin/env python3
 """Times what the built program composes and answers, on large prims and stages, and prints a table.
 
-    python3 bench/views.py [PROGRAM] [--only CASE ..]
+    python3 bench/views.py [PROGRAM] [--only CASE ..] [--share N]
 
 Each case is made in a temporary folder, once and four times as large. Seconds are the processor's. What is not measured, as the reading
 of the same layers, is run alone and taken off: a prim that is not active keeps what it holds from being composed, and its layers are
 still opened. Of layers that say nothing of a prim (`overs`) the same layers without a word of it are taken off. Peak memory is that of the
 whole run.
 """
-from measure import Case, listed, main, nested, path_in_tree, tree, unasked
+from measure import Case, listed, main, nested, path_in_tree, share, tree, unasked
+
+
+LARGE = 131_072
 
 
 def sites(count):
@@ -21,8 +24,8 @@ def sites(count):
 def properties(count):
     """A prim with a thousand sites, each of which says something of so many of the same properties."""
     own = "".join(f"int p{i}\n" for i in range(count))
-    body = "".join(f'def "r{i}" {{ {own} }}\n' for i in range(1000))
-    targets = listed(f"</R/r{i}>" for i in range(1000))
+    body = "".join(f'def "r{i}" {{ {own} }}\n' for i in range(share(1000)))
+    targets = listed(f"</R/r{i}>" for i in range(share(1000)))
     return {"root": f'def "R" (active = false) {{ {body} }}\ndef "A" (references = {targets}) {{}}\n'}
 
 
@@ -79,7 +82,7 @@ def a_tree(prims):
 
 
 def large_tree(_count):
-    return {"root": tree(131_072)}
+    return {"root": tree(share(LARGE))}
 
 
 def a_nest(count):
@@ -110,7 +113,7 @@ def questions(count, line):
 
 def spread(i):
     """The prims of a tree in an order that jumps."""
-    return i * 7919 % 131072
+    return i * 7919 % share(LARGE)
 
 
 CASES = [

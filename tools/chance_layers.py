@@ -239,7 +239,7 @@ class Layer:
             self.bracketed(self.keys() if self.maybe(0.2) else [])
             self.end()
         if self.maybe(0.3):
-            samples = {self.time() for _ in range(self.by.randint(0, 5))}
+            samples = sorted({self.time() for _ in range(self.by.randint(0, 5))})
             seen, rows = set(), []
             for time in samples:
                 if float(time) not in seen:
