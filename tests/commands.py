@@ -1,12 +1,12 @@
 #!/usr/bin/env python3
 """Runs every command that a page names: in backticks, or in a block of the kind `sh`. Transcripts are run by tests/transcripts.py.
 
-    python3 tests/commands.py [--pages] [--long] [--only WORD ..]
+    python3 tests/commands.py [--pages] [--only WORD ..]
 
 ROWS says of each command how it is run. A command without a row fails, and so does a row without a command. --pages compares the two and
 runs nothing, and --only runs the rows in whose commands a word stands. Commands of `rt` run in a scratch repository of two small crates
 that are made there. Sizes of bench/ are a share of what the scripts make by themselves. Scripts of bench/ that make calls of
-crates have a program proved first, a minute or more for each: they run with --long alone, and without it each is told as not run.
+crates have a program proved first, over the crates that the gate has just passed: a minute or more for each.
 """
 import argparse
 import os
@@ -31,13 +31,13 @@ class Run:
     """A command as it is run, with its exit status, and a text that stands in what it writes. SMALL and SCENE are the scratch repository's
     library and its top, FOLDER is an empty folder."""
 
-    def __init__(self, command, text="", status=0, place="", needs=(), is_long=False):
-        self.command, self.text, self.status, self.place, self.needs, self.is_long = command, text, status, place, needs, is_long
+    def __init__(self, command, text="", status=0, place="", needs=()):
+        self.command, self.text, self.status, self.place, self.needs = command, text, status, place, needs
 
-    def absent(self, long):
+    def absent(self):
         """Why the command cannot be run here; none where it can."""
         absent = [name for name in self.needs if not shutil.which(name)] + [PEER] * (PEER in self.command and not os.path.isdir(PEER))
-        return f"there is no {absent[0]}" if absent else "a program is proved first: --long runs it" if self.is_long and not long else None
+        return f"there is no {absent[0]}" if absent else None
 
 
 class In:
@@ -61,16 +61,21 @@ def in_crate(command, text="", status=0):
     return Run(command, text, status, "crates/small")
 
 
+def peer(words, text):
+    """The script that times the program beside the peer, on a share of its sizes."""
+    return Run(f"python3 bench/peer.py {PEER} --share 500 --runs 2 {words}", text, needs=("g++",))
+
+
 def calls(script, call):
     """A script that makes calls of crates: one call, since its program is proved first."""
-    return Run(f"python3 bench/{script}.py --share 500 {call}", call.split()[-1], is_long=True)
+    return Run(f"python3 bench/{script}.py --share 500 {call}", call.split()[-1])
 
 
 WRONG = Run("python3 tools/wrong_bodies.py small", "refused, as it must be", place=".")
 BUILD = Run("./usdstage --build && test -x crates/usdstage/out/usdstage", "", place=".")
 FLAT = Run("cd examples/shot && ../../usdstage flatten shot.usda", "#usda 1.0")
 OPENED = Run("cd examples/shot && ../../usdstage session shot.usda </dev/null", "published 0: batches 0, prims 9")
-PEER_RUN = Run(f"python3 bench/peer.py --share 500 --runs 2 {PEER}", "references to an asset", needs=("g++",))
+PEER_RUN = peer("", "references to an asset")
 OUT_OF_MEMORY = Run("python3 bench/out_of_memory.py --share 100", "with status 9", needs=("cc",))
 VALGRIND = Run("valgrind --tool=callgrind --callgrind-out-file=FOLDER/counted crates/usdstage/out/usdstage flatten examples/shot/animation.usda", "Collected",
                needs=("valgrind",))
@@ -136,6 +141,8 @@ ROWS = {
     "out_of_memory.py": OUT_OF_MEMORY,
     "peer.py": PEER_RUN,
     "python3 bench/peer.py PEER --runs 2": PEER_RUN,
+    "--only defaults": peer("--only defaults", "publishes of one default"),
+    "--only kinds --share 4": peer("--only kinds", "publishes of a class"),
     "valgrind --tool=callgrind": VALGRIND,
     **{f"{name}.py": bench(name) for name in ("flatten", "session", "opening", "views", "index")},
     **{f"python3 bench/{name}.py": bench(name) for name in ("flatten", "session", "opening", "index")},
@@ -228,11 +235,11 @@ def failure(row, scratch):
     return f"status {done.returncode} (wanted {row.status}), `{row.text}` has to stand in: {written[-600:]}"
 
 
-def run_each(rows, scratch, long):
+def run_each(rows, scratch):
     """Runs rows one after the other; how many passed, failed, and were not run."""
     counts = [0, 0, 0]
     for row in rows:
-        begun, absent = time.monotonic(), row.absent(long)
+        begun, absent = time.monotonic(), row.absent()
         why = None if absent else failure(row, scratch)
         counts[2 if absent else 1 if why else 0] += 1
         told = f"not run, {absent}" if absent else f"FAILED: {why}" if why else "passed"
@@ -240,7 +247,7 @@ def run_each(rows, scratch, long):
     return counts
 
 
-def run_rows(only, long):
+def run_rows(only):
     """Runs each row once, however many commands it is of: those of the scratch repository beside the others."""
     picked = [row for command, row in ROWS.items() if isinstance(row, Run) and (not only or any(word in command for word in only))]
     rows = list({(row.command, row.place): row for row in picked}.values())
@@ -248,19 +255,18 @@ def run_rows(only, long):
     with tempfile.TemporaryDirectory(prefix="usdstage-") as scratch, ThreadPoolExecutor(2) as threads:
         if placed:
             write_scratch(scratch)
-        counts = threads.map(lambda some: run_each(some, scratch, long), (placed, others))
+        counts = threads.map(lambda some: run_each(some, scratch), (placed, others))
         return [sum(several) for several in zip(*counts)]
 
 
 def main():
     words = argparse.ArgumentParser()
     words.add_argument("--pages", action="store_true")
-    words.add_argument("--long", action="store_true")
     words.add_argument("--only", nargs="+", default=[], metavar="WORD")
     given = words.parse_args()
     wrong = list(misfits())
     print("".join(line + "\n" for line in wrong), end="")
-    passed, failed, left = (0, 0, 0) if given.pages else run_rows(given.only, given.long)
+    passed, failed, left = (0, 0, 0) if given.pages else run_rows(given.only)
     print(f"{passed} passed, {failed + len(wrong)} failed, {left} not run")
     return 1 if failed or wrong else 0
 

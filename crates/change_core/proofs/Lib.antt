@@ -1,1 +1,3 @@
 mod Histories
+mod Keeping
+mod Searches

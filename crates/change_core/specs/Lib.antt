@@ -1,3 +1,5 @@
+pub mod Above
 pub mod Cores
 pub mod History
+pub mod Kept
 pub mod Publishes

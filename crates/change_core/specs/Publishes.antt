@@ -6,7 +6,7 @@ use Rattle.change_core.specs.declared.history.HistoryEntry.TheVariants.{Publish}
 use Rattle.change_core.specs.History.{batch_count, version_count}
 use Rattle.change_core.specs.Cores.{Session, Notes, world_of}
 
-module _ {C World Place Entry Batch Fault : Type 0} (g : Ghosts C World Place Entry Batch Fault) where
+module _ {C World Place Entry Key Index Batch Fault : Type 0} (g : Ghosts C World Place Entry Key Index Batch Fault) where
   -- the stage of the world was published under the next version, and noted
   pub record NotesPublish (old new : Session World Batch Fault) (seat version batches : ℕ) (items : List (Place × Entry)) : Type 0 where
     pub noted : Notes g.applied old new (Publish seat version batches)

@@ -1,15 +1,18 @@
 //! The core: its calls keep a legal history and the world after it.
 
-ghost use Rattle.std.specs.Prelude.{◌≡◌, [], ◌<◌, ◌≤◌, ◌+◌, length, Ok, Err, IfOk, OnErr};
+ghost use Rattle.std.specs.Prelude.{◌≡◌, [], ◌<◌, ◌≤◌, ◌+◌, length, Ok, Err, IfOk, IfErr, OnErr};
+ghost use Rattle.compose_api.specs.Refusals.{IfOp};
 ghost use Rattle.compose_api.specs.Stage.{stage_of};
 ghost use Rattle.change_core.specs.History.{edit_count, batch_count};
 
+use crate::cache::Cache;
 use crate::history::{EditReply, HistoryEntry, MAX_EDITS};
 use crate::publish::{Items, PublishReply};
-use compose_api::{ApplyRefused, Composer, StageRefused, stage_items, stage_items_within};
+use compose_api::{ApplyRefused, Composer, StageRefused};
 use plain_data::copy;
 use std::alloc::{AllocError, Global};
 use std::marker::Model;
+use std::mem::replace;
 use std::snapshot::Snapshot;
 
 /// A world with the history of all calls on it.
@@ -18,6 +21,7 @@ pub struct Core<C: Composer> {
     alloc: Global,
     composer: C,
     world: C::World,
+    cache: Cache<C>,
     opened: Snapshot<C::World>,
     history: plain_data::Items<HistoryEntry<C::Batch, C::Fault>>,
     edits: usize,
@@ -26,6 +30,7 @@ pub struct Core<C: Composer> {
 }
 
 impl<C: Composer> Model for Core<C> {
+    ghost use Rattle.std.specs.Prelude.{◌≡◌};
     ghost use Rattle.change_core.specs.Cores.{Session};
     ghost use Rattle.change_core.specs.History.{IsKept};
 
@@ -33,7 +38,7 @@ impl<C: Composer> Model for Core<C> {
 
     ghost view = { λ core. record { opened = core.opened.value; history = core.history } };
 
-    ghost invariant = { λ core. IsKept C.applied core.opened.value core.world core.history core.edits core.batches core.versions };
+    ghost invariant = { λ core. IsKept C.applied core.opened.value core.world core.history core.edits core.batches core.versions × (core.cache ≡ core.world) };
 }
 
 impl<C: Composer> Core<C> {
@@ -53,10 +58,12 @@ impl<C: Composer> Core<C> {
         ensures empty { IfOk result (λ core. core.history ≡ []) }
     {
         let opened = Snapshot::of(&world);
+        let cache = Cache::new(alloc, &world);
         Ok(Core {
             alloc,
             composer,
             world,
+            cache,
             opened,
             history: plain_data::Items::new(alloc),
             edits: 0,
@@ -76,22 +83,45 @@ impl<C: Composer> Core<C> {
         if self.edits == MAX_EDITS {
             return Ok(EditReply::JournalFull);
         }
-        match self.composer.apply(&self.world, &batch) {
-            Ok(after) => self.note_accepted(seat, batch, after),
+        match self.after_batch(&batch) {
+            Ok((world, cache)) => self.note_accepted(seat, batch, world, cache),
             Err(ApplyRefused::Op { op, fault }) => self.note_refused(seat, batch, op, fault),
             Err(ApplyRefused::NoMemory) => Err(AllocError),
         }
     }
 
-    /// Notes an accepted batch, after which the world is this one.
+    /// The world after a batch with what is kept for it, or the first operation that is refused. The core itself keeps nothing of an
+    /// accepted batch, and all of a refused one.
+    fn after_batch(
+        &mut self,
+        batch: &C::Batch,
+    ) -> Result<(C::World, Cache<C>), ApplyRefused<C::Fault>>
+        ensures ok { IfOk result (λ after. C.applied (world_of C.applied self.old) batch.now ≡ Ok after.0) }
+        ensures cache { IfOk result (λ after. after.1 ≡ after.0) }
+        ensures refused { IfErr result (λ e. IfOp e (λ op fault. C.applied (world_of C.applied self.old) batch.now ≡ Err (op, fault))) }
+        ensures same { self.new ≡ self.old }
+    {
+        let mut cache = replace(&mut self.cache, Cache::new(self.alloc, &self.world));
+        match cache.apply(self.alloc, &self.composer, &self.world, batch) {
+            Ok(after) => Ok((after, cache)),
+            Err(refused) => {
+                drop(replace(&mut self.cache, cache));
+                Err(refused)
+            }
+        }
+    }
+
+    /// Notes an accepted batch, after which the world is this one, and what is kept is this.
     fn note_accepted(
         &mut self,
         seat: u64,
         batch: C::Batch,
         after: C::World,
+        cache: Cache<C>,
     ) -> Result<EditReply<C::Fault>, AllocError>
         requires room { edit_count self.old.history < 65536 }
         requires after { C.applied (world_of C.applied self.old) batch ≡ Ok after }
+        requires cache { cache ≡ after }
         ensures answer { IfOk result (λ reply. NotesEdit C.applied self.old self.new seat batch reply) }
         ensures kind { IfOk result (λ reply. reply ≡ EditReply.Accepted (batch_count self.old.history + 1)) }
         ensures refused { OnErr result (self.new ≡ self.old) }
@@ -102,6 +132,7 @@ impl<C: Composer> Core<C> {
             batch,
             reply: EditReply::Accepted { number },
         })?;
+        self.cache = cache;
         self.world = after;
         self.batches = number;
         self.edits += 1;
@@ -132,15 +163,29 @@ impl<C: Composer> Core<C> {
         Ok(EditReply::Refused { op, fault })
     }
 
-    /// Composes the stage of the world from scratch, notes the publish with this seat, and hands the stage out.
+    /// Composes the stage of the world, as far as what is kept of the one before does not hold any more, notes the publish with this seat, and hands the stage out.
     /// Versions are counted from 0. After want of memory all is as before.
     pub fn publish(&mut self, seat: u64) -> Result<PublishReply<C>, AllocError>
         ensures answer { IfOk result (λ reply. (edition : _) × (reply ≡ PublishReply.Published edition) × NotesPublish ⟦<C as Composer>⟧ self.old self.new seat edition.version edition.batches edition.items) }
         ensures refused { OnErr result (self.new ≡ self.old) }
     {
-        let items = stage_items(self.alloc, &self.composer, &self.world)?;
+        let items = self.stage()?;
         let edition = self.note_published(seat, items)?;
         Ok(PublishReply::Published { edition })
+    }
+
+    /// The stage of the world.
+    fn stage(&mut self) -> Result<plain_data::Items<(C::Place, C::Entry)>, AllocError>
+        ensures stage { IfOk result (λ items. items ≡ stage_of C.entry_of C.listed (world_of C.applied self.old) C.root_place) }
+        ensures same { self.new ≡ self.old }
+    {
+        match self
+            .cache
+            .stage_within(self.alloc, &self.composer, &self.world, usize::MAX)
+        {
+            Ok(items) => Ok(items),
+            Err(_) => Err(AllocError),
+        }
     }
 
     /// The same for a stage of so many places at most. After a refusal all is as before.
@@ -154,7 +199,9 @@ impl<C: Composer> Core<C> {
         ensures full { result ≡ Err StageRefused.Full → most < length (stage_of C.entry_of C.listed (world_of C.applied self.old) C.root_place) }
         ensures refused { OnErr result (self.new ≡ self.old) }
     {
-        let items = stage_items_within(self.alloc, &self.composer, &self.world, most)?;
+        let items = self
+            .cache
+            .stage_within(self.alloc, &self.composer, &self.world, most)?;
         let edition = self.note_published(seat, items)?;
         Ok(edition)
     }

@@ -1,3 +1,3 @@
-pub mod Pairs
+pub mod Agreement
 pub mod Refusals
 pub mod Stage

@@ -5,6 +5,6 @@ mod composer;
 mod refused;
 mod walk;
 
-pub use composer::{ApplyRefused, Composer};
+pub use composer::{Applied, ApplyRefused, Composed, Composer};
 pub use refused::StageRefused;
 pub use walk::{stage_items, stage_items_within};

@@ -1,42 +1,71 @@
 //! All places of a world with their entries, composed from scratch.
 
-ghost use Rattle.std.specs.Prelude.{◌≡◌, ◌++◌, ◌<◌, ◌≤◌, length, OnOk, IfOk, Err, None, option_and_then, slice_get};
+ghost use Rattle.std.specs.Prelude.{◌≡◌, ◌++◌, ◌∷◌, [], ◌<◌, ◌≤◌, length, slice_get, OnOk, IfOk, IfSome, Err, Some};
 ghost use Rattle.std.specs.Option.{option_map, option_copied};
 ghost use Rattle.compose_api.specs.Stage.{walked, stage_of};
-ghost use Rattle.compose_api.specs.Pairs.{second};
 
-use crate::{Composer, StageRefused};
+use crate::{Composed, Composer, StageRefused};
 use plain_data::Items;
 use std::alloc::{AllocError, Global};
 
 /// The levels from the root place down to the deepest places.
 const LEVELS: u32 = 65;
 
-/// The entry of the item of this number, where one is named.
-fn entry_at<P, E>(items: &Items<(P, E)>, at: Option<usize>) -> Option<&E>
-    ensures { option_copied result ≡ option_map second (option_and_then (slice_get items.now) at) }
+/// Composes a place and adds it with its entry at the end. Its index is handed out.
+fn push_place<C: Composer>(
+    composer: &C,
+    world: &C::World,
+    parent: Option<&C::Index>,
+    place: C::Place,
+    items: &mut Items<(C::Place, C::Entry)>,
+) -> Result<C::Index, AllocError>
+    requires { IfSome (option_copied parent) (λ above. Some above ≡ option_map (C.index_of world.now) (C.parent_of place)) }
+    ensures index { IfOk result (λ index. index ≡ C.index_of world.now place) }
+    ensures items { OnOk result (items.new ≡ items.old ++ (place, C.entry_of world.now place) ∷ []) }
 {
-    match at {
-        None => None,
-        Some(at) => match items.get(at) {
-            None => None,
-            Some(item) => Some(&item.1),
-        },
+    let Composed { entry, index } = composer.compose(world, parent, &place)?;
+    items.push((place, entry))?;
+    Ok(index)
+}
+
+/// How many places the item of this number lists.
+fn count_below<C: Composer>(composer: &C, items: &Items<(C::Place, C::Entry)>, at: usize) -> usize
+    ensures { IfSome (slice_get items.now at) (λ item. result ≡ length (C.listed item.0 item.1)) }
+{
+    match items.get(at) {
+        None => 0,
+        Some(item) => composer.child_count(&item.1),
     }
 }
 
-/// Composes a place and all below it, while there are not more items than this. The parent's entry is that of the item of this
-/// number.
+/// The place with the number `i` of those that the item `at` lists.
+fn child_below<C: Composer>(
+    composer: &C,
+    items: &Items<(C::Place, C::Entry)>,
+    at: usize,
+    i: usize,
+) -> Result<C::Place, AllocError>
+    requires { IfSome (slice_get items.now at) (λ item. i < length (C.listed item.0 item.1)) }
+    ensures { IfOk result (λ child. IfSome (slice_get items.now at) (λ item. slice_get (C.listed item.0 item.1) i ≡ Some child)) }
+{
+    match items.get(at) {
+        None => Err(AllocError),
+        Some(item) => composer.child_at(&item.0, &item.1, i),
+    }
+}
+
+/// Composes a place and all below it, while there are not more items than this. Each place's index is let go once all below it is
+/// composed.
 fn push_walked<C: Composer>(
     composer: &C,
     world: &C::World,
-    parent: Option<usize>,
+    parent: Option<&C::Index>,
     place: C::Place,
     levels: u32,
     most: usize,
     items: &mut Items<(C::Place, C::Entry)>,
 ) -> Result<(), StageRefused>
-    requires { option_map second (option_and_then (slice_get items.old) parent) ≡ option_map (C.entry_of world.now) (C.parent_of place) }
+    requires { IfSome (option_copied parent) (λ above. Some above ≡ option_map (C.index_of world.now) (C.parent_of place)) }
     ensures items { OnOk result (items.new ≡ items.old ++ walked C.entry_of C.listed levels world.now place) }
     ensures full { result ≡ Err StageRefused.Full → most < length (items.old ++ walked C.entry_of C.listed levels world.now place) }
 {
@@ -46,16 +75,20 @@ fn push_walked<C: Composer>(
     if items.len() >= most {
         return Err(StageRefused::Full);
     }
-    let entry = composer.compose(world, entry_at(items, parent), &place)?;
-    let count = composer.child_count(&entry);
     let at = items.len();
-    items.push((place, entry))?;
+    let index = push_place(composer, world, parent, place, items)?;
+    let count = count_below(composer, items, at);
     for i in 0..count {
-        let child = match items.get(at) {
-            None => return Ok(()),
-            Some(item) => composer.child_at(&item.0, &item.1, i)?,
-        };
-        push_walked(composer, world, Some(at), child, levels - 1, most, items)?;
+        let child = child_below(composer, items, at, i)?;
+        push_walked(
+            composer,
+            world,
+            Some(&index),
+            child,
+            levels - 1,
+            most,
+            items,
+        )?;
     }
     Ok(())
 }
@@ -77,7 +110,16 @@ pub fn stage_items_within<C: Composer>(
 {
     let mut items = Items::new(alloc);
     let root = composer.top()?;
-    push_walked(composer, world, None, root, LEVELS, most, &mut items)?;
+    let above: Option<C::Index> = None;
+    push_walked(
+        composer,
+        world,
+        above.as_ref(),
+        root,
+        LEVELS,
+        most,
+        &mut items,
+    )?;
     if items.len() > most {
         return Err(StageRefused::Full);
     }

@@ -1,6 +1,19 @@
 -- A world that is a number.
 use Rattle.std.specs.Prelude.{◌≡◌, ◌≢◌, ◌+◌, ◌≤◌, ℕ, zero, suc, List, [], ◌∷◌, Option, Some, None, Result, Ok, Err, ◌<◌, Contains, AllPairs, slice_index_or}
 use Rattle.std.proofs.Common.{refl, arith, sym, lit≤}
+use Rattle.std.specs.List.Sorted.{IsStrictlySortedBy}
+use Rattle.std.specs.Ordering.{nat_cmp}
+use Rattle.compose_api.specs.Agreement.{Agree}
+
+-- the number at the key 0, and nothing at any other
+abbrev pub held : ℕ → ℕ → ℕ
+held w zero = w
+held w (suc k) = 0
+
+-- the root reads the key 0
+abbrev pub reads : ℕ → List ℕ
+reads zero = 0 ∷ []
+reads (suc p) = []
 
 -- the root has the world as its entry, any other place has 0
 abbrev pub entry : ℕ → ℕ → ℕ
@@ -43,3 +56,14 @@ pub are_below : (w p q : ℕ) → Contains (children (entry w p)) q → (parent 
 are_below zero zero q has = absurd (omega (arith, has.1))
 are_below (suc w) zero q has = let e = only_one has.0 q has.1 has.2 in rw e (refl, refl, lit≤ tt)
 are_below w (suc p) q has = absurd (omega (arith, has.1))
+
+-- what a place reads settles its entry
+pub covers : (w v p : ℕ) → Agree (held w) (held v) (reads p) → (entry v p ≡ entry w p) × (reads p ≡ reads p)
+covers w v zero agree = (sym (agree 0 (0, lit≤ tt, refl)), refl)
+covers w v (suc p) agree = (refl, refl)
+
+-- no place reads two keys
+pub are_in_order : (w p : ℕ) → IsStrictlySortedBy nat_cmp (reads p)
+unfolding IsStrictlySortedBy
+are_in_order w zero = (tt, tt)
+are_in_order w (suc p) = tt

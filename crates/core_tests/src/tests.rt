@@ -1,6 +1,6 @@
 use crate::Toy;
 use change_core::{Core, EditReply, PublishReply};
-use compose_api::StageRefused;
+use compose_api::{StageRefused, stage_items};
 use std::alloc::Global;
 use std::test::Fail;
 
@@ -34,7 +34,7 @@ fn refuses(core: &mut Core<Toy>) -> Result<bool, Fail> {
 
 #[test]
 fn a_batch_counts_from_one_and_a_refused_one_changes_nothing(rt: HostRuntime) -> Result<(), Fail> {
-    let mut core = Core::new(rt.alloc(), Toy, 3, 1)?;
+    let mut core = Core::new(rt.alloc(), Toy { alloc: rt.alloc() }, 3, 1)?;
     assert!(rt;
         publishes(&mut core, (0, 0, 2))?
             && refuses(&mut core)?
@@ -43,6 +43,39 @@ fn a_batch_counts_from_one_and_a_refused_one_changes_nothing(rt: HostRuntime) ->
             && publishes(&mut core, (2, 1, 1))?
             && accepts(&mut core, 5, 2)?
             && publishes(&mut core, (3, 2, 2))?
+    );
+    Ok(())
+}
+
+/// Whether the stage that is published now is the one that is composed of this world from scratch.
+fn is_composed(core: &mut Core<Toy>, alloc: Global, world: u64) -> Result<bool, Fail> {
+    let composed = stage_items(alloc, &Toy { alloc }, &world)?;
+    match core.publish(0)? {
+        PublishReply::Published { edition } => Ok(edition.items == composed),
+        PublishReply::NotClean { .. } => Ok(false),
+    }
+}
+
+/// Whether a stage of more than one place is refused.
+fn is_too_large(core: &mut Core<Toy>) -> bool {
+    matches!(core.publish_within(0, 1), Err(StageRefused::Full))
+}
+
+#[test]
+fn a_stage_that_is_kept_is_the_composed_one(rt: HostRuntime) -> Result<(), Fail> {
+    let alloc = rt.alloc();
+    let mut core = Core::new(alloc, Toy { alloc }, 3, 1)?;
+    assert!(rt;
+        is_composed(&mut core, alloc, 3)?
+            && is_composed(&mut core, alloc, 3)?
+            && accepts(&mut core, 3, 1)?
+            && is_composed(&mut core, alloc, 3)?
+            && accepts(&mut core, 0, 2)?
+            && is_composed(&mut core, alloc, 0)?
+            && accepts(&mut core, 9, 3)?
+            && accepts(&mut core, 5, 4)?
+            && is_too_large(&mut core)
+            && is_composed(&mut core, alloc, 5)?
     );
     Ok(())
 }
@@ -64,7 +97,7 @@ fn has_room_for(core: &mut Core<Toy>, batches: u64) -> Result<bool, Fail> {
 
 #[test]
 fn the_history_takes_65536_edit_calls(rt: HostRuntime) -> Result<(), Fail> {
-    let mut core = Core::new(rt.alloc(), Toy, 0, 1)?;
+    let mut core = Core::new(rt.alloc(), Toy { alloc: rt.alloc() }, 0, 1)?;
     assert!(rt;
         has_room_for(&mut core, 65_536)?
             && is_full(&mut core, 9)?

@@ -13,12 +13,13 @@ use plain_data::copy;
 use prim_view::PrimView;
 use sdf_paths::Path;
 use sdf_specs::{Layer, SharedTable, Spec};
+use stage_entries::StageEntry;
 use stage_publish::View;
 use std::alloc::{AllocError, Global};
 use usda_writer::write_layer;
 
 /// What stands at `/`.
-fn root_of<'v>(alloc: Global, view: &'v View<'_, Path, PrimView>) -> Option<&'v PrimView>
+fn root_of<'v>(alloc: Global, view: &'v View<'_, Path, StageEntry>) -> Option<&'v StageEntry>
     ensures { option_copied result ≡ item_at path_cmp [] view.now.items }
 {
     let root = Path::root(alloc);
@@ -53,14 +54,14 @@ fn put_prim(
 fn put_nth(
     alloc: Global,
     specs: &mut SharedTable<Path, Spec>,
-    view: &View<'_, Path, PrimView>,
+    view: &View<'_, Path, StageEntry>,
     i: usize,
 ) -> Result<(), AllocError>
     ensures { OnOk result (specs.new ≡ with_item (slice_get view.now.items i) specs.old) }
 {
     match view.nth(i) {
         None => Ok(()),
-        Some((path, prim)) => put_prim(alloc, specs, path, prim),
+        Some((path, entry)) => put_prim(alloc, specs, path, entry.view()),
     }
 }
 
@@ -68,7 +69,7 @@ fn put_nth(
 fn put_prims(
     alloc: Global,
     specs: &mut SharedTable<Path, Spec>,
-    view: &View<'_, Path, PrimView>,
+    view: &View<'_, Path, StageEntry>,
 ) -> Result<(), AllocError>
     ensures { OnOk result (specs.new ≡ with_prims view.now.items specs.old) }
 {
@@ -83,7 +84,7 @@ fn put_prims(
 /// # Errors
 ///
 /// Memory ran out.
-pub fn flatten_layer(alloc: Global, view: &View<'_, Path, PrimView>) -> Result<Layer, AllocError>
+pub fn flatten_layer(alloc: Global, view: &View<'_, Path, StageEntry>) -> Result<Layer, AllocError>
     ensures { IfOk result (λ layer. layer ≡ flat_layer view.now.items) }
 {
     let mut specs = SharedTable::new(alloc);
@@ -97,7 +98,7 @@ pub fn flatten_layer(alloc: Global, view: &View<'_, Path, PrimView>) -> Result<L
 /// # Errors
 ///
 /// Memory ran out.
-pub fn flatten_text(alloc: Global, view: &View<'_, Path, PrimView>) -> Result<Vec<u8>, AllocError>
+pub fn flatten_text(alloc: Global, view: &View<'_, Path, StageEntry>) -> Result<Vec<u8>, AllocError>
     ensures { IfOk result (λ text. text.items ≡ canonical (flat_layer view.now.items)) }
 {
     let layer = flatten_layer(alloc, view)?;

@@ -7,6 +7,7 @@ use plain_data::{Items, Text, copy};
 use prim_view::PrimView;
 use sdf_specs::{Head, Meta, default_key};
 use sdf_values::Value;
+use stage_entries::StageEntry;
 use std::alloc::{AllocError, Global};
 
 /// The text that a value is.
@@ -84,11 +85,11 @@ fn flat_head(alloc: Global, root: &PrimView) -> Result<Head, AllocError>
 
 /// The head of a stage's layer.
 #[tactic(auto, unfolding(crate::specs::Flattened::head_of))]
-pub fn head_of(alloc: Global, root: Option<&PrimView>) -> Result<Head, AllocError>
+pub fn head_of(alloc: Global, root: Option<&StageEntry>) -> Result<Head, AllocError>
     ensures { IfOk result (λ head. head ≡ head_of (option_copied root.entry)) }
 {
     match root {
         None => Ok(Head::blank(alloc)),
-        Some(root) => flat_head(alloc, root),
+        Some(root) => flat_head(alloc, root.view()),
     }
 }

@@ -5,84 +5,31 @@ use Rattle.std.specs.List.{All, AllByRecursion, Contains}
 use Rattle.std.specs.List.Sorted.{IsStrictlySortedBy}
 use Rattle.std.specs.Map.{keys_of}
 use Rattle.std.specs.Option.{is_some, option_map}
-use Rattle.std.specs.Ordering.{ordering_then}
 use Rattle.std.specs.declared.cmp.Ordering.{Ordering}
-use Rattle.std.specs.declared.cmp.Ordering.TheVariants.{Less, Equal}
+use Rattle.std.specs.declared.cmp.Ordering.TheVariants.{Less}
 use Rattle.std.proofs.lemmas.List.Elements.{All-nil, All-cons}
 use Rattle.std.proofs.lemmas.Map.Lookups.{exact_bytes}
-use Rattle.plain_data.specs.Exact.{then_both, both_true}
+use Rattle.plain_data.specs.Exact.{both_true}
 use Rattle.sdf_paths.specs.Order.{text_cmp, path_cmp}
 use Rattle.sdf_paths.specs.DerivedOrder.{path_cmp_same}
-use Rattle.sdf_paths.specs.PathOrder.{path_cmp_is}
 use Rattle.sdf_paths.specs.Paths.{has_prefix}
 use Rattle.sdf_paths.specs.declared.element.Element.{Element}
 use Rattle.sdf_specs.specs.Layers.{PathEntries, spec_at, tree}
 use Rattle.spec_parts.specs.declared.spec.Spec.{Spec}
 use Rattle.composition.specs.Keys.{arcs_value, body_value}
 use Rattle.layer_set.specs.Worlds.{WorldData, held_at, spec_of}
-use Rattle.layer_set.specs.contracts.key.KeyOrd.TheImpl.{ghosts as key_order}
 use Rattle.layer_set.specs.declared.held.Held.{Held}
 use Rattle.layer_set.specs.declared.key.Key.{Key}
 use Rattle.layer_set.specs.declared.key.Key.TheVariants.{Head, Arcs, Body, Load}
 use Rattle.layer_edit.proofs.Found.{is_key}
-use Rattle.layer_changes.specs.Changed.{key_cmp, IsChangedKey}
+use Rattle.key_sets.specs.Order.{key_cmp}
+use Rattle.key_sets.proofs.Order.{key_same}
+use Rattle.layer_changes.specs.Changed.{IsChangedKey}
 use Rattle.layer_changes.specs.Covering.{HasSpec, HasTree, Names, Keeps}
 use Rattle.layer_changes.specs.declared.part.Part.{Part}
 use Rattle.layer_changes.specs.declared.part.Part.TheVariants.{At, Below}
 use Rattle.composition.proofs.Tests.{by_test}
 use Rattle.composition.proofs.Members.{none_in, head_in, tail_in, cases_in}
-
--- ---- the order of keys
-
-key_cmp_is : (x y : Key) → key_order.cmp x y ≡ key_cmp x y
-key_cmp_is (Head a) (Head b) = refl
-key_cmp_is (Head a) (Arcs b q) = refl
-key_cmp_is (Head a) (Body b q) = refl
-key_cmp_is (Head a) (Load q) = refl
-key_cmp_is (Arcs a p) (Head b) = refl
-key_cmp_is (Arcs a p) (Arcs b q) = ap (ordering_then (text_cmp a b)) (path_cmp_is p q)
-key_cmp_is (Arcs a p) (Body b q) = refl
-key_cmp_is (Arcs a p) (Load q) = refl
-key_cmp_is (Body a p) (Head b) = refl
-key_cmp_is (Body a p) (Arcs b q) = refl
-key_cmp_is (Body a p) (Body b q) = ap (ordering_then (text_cmp a b)) (path_cmp_is p q)
-key_cmp_is (Body a p) (Load q) = refl
-key_cmp_is (Load p) (Head b) = refl
-key_cmp_is (Load p) (Arcs b q) = refl
-key_cmp_is (Load p) (Body b q) = refl
-key_cmp_is (Load p) (Load q) = path_cmp_is p q
-
-key_order_is : ◌≡◌ {A = Key → Key → Ordering} key_order.cmp key_cmp
-key_order_is = λ i x y. key_cmp_is x y i
-
-pub in_order : (keys : List Key) → IsStrictlySortedBy key_order.cmp keys → IsStrictlySortedBy key_cmp keys
-in_order keys h = subst (λ (R : Key → Key → Ordering). IsStrictlySortedBy R keys) key_order_is h
-
-pub key_same : (x y : Key) → key_cmp x y ≡ Equal → x ≡ y
-key_same (Head a) (Head b) h = ap Head (exact_bytes a b h)
-key_same (Head a) (Arcs b q) h = absurd cc
-key_same (Head a) (Body b q) h = absurd cc
-key_same (Head a) (Load q) h = absurd cc
-key_same (Arcs a p) (Head b) h = absurd cc
-key_same (Arcs a p) (Arcs b q) h =
-    let both = then_both (text_cmp a b) (path_cmp p q) h in
-    let name = exact_bytes a b both.0 in
-    let path = path_cmp_same p q both.1 in
-    cc
-key_same (Arcs a p) (Body b q) h = absurd cc
-key_same (Arcs a p) (Load q) h = absurd cc
-key_same (Body a p) (Head b) h = absurd cc
-key_same (Body a p) (Arcs b q) h = absurd cc
-key_same (Body a p) (Body b q) h =
-    let both = then_both (text_cmp a b) (path_cmp p q) h in
-    let name = exact_bytes a b both.0 in
-    let path = path_cmp_same p q both.1 in
-    cc
-key_same (Body a p) (Load q) h = absurd cc
-key_same (Load p) (Head b) h = absurd cc
-key_same (Load p) (Arcs b q) h = absurd cc
-key_same (Load p) (Body b q) h = absurd cc
-key_same (Load p) (Load q) h = ap Load (path_cmp_same p q h)
 
 -- ---- keys of a part
 

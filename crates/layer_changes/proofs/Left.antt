@@ -22,7 +22,7 @@ use Rattle.layer_set.specs.declared.key.Key.{Key}
 use Rattle.layer_set.specs.declared.key.Key.TheVariants.{Head, Arcs, Body, Load}
 use Rattle.layer_edit.specs.Places.{with_changed, changed_spec}
 use Rattle.layer_edit.proofs.Found.{not_at, is_key, other_put, other_exchanged, same_exchanged, kept_found}
-use Rattle.layer_changes.specs.Changed.{key_cmp}
+use Rattle.key_sets.specs.Order.{key_cmp}
 use Rattle.layer_changes.specs.Parts.{is_in, is_among, is_below}
 use Rattle.layer_changes.specs.declared.part.Part.{Part}
 use Rattle.layer_changes.specs.declared.part.Part.TheVariants.{At}

@@ -1,4 +1,3 @@
-pub mod Added
 pub mod Left
 pub mod Layers
 pub mod Worlds

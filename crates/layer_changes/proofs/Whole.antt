@@ -7,7 +7,10 @@ use Rattle.layer_set.specs.Worlds.{WorldData}
 use Rattle.layer_set.specs.declared.key.Key.{Key}
 use Rattle.edit_batches.specs.declared.op.Op.{Op}
 use Rattle.layer_apply.specs.Edits.{edit}
-use Rattle.layer_changes.specs.Changed.{key_cmp, IsChangedKey, AreChanged}
+use Rattle.layer_set.specs.LookUps.{look_ups, key_of}
+use Rattle.key_sets.specs.Order.{key_cmp}
+use Rattle.agreeing_worlds.proofs.Stable.{unchanged}
+use Rattle.layer_changes.specs.Changed.{IsChangedKey, AreChanged}
 use Rattle.layer_changes.specs.Covering.{Names, NamesBatch, Keeps}
 use Rattle.layer_changes.specs.Parts.{parts_of}
 use Rattle.layer_changes.specs.declared.part.Part.{Part}
@@ -23,6 +26,10 @@ pub are_changed : (w v : WorldData) (ops : List Op) (keys kept : List Key) → e
     → AreChanged w v kept
 are_changed w v ops keys kept made names sorted keeps = record {
   only = all_kept (IsChangedKey w v) keys kept keeps;
-  all = λ key changed. kept_has (IsChangedKey w v) keys kept keeps key changed (changed_named w v keys key changed ops names made);
+  kept = λ key none. unchanged (look_ups w) (look_ups v) (key_of key) (λ changed. none (all key changed));
+  all = all;
   ordered = still_sorted (IsChangedKey w v) key_cmp keys kept keeps sorted;
 }
+  where
+    all : (key : Key) → IsChangedKey w v key → Contains kept key
+    all key changed = kept_has (IsChangedKey w v) keys kept keeps key changed (changed_named w v keys key changed ops names made)

@@ -14,7 +14,7 @@ use Rattle.edit_batches.specs.declared.op.FieldList.{FieldList}
 use Rattle.edit_batches.specs.declared.op.FieldList.TheVariants as list
 use Rattle.edit_batches.specs.declared.op.Op.{Op}
 use Rattle.edit_batches.specs.declared.op.Op.TheVariants as op
-use Rattle.layer_changes.specs.Changed.{key_cmp}
+use Rattle.key_sets.specs.Order.{key_cmp}
 use Rattle.layer_changes.specs.declared.part.Part.{Part}
 use Rattle.layer_changes.specs.declared.part.Part.TheVariants.{At, Below}
 

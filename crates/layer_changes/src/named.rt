@@ -2,7 +2,7 @@
 ghost use Rattle.std.specs.Prelude.{OnOk, IfOk};
 ghost use Rattle.std.specs.List.{Contains, All};
 ghost use Rattle.std.specs.List.Sorted.{IsStrictlySortedBy};
-ghost use Rattle.layer_changes.specs.Changed.{key_cmp};
+ghost use Rattle.key_sets.specs.Order.{key_cmp};
 ghost use Rattle.layer_changes.specs.Parts.{parts_of};
 ghost use Rattle.layer_changes.specs.Covering.{Names, NamesBatch};
 

@@ -5,3 +5,4 @@ pub mod Properties
 pub mod Room
 pub mod Root
 pub mod Viewed
+pub mod Trees

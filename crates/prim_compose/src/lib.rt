@@ -1,6 +1,7 @@
 //! The composed view of a path: what layers make of it, whether or not the stage has a prim there.
 #![tactic(auto)]
 
+mod below;
 mod children;
 mod faults;
 mod lists;
@@ -8,4 +9,4 @@ mod properties;
 mod root;
 mod view;
 
-pub use view::compose_prim;
+pub use below::{ComposedPrim, compose_prim, compose_prim_below, tree_below};

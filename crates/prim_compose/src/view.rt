@@ -1,4 +1,4 @@
-ghost use Rattle.std.specs.Prelude.{◌≡◌, ◌++◌, true, map, IfOk};
+ghost use Rattle.std.specs.Prelude.{◌≡◌, ◌++◌, true, map, option_map, IfOk};
 ghost use Rattle.std.specs.List.{list_all};
 ghost use Rattle.composition.specs.Faults.{child_too_long};
 ghost use Rattle.composition.specs.Fields.{listed_children, unlisted_children};
@@ -7,11 +7,13 @@ ghost use Rattle.composition.specs.Views.{empty_view};
 ghost use Rattle.field_resolve.specs.Activity.{active_names};
 ghost use Rattle.field_resolve.specs.Folding.{meta_on};
 ghost use Rattle.layer_set.specs.LookUps.{look_ups};
-ghost use Rattle.prim_index.specs.Answer.{index_at, sites_in, choices_in, faults_in};
+ghost use Rattle.prim_index.specs.Answer.{indexed_of, sites_in, choices_in, faults_in};
 ghost use Rattle.sdf_paths.specs.Paths.{is_prim_name};
 ghost use Rattle.prim_index.specs.Once.{faults_once};
+ghost use Rattle.prim_trees.specs.Meant.{meant};
 ghost use Rattle.prim_compose.specs.Listing.{entry_at};
 ghost use Rattle.prim_compose.specs.Properties.{views_on, faults_on};
+ghost use Rattle.prim_compose.specs.Trees.{tree_at};
 ghost use Rattle.prim_compose.specs.Viewed.{index_in, seen, seen_by};
 
 use crate::children::children_below;
@@ -23,8 +25,9 @@ use field_resolve::{PrimFields, active_names, fields_of};
 use layer_set::World;
 use list_ops::push_all;
 use plain_data::{Items, Text, copy};
-use prim_index::{PrimIndex, has_prims_alone, index};
+use prim_index::{PrimIndex, index_of};
 use prim_opinions::{SaidAt, opinions_on};
+use prim_trees::Tree;
 use prim_view::{Choices, PrimFault, PrimView, PropertyView, Site};
 use sdf_paths::Path;
 use sdf_specs::Specifier;
@@ -209,31 +212,35 @@ fn view_by(
     view_from(alloc, place, index, said.as_slice())
 }
 
-/// The view at a plain prim path.
-fn prim_view(alloc: Global, world: &World, place: &Path) -> Result<PrimView, AllocError>
+/// The view at a plain prim path, by its tree.
+fn prim_view(
+    alloc: Global,
+    world: &World,
+    place: &Path,
+    tree: &Tree,
+) -> Result<PrimView, AllocError>
     requires { list_all is_prim_name place.now ≡ true }
-    ensures { IfOk result (λ view. view ≡ seen_by (look_ups world.now) place.now (index_at limits (look_ups world.now) place.now)) }
+    ensures { IfOk result (λ view. view ≡ seen_by (look_ups world.now) place.now (indexed_of limits (meant tree.now))) }
 {
-    let index = index(alloc, world, place)?;
+    let index = index_of(alloc, tree)?;
     view_by(alloc, world, place, &index)
 }
 
-/// The composed view of a path, whether or not the stage has a prim there: the fields, properties and children of the prim, the sites
-/// and choices that it is composed of, and the faults that were found, each once. `/` has the metadata of the session and the root
-/// layer, the root prims, and the faults of the root's sublayers. What is neither a plain prim path nor `/`, as the path of a property
-/// or one with variant selections, has nothing.
-///
-/// # Errors
-///
-/// Memory ran out.
-pub fn compose_prim(alloc: Global, world: &World, path: &Path) -> Result<PrimView, AllocError>
+/// The view of a path by its tree, where it has one.
+pub fn view_with(
+    alloc: Global,
+    world: &World,
+    path: &Path,
+    tree: &Option<Tree>,
+) -> Result<PrimView, AllocError>
+    requires { option_map meant tree.now ≡ tree_at (look_ups world.now) path.now }
     ensures { IfOk result (λ view. view ≡ entry_at world.now path.now) }
 {
     if path.is_root() {
         return root_view(alloc, world);
     }
-    if has_prims_alone(path) {
-        return prim_view(alloc, world, path);
+    match tree {
+        Some(tree) => prim_view(alloc, world, path, tree),
+        None => Ok(bare_view(alloc, Items::new(alloc))),
     }
-    Ok(bare_view(alloc, Items::new(alloc)))
 }

@@ -9,7 +9,7 @@ use Rattle.composition.specs.Trees.{Tree, node_of}
 use Rattle.composition.specs.Strength.{sites, listing}
 use Rattle.composition.specs.Compose.{meaning, tree_of, frames_along, is_overgrown_on_the_way}
 use Rattle.composition.specs.Faults.{Index, Fault, same_fault, site_of, node_faults}
-use Rattle.prim_index.specs.Answer.{index_at, indexed_of, stage_node_at, sites_in, choices_in, faults_in, is_none, viewed, IsAnswer}
+use Rattle.prim_index.specs.Answer.{index_at, indexed_of, stage_node_at, stage_tree_at, sites_in, choices_in, faults_in, is_none, viewed, IsAnswer}
 use Rattle.prim_index.specs.Depths.{deeper, tree_below, full_tree, frames_below}
 use Rattle.prim_index.specs.Loading.{loads}
 use Rattle.prim_index.specs.Once.{faults_once}
@@ -39,14 +39,19 @@ module _ (l : Limits) (w : World) (p : Path) where
       let r : Node = record n { frames = frames_along l (full l (said l w) i) (is_loaded w) n (length p) } in
       r
 
-  index_is : index_at l w p ≡ indexed_of l (tree_below l (said l w) l.depth l.nodes l.nodes (stage_node_at l w p))
-  unfolding index_at indexed_of stage_node_at said
-  index_is = ap (indexed_of l) (meant_tree l (said l w) l.depth l.nodes (stage_node_at l w p))
+  tree_is : tree_below l (said l w) l.depth l.nodes l.nodes (stage_node_at l w p) ≡ stage_tree_at l w p
+  unfolding stage_tree_at stage_node_at said
+  tree_is = sym (meant_tree l (said l w) l.depth l.nodes (stage_node_at l w p))
 
-  pub index_made : (depth nodes : ℕ) (n : Node) (t : Tree) (index : Option Index) → depth ≡ l.depth → nodes ≡ l.nodes → n ≡ stage_node_at l w p
-      → t ≡ tree_below l (said l w) depth nodes nodes n → index ≡ indexed_of l t → index ≡ index_at l w p
-  index_made depth nodes n t index deep most stands made told =
-      told ∙ ap (indexed_of l) (made ∙ (λ i. tree_below l (said l w) (deep i) (most i) (most i) (stands i))) ∙ sym index_is
+  -- the tree of the stage's node is that of the path
+  pub tree_made : (depth nodes : ℕ) (n : Node) (t : Tree) → depth ≡ l.depth → nodes ≡ l.nodes → n ≡ stage_node_at l w p
+      → t ≡ tree_below l (said l w) depth nodes nodes n → t ≡ stage_tree_at l w p
+  tree_made depth nodes n t deep most stands made = made ∙ (λ i. tree_below l (said l w) (deep i) (most i) (most i) (stands i)) ∙ tree_is
+
+  -- the index by the tree of a path is that of the path
+  pub index_is : indexed_of l (stage_tree_at l w p) ≡ index_at l w p
+  unfolding index_at indexed_of stage_tree_at said
+  index_is = refl
 
 module _ (l : Limits) (t : Tree) where
   abbrev by_growth : Bool → Option Index
@@ -93,7 +98,7 @@ pub none_result : {E : Type 0} → (l : Limits) (t : Tree) (r : Bool) (i : Resul
 none_result l t r (Ok x) is on made = made ∙ index_none l t r is on
 none_result l t r (Err e) is on made = made
 
-pub index_result : {E : Type 0} → (l : Limits) (w : World) (p : Path) (depth nodes : ℕ) (n : Node) (t : Tree) (r : Result (Option Index) E) → depth ≡ l.depth → nodes ≡ l.nodes
-    → n ≡ stage_node_at l w p → t ≡ tree_below l (said l w) depth nodes nodes n → IfOk r (λ i. i ≡ indexed_of l t) → IfOk r (λ i. i ≡ index_at l w p)
-index_result l w p depth nodes n t (Ok i) deep most stands made told = index_made l w p depth nodes n t i deep most stands made told
-index_result l w p depth nodes n t (Err e) deep most stands made told = told
+pub index_result : {E : Type 0} → (l : Limits) (w : World) (p : Path) (t : Tree) (r : Result (Option Index) E) → t ≡ stage_tree_at l w p
+    → IfOk r (λ i. i ≡ indexed_of l t) → IfOk r (λ i. i ≡ index_at l w p)
+index_result l w p t (Ok i) made told = told ∙ ap (indexed_of l) made ∙ index_is l w p
+index_result l w p t (Err e) made told = told

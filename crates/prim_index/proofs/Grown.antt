@@ -11,15 +11,15 @@ use Rattle.prim_index.specs.Depths.{tree_below, child_below, grown_below}
 use Rattle.prim_index.specs.Grown.{before}
 use Rattle.prim_index.proofs.Depths.{tree_grown, grown_none, grown_cut, grown_more}
 
-before_none : (cs : List Led) → before cs none ≡ all_of cs false
+pub before_none : (cs : List Led) → before cs none ≡ all_of cs false
 before_none [] = refl
 before_none (c ∷ cs) = ap (child c.0 c.1) (before_none cs)
 
-before_cut : (cs : List Led) → before cs cut ≡ all_of cs true
+pub before_cut : (cs : List Led) → before cs cut ≡ all_of cs true
 before_cut [] = refl
 before_cut (c ∷ cs) = ap (child c.0 c.1) (before_cut cs)
 
-before_more : (cs : List Led) (c : Led) (ts : Trees) → before (cs ++ c ∷ []) ts ≡ before cs (child c.0 c.1 ts)
+pub before_more : (cs : List Led) (c : Led) (ts : Trees) → before (cs ++ c ∷ []) ts ≡ before cs (child c.0 c.1 ts)
 before_more [] c ts = refl
 before_more (x ∷ cs) c ts = ap (child x.0 x.1) (before_more cs c ts)
 
@@ -31,7 +31,7 @@ size_cut : (cs : List Led) → size_among (all_of cs true) ≡ size_among (all_o
 size_cut [] = refl
 size_cut (x ∷ cs) = ap (λ k. size x.1 + k) (size_cut cs)
 
-led_more : (cs : List Child) (c : Child) → map led (cs ++ c ∷ []) ≡ map led cs ++ led c ∷ []
+pub led_more : (cs : List Child) (c : Child) → map led (cs ++ c ∷ []) ≡ map led cs ++ led c ∷ []
 led_more cs c = map-append led cs (c ∷ [])
 
 module _ (l : Limits) (h : Node → Here) (d steps : ℕ) (n : Node) where

@@ -2,10 +2,14 @@ pub mod Alone
 pub mod Answering
 pub mod Choosing
 pub mod Depths
+pub mod Extended
 pub mod Faulted
+pub mod Fresh
 pub mod Grown
+pub mod Lowering
 pub mod Names
 pub mod Once
+pub mod Rounded
 pub mod Saying
 pub mod Settled
 pub mod Steps

@@ -122,7 +122,7 @@ module _ (w : World) (n : Node) where
   unfolding said_levels opinions
   levels_are = refl
 
-  tried_same : (k : ArcKind) (there : ℕ × List Opinion) → tried_at limits w n k there ≡ tried_level w n k there
+  pub tried_same : (k : ArcKind) (there : ℕ × List Opinion) → tried_at limits w n k there ≡ tried_level w n k there
   unfolding tried_level tried_of authored_in
   tried_same Inherits there = refl
   tried_same Variant there = refl
@@ -139,7 +139,7 @@ module _ (w : World) (n : Node) where
   one_same j set None = refl
   one_same j set (Some v) = refl
 
-  chosen_same : (there : ℕ × List Opinion) → chosen_at limits w n there ≡ chosen_level n there
+  pub chosen_same : (there : ℕ × List Opinion) → chosen_at limits w n there ≡ chosen_level n there
   unfolding chosen_level chosen_of sets_in
   chosen_same there = λ i. filter_map (λ set. one_same there.0 set (find_at same_text set (frame_at n there.0).choices) i) (sets_in there.1)
 

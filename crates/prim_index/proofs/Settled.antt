@@ -25,7 +25,7 @@ no_more xs (y ∷ ys) h = absurd (omega (arith, h, length-append xs (y ∷ ys)))
 
 module _ (l : Limits) (h : Node → Here) where
   -- a frame to which a round adds nothing
-  same_frame : (t : Tree) (f g : Frame) → g ≡ with_round l t f → length g.choices ≡ length f.choices → g.overgrown ≡ false → (let r : Frame = record f { overgrown = false } in r ≡ g)
+  pub same_frame : (t : Tree) (f g : Frame) → g ≡ with_round l t f → length g.choices ≡ length f.choices → g.overgrown ≡ false → (let r : Frame = record f { overgrown = false } in r ≡ g)
   unfolding with_round
   same_frame t f g made same off =
       let choices : g.choices ≡ f.choices ++ decided l t f.choices = ap (λ (x : Frame). x.choices) made in

@@ -6,7 +6,7 @@ use Rattle.composition.specs.Nodes.{Node, Choices}
 use Rattle.composition.specs.Trees.{Tree}
 use Rattle.composition.specs.Opinions.{Site}
 use Rattle.composition.specs.Faults.{Index, index, index_of, Fault, overgrown}
-use Rattle.composition.specs.Compose.{stage_node}
+use Rattle.composition.specs.Compose.{stage_node, stage_tree}
 use Rattle.prim_index.specs.Reading.{said}
 
 -- the index at a plain prim path, or at `/`; none where a listing was overgrown
@@ -20,6 +20,10 @@ indexed_of l t = index_of l t
 -- the stage's node at such a path
 unfoldable pub stage_node_at : Limits → World → Path → Node
 stage_node_at l w p = stage_node l (said l w) (is_loaded w) p
+
+-- the tree of a plain prim path, or of `/`
+unfoldable pub stage_tree_at : Limits → World → Path → Tree
+stage_tree_at l w p = stage_tree l (said l w) (is_loaded w) p
 
 -- the index at any other path
 abbrev pub nothing_there : Index

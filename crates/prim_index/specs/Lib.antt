@@ -1,5 +1,6 @@
 pub mod Answer
 pub mod Depths
+pub mod Extending
 pub mod Once
 pub mod Reading
 pub mod Grown

@@ -47,12 +47,13 @@ pub enum Payloads {
 
 /// The children that some arcs have.
 #[derive(Drop)]
-struct Grown {
-    children: Items<Child>,
+pub struct Grown {
+    /// The children.
+    pub children: Items<Child>,
     /// Whether there was no room for further ones.
-    is_cut: bool,
+    pub is_cut: bool,
     /// For how many nodes there is room after them.
-    room: usize,
+    pub room: usize,
 }
 
 /// The tree of a node, of so many nodes at most.
@@ -147,7 +148,7 @@ fn bare_tree(alloc: Global, node: Node) -> Tree
 
 /// A node with its children.
 #[tactic(auto, using(prim_trees::specs::Unfolded::meant_is))]
-fn joined_tree(node: Node, here: Here, own: Grown, lifted: Grown) -> Tree
+pub fn joined_tree(node: Node, here: Here, own: Grown, lifted: Grown) -> Tree
     ensures { meant result ≡ node_of_tree node here (trees_of own.children own.is_cut) (trees_of lifted.children lifted.is_cut) }
 {
     Tree {
@@ -161,7 +162,7 @@ fn joined_tree(node: Node, here: Here, own: Grown, lifted: Grown) -> Tree
 }
 
 /// A followed arc, and the tree to which it leads.
-fn led_child(branch: &Branch, tree: Tree) -> Result<Child, AllocError>
+pub fn led_child(branch: &Branch, tree: Tree) -> Result<Child, AllocError>
     ensures { IfOk result (λ child. led child ≡ (branch.now, meant tree)) }
 {
     match copy(branch) {
@@ -211,7 +212,7 @@ fn children_at(
 
 /// The tree to which an arc of a node leads.
 #[cycle(grow)]
-fn child_at(
+pub fn child_at(
     alloc: Global,
     world: &World,
     depth: usize,

@@ -131,7 +131,11 @@ fn told(choices: Choices, sites: Items<Site>, faults: Items<PrimFault>) -> PrimI
 }
 
 /// The index of the prim whose tree this is.
-fn index_of(alloc: Global, tree: &Tree) -> Result<PrimIndex, AllocError>
+///
+/// # Errors
+///
+/// Memory ran out.
+pub fn index_of(alloc: Global, tree: &Tree) -> Result<PrimIndex, AllocError>
     ensures { IfOk result (λ i. i ≡ indexed_of limits (meant tree.now)) }
 {
     let over = is_overgrown_on_the_way(tree);

@@ -115,7 +115,7 @@ fn is_looked_at(kind: ArcKind, node: &Node, level: usize) -> bool
 
 /// Appends what becomes of the items of a kind that opinions of a level make. The stack is the node's.
 #[tactic(auto, using(crate::proofs::Saying::tried_unseen, crate::proofs::Saying::tried_seen))]
-fn push_level(
+pub fn push_level(
     out: &mut Items<Tried>,
     world: &World,
     stack: &LayerStack,
@@ -212,7 +212,7 @@ fn variant(
 
 /// Appends the variants that a level decides, of which the opinions are given.
 #[tactic(auto, using(crate::proofs::Saying::chosen_unseen, crate::proofs::Saying::chosen_seen, crate::proofs::Saying::frame_some, crate::proofs::Saying::frame_none))]
-fn push_chosen(
+pub fn push_chosen(
     out: &mut Items<Chosen>,
     node: &Node,
     level: usize,
@@ -340,7 +340,7 @@ fn arcs(
 }
 
 /// The stack of a node, by the name that the node has for it.
-fn stack_of(alloc: Global, world: &World, node: &Node) -> Result<LayerStack, AllocError>
+pub fn stack_of(alloc: Global, world: &World, node: &Node) -> Result<LayerStack, AllocError>
     ensures stack { IfOk result (λ s. IsStackOf (look_ups world.now) s) }
     ensures name { IfOk result (λ s. s.name ≡ node.now.stack) }
 {
@@ -359,7 +359,7 @@ fn stack_of(alloc: Global, world: &World, node: &Node) -> Result<LayerStack, All
 
 /// What the layers of a stack say at a path, the strongest first.
 #[tactic(auto, using(crate::proofs::Saying::opinions_are))]
-fn said_at<'w>(
+pub fn said_at<'w>(
     alloc: Global,
     world: &'w World,
     stack: &'w LayerStack,
@@ -410,7 +410,7 @@ fn said_at_levels<'w>(
 
 /// Whether there are opinions.
 #[tactic(auto, using(crate::proofs::Saying::empty_told))]
-fn is_said(opinions: &Items<LayerOpinion<'_>>) -> bool
+pub fn is_said(opinions: &Items<LayerOpinion<'_>>) -> bool
     ensures { result ≡ not (is_empty opinions.now) }
 {
     !opinions.is_empty()
@@ -439,7 +439,7 @@ fn said_arcs(
 }
 
 /// The variant sets and the selections that opinions make.
-fn said_choices(
+pub fn said_choices(
     alloc: Global,
     own: &[LayerOpinion<'_>],
 ) -> Result<(Items<Text>, Items<(Text, Text)>), AllocError>

@@ -6,7 +6,7 @@ ghost use Rattle.composition.specs.Nodes.{bare_node};
 ghost use Rattle.composition.specs.World.{identity};
 ghost use Rattle.layer_set.specs.LookUps.{look_ups};
 ghost use Rattle.prim_trees.specs.Meant.{meant};
-ghost use Rattle.prim_index.specs.Answer.{stage_node_at};
+ghost use Rattle.prim_index.specs.Answer.{stage_tree_at};
 ghost use Rattle.node_branches.specs.Children.{node_in_round};
 ghost use Rattle.prim_index.specs.Depths.{tree_below, rounds_below};
 ghost use Rattle.prim_index.specs.Reading.{said};
@@ -28,10 +28,11 @@ use std::alloc::{AllocError, Global};
 
 /// A frame after its rounds of choices.
 #[derive(Drop)]
-struct Settled {
-    frame: Frame,
+pub struct Settled {
+    /// The frame.
+    pub frame: Frame,
     /// The tree with this frame, where the last round made it.
-    tree: Option<Tree>,
+    pub tree: Option<Tree>,
 }
 
 /// The node of the stage at a path, before anything is chosen.
@@ -150,9 +151,13 @@ fn tree_with(
     }
 }
 
-/// The tree at a plain prim path, or at `/`.
+/// The tree at a plain prim path, or at `/`, made from the root.
+///
+/// # Errors
+///
+/// Memory ran out.
 pub fn stage_tree(alloc: Global, world: &World, place: &Path) -> Result<Tree, AllocError>
-    ensures { IfOk result (λ tree. meant tree ≡ tree_below limits (said limits (look_ups world.now)) 64 4096 4096 (stage_node_at limits (look_ups world.now) place.now)) }
+    ensures { IfOk result (λ tree. meant tree ≡ stage_tree_at limits (look_ups world.now) place.now) }
 {
     let begun = bare_stage_node(alloc, place)?;
     let count = path_length(&begun);

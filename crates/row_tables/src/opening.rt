@@ -7,9 +7,9 @@ use crate::words::{first_word, layer_name};
 use asset_names::AssetId;
 use layer_load::{LoadFault, Loaded, load_one, load_world};
 use layer_set::{Held, World};
-use prim_view::PrimView;
 use sdf_paths::Path;
 use spec_parts::Refusal;
+use stage_entries::StageEntry;
 use stage_publish::Edition;
 use std::alloc::{AllocError, Global};
 use std::fmt::Write;
@@ -19,7 +19,7 @@ use std::mem;
 const ROOT: &str = "root.usda";
 
 /// The stage of a world.
-pub(crate) type Stage = Edition<Path, PrimView>;
+pub(crate) type Stage = Edition<Path, StageEntry>;
 
 /// A world that was opened, with its stage where that was asked.
 #[derive(Drop)]

@@ -10,6 +10,7 @@ use sdf_values::{
 };
 use spec_parts::{Refusal, Specifier};
 use spec_properties::{Meta, Samples};
+use stage_entries::StageEntry;
 use stage_publish::Edition;
 use stage_questions::{Question, push_answer, push_edit_reply, push_publish_reply};
 use std::alloc::Global;
@@ -241,23 +242,27 @@ fn busy_prim(alloc: Global) -> Result<PrimView, Fail> {
 }
 
 /// The prims of a stage, with their paths.
-type Placed = Items<(Path, PrimView)>;
+type Placed = Items<(Path, StageEntry)>;
+
+/// Appends a prim at a path.
+fn push_prim(alloc: Global, items: &mut Placed, path: Path, prim: PrimView) -> Result<(), Fail> {
+    items.push((path, StageEntry::of(alloc, prim)?))?;
+    Ok(())
+}
 
 /// Appends the prim `/` with these children.
 fn push_root(alloc: Global, items: &mut Placed, children: &[&str]) -> Result<(), Fail> {
     let children = names(alloc, children)?;
-    items.push((Path::root(alloc), prim(alloc, children)))?;
-    Ok(())
+    push_prim(alloc, items, Path::root(alloc), prim(alloc, children))
 }
 
 fn push_busy(alloc: Global, items: &mut Placed) -> Result<(), Fail> {
     push_root(alloc, items, &["A", "_b"])?;
     let path = Path::parse(alloc, "/A")?;
-    items.push((path, busy_prim(alloc)?))?;
-    Ok(())
+    push_prim(alloc, items, path, busy_prim(alloc)?)
 }
 
-fn stage(alloc: Global) -> Result<Edition<Path, PrimView>, Fail> {
+fn stage(alloc: Global) -> Result<Edition<Path, StageEntry>, Fail> {
     let mut items = Items::new(alloc);
     let done = push_busy(alloc, &mut items);
     Ok(Edition::build(alloc, 0, 0, whole(items, done)?, None)?)
@@ -318,7 +323,7 @@ fn question(alloc: Global, word: &str, path: &str) -> Result<Question, Fail> {
 /// Whether this stands there once a question on a stage is answered behind what was written before.
 fn is_written(
     alloc: Global,
-    edition: &Edition<Path, PrimView>,
+    edition: &Edition<Path, StageEntry>,
     before: &str,
     question: &Question,
     text: &str,
@@ -431,12 +436,11 @@ fn small_prim(alloc: Global) -> Result<PrimView, Fail> {
 fn push_small(alloc: Global, items: &mut Placed) -> Result<(), Fail> {
     push_root(alloc, items, &["A"])?;
     let path = Path::parse(alloc, "/A")?;
-    items.push((path, small_prim(alloc)?))?;
-    Ok(())
+    push_prim(alloc, items, path, small_prim(alloc)?)
 }
 
 /// A stage of one prim with one attribute.
-fn small_stage(alloc: Global) -> Result<Edition<Path, PrimView>, Fail> {
+fn small_stage(alloc: Global) -> Result<Edition<Path, StageEntry>, Fail> {
     let mut items = Items::new(alloc);
     let done = push_small(alloc, &mut items);
     Ok(Edition::build(alloc, 0, 0, whole(items, done)?, None)?)

@@ -2,6 +2,8 @@
 #![tactic(auto)]
 
 mod composer;
+mod index;
 
 pub use composer::UsdComposer;
+pub use index::StageIndex;
 pub use prim_compose::compose_prim;

@@ -1,13 +1,16 @@
 ghost use Rattle.std.specs.Prelude.{◌≡◌, ◌↔◌, [], length, slice_get, IfOk, IsTrue};
+ghost use Rattle.std.specs.Arc.{arc_value};
+ghost use Rattle.std.specs.BTreeMap.{get};
 ghost use Rattle.std.specs.Option.{option_copied, option_map};
-ghost use Rattle.stage_publish.specs.Editions.{item_at};
+ghost use Rattle.stage_publish.specs.Editions.{item_at, index_of};
 
-use crate::places::indices;
+use crate::places::{has_same_places, indices};
 use crate::view::View;
 use plain_data::{ExactClone, ExactOrd, Items};
 use std::alloc::{AllocError, Global};
 use std::collections::BTreeMap;
 use std::marker::Model;
+use std::sync::Arc;
 
 /// A version of a stage: items by place, in their order.
 ///
@@ -17,11 +20,12 @@ pub struct Edition<P: Ord, E> {
     version: u64,
     batches: u64,
     items: Items<(P, E)>,
-    indices: BTreeMap<P, usize>,
+    indices: Arc<BTreeMap<P, usize>, Global>,
 }
 
 impl<P: Ord, E> Model for Edition<P, E> {
     ghost use Rattle.std.specs.Prelude.{◌≡◌};
+    ghost use Rattle.std.specs.Arc.{arc_value};
     ghost use Rattle.std.specs.BTreeMap.{get};
     ghost use Rattle.stage_publish.specs.Editions.{Published, index_of};
 
@@ -29,7 +33,7 @@ impl<P: Ord, E> Model for Edition<P, E> {
 
     ghost view = { λ t. record { version = t.version; batches = t.batches; items = t.items } };
 
-    ghost invariant = { λ t. (p : P) → get P.cmp t.indices p ≡ index_of P.cmp p t.items };
+    ghost invariant = { λ t. (p : P) → get P.cmp (arc_value t.indices) p ≡ index_of P.cmp p t.items };
 }
 
 impl<P: Ord, E> Edition<P, E> {
@@ -99,12 +103,31 @@ fn entry<P, E>(items: &[(P, E)], i: usize) -> Option<&E>
     }
 }
 
+/// The index of the first item of each place: that of a version with the same places, where one is given, which is then shared.
+fn indices_beside<P: ExactOrd + ExactClone + Drop, E: Drop>(
+    alloc: Global,
+    items: &Items<(P, E)>,
+    before: Option<&Edition<P, E>>,
+) -> Result<Arc<BTreeMap<P, usize>, Global>, AllocError>
+    ensures { IfOk result (λ found. (p : P) → get P.cmp (arc_value found) p ≡ index_of P.cmp p items.now) }
+{
+    if let Some(edition) = before {
+        if has_same_places(items.as_slice(), edition.items.as_slice()) {
+            let shared = Arc::try_clone(&edition.indices)?;
+            return Ok(shared);
+        }
+    }
+    let found = indices(alloc, items.as_slice())?;
+    Ok(Arc::new(alloc, found)?)
+}
+
 impl<P: ExactOrd + ExactClone + Drop, E: Drop> Edition<P, E> {
     ghost use Rattle.stage_publish.specs.Editions.{Published};
 
     /// The version of these numbers and these items in this order. A place that stands twice is found where it stands first.
     ///
-    /// `before` is the version published before this one, if there is one; nothing is taken from it.
+    /// `before` is the version published before this one, if there is one. Where the places are the same, the table by which they are
+    /// found is shared with it.
     ///
     /// # Errors
     ///
@@ -114,11 +137,11 @@ impl<P: ExactOrd + ExactClone + Drop, E: Drop> Edition<P, E> {
         version: u64,
         batches: u64,
         items: Items<(P, E)>,
-        _before: Option<&Edition<P, E>>,
+        before: Option<&Edition<P, E>>,
     ) -> Result<Edition<P, E>, AllocError>
         ensures { IfOk result (λ edition. edition ≡ record { version = version; batches = batches; items = items }) }
     {
-        let indices = indices(alloc, items.as_slice())?;
+        let indices = indices_beside(alloc, &items, before)?;
         Ok(Edition {
             version,
             batches,

@@ -10,10 +10,11 @@ use prim_view::PrimView;
 use sdf_paths::Path;
 use sdf_values::{TimeCode, Value};
 use spec_properties::Samples;
+use stage_entries::StageEntry;
 use stage_publish::View;
 
 /// The prim at a path.
-fn prim_at<'v>(view: &'v View<'_, Path, PrimView>, prim: &Path) -> Option<&'v PrimView>
+fn prim_at<'v>(view: &'v View<'_, Path, StageEntry>, prim: &Path) -> Option<&'v StageEntry>
     ensures { option_copied result ≡ view_at prim.now view.now.items }
 {
     view.find(prim)
@@ -22,7 +23,7 @@ fn prim_at<'v>(view: &'v View<'_, Path, PrimView>, prim: &Path) -> Option<&'v Pr
 /// The value of an attribute at a time: that of the sample at the greatest time that is not after it, where there are samples, and
 /// else the default. Before the first sample it is that of the first.
 pub fn value_at<'v>(
-    view: &'v View<'_, Path, PrimView>,
+    view: &'v View<'_, Path, StageEntry>,
     prim: &Path,
     property: &str,
     t: TimeCode,
@@ -31,7 +32,7 @@ pub fn value_at<'v>(
 {
     match prim_at(view, prim) {
         None => Answer::NoPrim,
-        Some(found) => match found.property(property) {
+        Some(found) => match found.view().property(property) {
             None => Answer::NoProperty,
             Some(property) => value_of(property, t),
         },
@@ -40,7 +41,7 @@ pub fn value_at<'v>(
 
 /// The default of an attribute.
 pub fn default_of<'v>(
-    view: &'v View<'_, Path, PrimView>,
+    view: &'v View<'_, Path, StageEntry>,
     prim: &Path,
     property: &str,
 ) -> Answer<&'v Value>
@@ -48,7 +49,7 @@ pub fn default_of<'v>(
 {
     match prim_at(view, prim) {
         None => Answer::NoPrim,
-        Some(found) => match found.property(property) {
+        Some(found) => match found.view().property(property) {
             None => Answer::NoProperty,
             Some(property) => default_value(property),
         },
@@ -57,7 +58,7 @@ pub fn default_of<'v>(
 
 /// The samples of an attribute, where it has any; a sample may be a block.
 pub fn samples_of<'v>(
-    view: &'v View<'_, Path, PrimView>,
+    view: &'v View<'_, Path, StageEntry>,
     prim: &Path,
     property: &str,
 ) -> Answer<&'v Samples>
@@ -65,7 +66,7 @@ pub fn samples_of<'v>(
 {
     match prim_at(view, prim) {
         None => Answer::NoPrim,
-        Some(found) => match found.property(property) {
+        Some(found) => match found.view().property(property) {
             None => Answer::NoProperty,
             Some(property) => samples_in(property),
         },
@@ -74,7 +75,7 @@ pub fn samples_of<'v>(
 
 /// The targets of a relationship, or the connections of an attribute.
 pub fn targets_of<'v>(
-    view: &'v View<'_, Path, PrimView>,
+    view: &'v View<'_, Path, StageEntry>,
     prim: &Path,
     property: &str,
 ) -> Answer<&'v [Path]>
@@ -82,7 +83,7 @@ pub fn targets_of<'v>(
 {
     match prim_at(view, prim) {
         None => Answer::NoPrim,
-        Some(found) => match found.property(property) {
+        Some(found) => match found.view().property(property) {
             None => Answer::NoProperty,
             Some(property) => targets_in(property),
         },
@@ -90,21 +91,21 @@ pub fn targets_of<'v>(
 }
 
 /// The names of the children of a prim, in their order.
-pub fn children_of<'v>(view: &'v View<'_, Path, PrimView>, prim: &Path) -> Answer<&'v [Text]>
+pub fn children_of<'v>(view: &'v View<'_, Path, StageEntry>, prim: &Path) -> Answer<&'v [Text]>
     ensures { answer_copied result ≡ children_answer prim.now view.now.items }
 {
     match prim_at(view, prim) {
         None => Answer::NoPrim,
-        Some(found) => Answer::Is(found.children.as_slice()),
+        Some(found) => Answer::Is(found.view().children.as_slice()),
     }
 }
 
 /// All that the stage has of a prim.
-pub fn view_of<'v>(view: &'v View<'_, Path, PrimView>, prim: &Path) -> Answer<&'v PrimView>
+pub fn view_of<'v>(view: &'v View<'_, Path, StageEntry>, prim: &Path) -> Answer<&'v PrimView>
     ensures { answer_copied result ≡ view_answer prim.now view.now.items }
 {
     match prim_at(view, prim) {
         None => Answer::NoPrim,
-        Some(found) => Answer::Is(found),
+        Some(found) => Answer::Is(found.view()),
     }
 }

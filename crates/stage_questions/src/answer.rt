@@ -9,8 +9,8 @@ use crate::told::{
 };
 use asset_names::AssetId;
 use flatten::flatten_text;
-use prim_view::PrimView;
 use sdf_paths::Path;
+use stage_entries::StageEntry;
 use stage_publish::View;
 use std::alloc::{AllocError, Global};
 
@@ -39,7 +39,7 @@ fn push_measured(alloc: Global, out: &mut Vec<u8>, text: &[u8]) -> Result<(), Al
 fn push_flattened(
     alloc: Global,
     out: &mut Vec<u8>,
-    view: &View<'_, Path, PrimView>,
+    view: &View<'_, Path, StageEntry>,
 ) -> Result<(), AllocError>
     ensures added { OnOk result (out.new.items ≡ out.old.items ++ measured (flat_text view.now.items)) }
     ensures kept { OnErr result (StartsWith out.new.items out.old.items) }
@@ -53,7 +53,7 @@ fn push_told(
     alloc: Global,
     out: &mut Vec<u8>,
     root: &AssetId,
-    view: &View<'_, Path, PrimView>,
+    view: &View<'_, Path, StageEntry>,
     question: &Question,
 ) -> Result<(), AllocError>
     ensures added { OnOk result (out.new.items ≡ out.old.items ++ answer root.now view.now.items question.now) }
@@ -82,7 +82,7 @@ pub fn push_answer(
     alloc: Global,
     out: &mut Vec<u8>,
     root: &AssetId,
-    view: &View<'_, Path, PrimView>,
+    view: &View<'_, Path, StageEntry>,
     question: &Question,
 ) -> Result<(), AllocError>
     ensures added { OnOk result (out.new.items ≡ out.old.items ++ answer_line root.now view.now.items question.now) }

@@ -4,9 +4,9 @@ ghost use Rattle.stage_questions.specs.Answers.{absent_text, property_name, valu
 
 use crate::lists::{print_faults, print_names, print_samples, print_sites, print_targets};
 use asset_names::AssetId;
-use prim_view::PrimView;
 use sdf_paths::Path;
 use sdf_values::{TimeCode, print_value};
+use stage_entries::StageEntry;
 use stage_publish::View;
 use stage_query::{Answer, children_of, default_of, samples_of, targets_of, value_at, view_of};
 use std::alloc::{AllocError, Global};
@@ -34,7 +34,7 @@ fn property_name(path: &Path) -> &str
 /// The value of an attribute at a time.
 pub fn value_told(
     alloc: Global,
-    view: &View<'_, Path, PrimView>,
+    view: &View<'_, Path, StageEntry>,
     path: &Path,
     time: TimeCode,
 ) -> Result<String, AllocError>
@@ -50,7 +50,7 @@ pub fn value_told(
 /// The default of an attribute.
 pub fn default_told(
     alloc: Global,
-    view: &View<'_, Path, PrimView>,
+    view: &View<'_, Path, StageEntry>,
     path: &Path,
 ) -> Result<String, AllocError>
     ensures { IfOk result (λ text. string_bytes text ≡ default_told path.now view.now.items) }
@@ -65,7 +65,7 @@ pub fn default_told(
 /// The samples of an attribute.
 pub fn samples_told(
     alloc: Global,
-    view: &View<'_, Path, PrimView>,
+    view: &View<'_, Path, StageEntry>,
     path: &Path,
 ) -> Result<String, AllocError>
     ensures { IfOk result (λ text. string_bytes text ≡ samples_told path.now view.now.items) }
@@ -80,7 +80,7 @@ pub fn samples_told(
 /// The targets of a relationship, or the connections of an attribute.
 pub fn targets_told(
     alloc: Global,
-    view: &View<'_, Path, PrimView>,
+    view: &View<'_, Path, StageEntry>,
     path: &Path,
 ) -> Result<String, AllocError>
     ensures { IfOk result (λ text. string_bytes text ≡ targets_told path.now view.now.items) }
@@ -95,7 +95,7 @@ pub fn targets_told(
 /// The names of the children of a prim.
 pub fn children_told(
     alloc: Global,
-    view: &View<'_, Path, PrimView>,
+    view: &View<'_, Path, StageEntry>,
     path: &Path,
 ) -> Result<String, AllocError>
     ensures { IfOk result (λ text. string_bytes text ≡ children_told path.now view.now.items) }
@@ -109,7 +109,7 @@ pub fn children_told(
 /// The faults of a prim.
 pub fn faults_told(
     alloc: Global,
-    view: &View<'_, Path, PrimView>,
+    view: &View<'_, Path, StageEntry>,
     path: &Path,
 ) -> Result<String, AllocError>
     ensures { IfOk result (λ text. string_bytes text ≡ faults_told path.now view.now.items) }
@@ -124,7 +124,7 @@ pub fn faults_told(
 pub fn sites_told(
     alloc: Global,
     root: &AssetId,
-    view: &View<'_, Path, PrimView>,
+    view: &View<'_, Path, StageEntry>,
     path: &Path,
 ) -> Result<String, AllocError>
     ensures { IfOk result (λ text. string_bytes text ≡ sites_told root.now path.now view.now.items) }

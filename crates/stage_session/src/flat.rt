@@ -7,14 +7,14 @@ use compose_api::{StageRefused, stage_items_within};
 use flatten::flatten_text;
 use layer_set::World;
 use plain_data::Items;
-use prim_view::PrimView;
 use sdf_paths::Path;
 use stage_composer::UsdComposer;
+use stage_entries::StageEntry;
 use stage_publish::Edition;
 use std::alloc::{AllocError, Global};
 
 /// The stage of a world.
-fn stage_of_world(alloc: Global, world: &World) -> Result<Items<(Path, PrimView)>, StageRefused>
+fn stage_of_world(alloc: Global, world: &World) -> Result<Items<(Path, StageEntry)>, StageRefused>
     ensures stage { IfOk result (λ items. items ≡ stage_after world.now []) }
     ensures few { IfOk result (λ items. length items ≤ most_paths) }
     ensures full { result ≡ Err StageRefused.Full → most_paths < length (stage_after world.now []) }
@@ -24,7 +24,7 @@ fn stage_of_world(alloc: Global, world: &World) -> Result<Items<(Path, PrimView)
 }
 
 /// The text of the flattened layer of an edition.
-fn edition_text(alloc: Global, edition: &Edition<Path, PrimView>) -> Result<Vec<u8>, AllocError>
+fn edition_text(alloc: Global, edition: &Edition<Path, StageEntry>) -> Result<Vec<u8>, AllocError>
     ensures { IfOk result (λ text. text.items ≡ flat_text edition.now.items) }
 {
     flatten_text(alloc, &edition.view())

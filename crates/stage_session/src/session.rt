@@ -9,9 +9,9 @@ use compose_api::StageRefused;
 use edit_batches::{Batch, Op};
 use layer_set::{Held, World};
 use plain_data::copy;
-use prim_view::PrimView;
 use sdf_paths::Path;
 use stage_composer::UsdComposer;
+use stage_entries::StageEntry;
 use stage_publish::Edition;
 use stage_questions::{Question, push_answer, push_edit_reply, push_publish_reply};
 use std::alloc::{AllocError, Global};
@@ -29,7 +29,7 @@ pub struct Session {
     alloc: Global,
     root: AssetId,
     core: Core<UsdComposer>,
-    shown: Edition<Path, PrimView>,
+    shown: Edition<Path, StageEntry>,
 }
 
 impl Model for Session {
@@ -73,11 +73,12 @@ fn batch_of_one(alloc: Global, op: Op) -> Result<Batch, AllocError>
     }
 }
 
-/// The edition of what a core published, and the reply to the publish.
+/// The edition of what a core published, and the reply to the publish. The edition that was shown before may be told.
 fn show(
     alloc: Global,
     published: Items<UsdComposer>,
-) -> Result<(Edition<Path, PrimView>, Vec<u8>), AllocError>
+    before: Option<&Edition<Path, StageEntry>>,
+) -> Result<(Edition<Path, StageEntry>, Vec<u8>), AllocError>
     ensures edition { IfOk result (λ x. x.0.items ≡ published.items) }
     ensures reply { IfOk result (λ x. x.1.items ≡ published_text published.version published.batches (length published.items)) }
 {
@@ -88,7 +89,7 @@ fn show(
     } = published;
     let mut reply = Vec::new(alloc);
     push_publish_reply(alloc, &mut reply, version, batches, items.len())?;
-    let shown = Edition::build(alloc, version, batches, items, None)?;
+    let shown = Edition::build(alloc, version, batches, items, before)?;
     Ok((shown, reply))
 }
 
@@ -119,7 +120,7 @@ impl Session {
                 return Err(refused);
             }
         };
-        let (shown, reply) = match show(alloc, published) {
+        let (shown, reply) = match show(alloc, published, None) {
             Ok(shown) => shown,
             Err(_) => {
                 drop((root, core));
@@ -176,7 +177,7 @@ impl Session {
         ensures unpublished { result ≡ Err StageRefused.Full → self.new ≡ self.old }
     {
         let published = publish_core(&mut self.core)?;
-        let (shown, reply) = show(self.alloc, published)?;
+        let (shown, reply) = show(self.alloc, published, Some(&self.shown))?;
         drop(mem::replace(&mut self.shown, shown));
         Ok(reply)
     }

@@ -1,4 +1,4 @@
-use Rattle.std.proofs.Common.{◌∙◌, ap, List, Option}
+use Rattle.std.proofs.Common.{◌∙◌, ap, List, Option, Some}
 use Rattle.std.proofs.lemmas.Result.{IfOk-weaker}
 use Rattle.prim_view.specs.declared.view.PrimView.{PrimView}
 use Rattle.sdf_paths.specs.declared.element.Element.{Element}
@@ -11,5 +11,7 @@ returns-in-None c = no_item c.args.specs.now ∙ ap (λ (o : Option (List Elemen
 
 pub returns-in-Some : goal.returns-in-Some
 returns-in-Some c =
-    IfOk-weaker c.put_prim.result _ _ (λ u put. item_put c.in-Some.path.now c.in-Some.prim.now c.args.specs.now _ put ∙ ap (λ (o : Option (List Element × PrimView)). with_item o c.args.specs.now) c.in-Some.ensures)
+    IfOk-weaker c.put_prim.result _ _
+    (λ u put. item_put c.in-Some.path.now c.view.result.now c.args.specs.now _ put ∙ ap (λ (v : PrimView). with_item (Some (c.in-Some.path.now, v)) c.args.specs.now) c.view.ensures
+    ∙ ap (λ (o : Option (List Element × PrimView)). with_item o c.args.specs.now) c.in-Some.ensures)
     c.put_prim.ensures

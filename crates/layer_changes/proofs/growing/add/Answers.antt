@@ -1,6 +1,6 @@
 use Rattle.std.proofs.Common.{sym, subst, List}
 use Rattle.std.specs.List.{Contains}
-use Rattle.layer_changes.proofs.Added.{put_in, kept_in}
+use Rattle.key_sets.proofs.Sorted.{put_in, kept_in}
 use Rattle.layer_changes.proofs.growing.add.Goals as goal
 
 pub returns-clause-added : goal.returns-clause-added

@@ -4,7 +4,7 @@ use Rattle.std.specs.List.Sorted.{IsStrictlySortedBy}
 use Rattle.layer_set.specs.contracts.key.KeyOrd.TheImpl.{ghosts as key_order}
 use Rattle.layer_set.specs.declared.key.Key.{Key}
 use Rattle.layer_changes.specs.Covering.{Names}
-use Rattle.layer_changes.proofs.Keys.{in_order}
+use Rattle.key_sets.proofs.Order.{in_key_order}
 use Rattle.layer_changes.proofs.Walks.{more_hold, all_hold, all_named_kept}
 use Rattle.layer_changes.proofs.named.keys_of_parts.Goals as goal
 
@@ -15,7 +15,7 @@ loop-part-preserved c =
     c.in_ok-add_part.ensures.added
 
 pub returns-clause-order : goal.returns-clause-order
-returns-clause-order c = in_order c.in_ok-keys.keys (subst (λ (ks : List Key). IsStrictlySortedBy key_order.cmp ks) (sym c.in_ok-keys.ensures.list) c.in_ok-keys.ensures.order)
+returns-clause-order c = in_key_order c.in_ok-keys.keys (subst (λ (ks : List Key). IsStrictlySortedBy key_order.cmp ks) (sym c.in_ok-keys.ensures.list) c.in_ok-keys.ensures.order)
 
 pub returns-clause-named : goal.returns-clause-named
 returns-clause-named c =

@@ -1,0 +1,10 @@
+pub mod Listed
+pub mod Same
+pub mod Told
+pub mod Rounds
+pub mod AtNodes
+pub mod Gathers
+pub mod Stage
+pub mod Whole
+pub mod Steps
+pub mod Answering
